@@ -1,0 +1,245 @@
+-- The rules of pat.rs.
+use Prim.Native.Nat.{ℕ, _+_}
+use mathlib.Core.Bool.{Bool, true, false, _&&_, _||_}
+use lib.Dec.{eqb}
+use Rattle.grammar.specs.Env as Env
+use Rattle.grammar.specs.World.{none?}
+use Rattle.grammar.specs.Prog.{Prog, _>>=_, _>>_, peek, bump, errorAt}
+use Rattle.grammar.specs.Prog.Prog.{ret, branch, look, lookup, from, close, marked, loop, call}
+use Rattle.grammar.specs.Prog.Look.{index}
+use Rattle.grammar.specs.Rule.{Rule, PatPrec, InfixErr, reports}
+use Rattle.grammar.specs.Rule.Rule.{patPrec}
+use Rattle.grammar.specs.Util.{is, ifKind, ifNone, when, done, expected, eat, endSep, commaSep, shouldBreak, isNameStar, isAscription, eatNameStar, path, pathInfix, pathNoInfix, lab}
+use Rattle.grammar.specs.Ty.{ty, tyAnnotation}
+use Rattle.grammar.specs.SyntaxKind as SK
+use Rattle.grammar.specs.ErrorKind as EK
+
+-- `pat_prec`, or the finding that there is none
+unfoldable pub patMust : PatPrec → InfixErr → Prog Rule true
+patMust min e = do
+  v ← call (patPrec min e)
+  ifNone v (expected EK.Pat) (ret 0)
+
+-- `pat`
+abbrev pub pat : InfixErr → Prog Rule true
+pat e = call (patPrec PatPrec.Min e)
+
+abbrev pub isSCon : ℕ → Bool
+isSCon k = is k SK.IntLit || is k SK.RealLit || is k SK.WordLit || is k SK.CharLit || is k SK.StringLit
+
+-- the path of a constructor that stands without `op`
+unfoldable pub conPath : {g : Bool} → InfixErr → Prog Rule g
+conPath e = branch (reports e) pathNoInfix path
+
+-- `pat_args`
+abbrev pub patArgs : {g : Bool} → ℕ → InfixErr → Prog Rule g
+patArgs end e = commaSep SK.PatArg end (patMust PatPrec.Min e)
+
+-- `as_pat_tl`
+unfoldable pub asPatTl : {g : Bool} → InfixErr → Prog Rule g
+asPatTl e = do
+  k ← peek 0
+  ifKind k SK.AsKw (marked (from (do
+    bump
+    patMust PatPrec.Min e
+    done SK.AsPatTail))) (ret 0)
+
+-- a row of a record pattern
+unfoldable pub patRow : InfixErr → Prog Rule true
+patRow e = marked (from (do
+  k ← peek 0
+  k1 ← peek 1
+  ifKind k SK.DotDotDot (do
+    bump
+    close SK.RestPatRow)
+      (ifKind k1 SK.Eq (do
+        lab
+        eat SK.Eq
+        patMust PatPrec.Min e
+        close SK.LabAndPatPatRow) (do
+          eatNameStar
+          tyAnnotation
+          asPatTl e
+          close SK.LabPatRow))))
+
+-- `at_pat_l_round`
+unfoldable pub atPatLRound : InfixErr → Prog Rule true
+atPatLRound e = do
+  k ← peek 0
+  ifKind k SK.RRound (do
+    bump
+    done SK.TuplePat) (do
+      v ← marked (from (do
+        patMust PatPrec.Min e
+        k ← peek 0
+        ifKind k SK.RRound (ret 1) (do
+          eat SK.Comma
+          close SK.PatArg
+          ret 0)))
+      ifNone v (do
+        patArgs SK.RRound e
+        done SK.TuplePat) (do
+          bump
+          done SK.ParenPat))
+
+-- what stands in `at_pat`
+unfoldable pub atPatHead : ℕ → InfixErr → Prog Rule true
+atPatHead k e =
+    branch (isSCon k) (do
+      bump
+      done SK.SConPat)
+    (ifKind k SK.Underscore (do
+      bump
+      done SK.WildcardPat)
+    (ifKind k SK.OpKw (do
+      pathInfix
+      done SK.ConPat)
+    (branch (isNameStar k) (do
+      conPath e
+      done SK.ConPat)
+    (ifKind k SK.LCurly (do
+      bump
+      commaSep SK.PatRow SK.RCurly (patRow e)
+      done SK.RecordPat)
+    (ifKind k SK.LRound (do
+      bump
+      atPatLRound e)
+    (ifKind k SK.LSquare (do
+      bump
+      patArgs SK.RSquare e
+      done SK.ListPat)
+    (ifKind k SK.Hash (do
+      bump
+      marked (from (do
+        eat SK.LSquare
+        patArgs SK.RSquare e
+        close SK.ListPat))
+      done SK.VectorPat)
+    (ret 0))))))))
+
+-- `at_pat`
+unfoldable pub atPat : {g : Bool} → InfixErr → Prog Rule g
+atPat e = do
+  k ← peek 0
+  ifNone k (ret 0) (marked (from (atPatHead k e)))
+
+-- `at_pat`, or the finding that there is none
+unfoldable pub atPatMust : {g : Bool} → InfixErr → Prog Rule g
+atPatMust e = do
+  v ← atPat e
+  ifNone v (expected EK.Pat) (ret 0)
+
+-- the kinds in the loop of `pat_prec` behind which a constructor's argument starts, names left aside
+abbrev pub isArg : ℕ → Bool
+isArg k = isSCon k || is k SK.Underscore || is k SK.OpKw || is k SK.LCurly || is k SK.LRound || is k SK.LSquare || is k SK.Hash
+
+-- whether an infix name ends the climb of a pattern: 1 where it does
+unfoldable pub shouldBreakPat : {g : Bool} → Env.Infix → PatPrec → Prog Rule g
+shouldBreakPat op PatPrec.Min = ret 0
+shouldBreakPat op PatPrec.Or = ret 0
+shouldBreakPat op (PatPrec.Infix min) = shouldBreak op min
+
+-- How the head of a pattern leaves the loop of `pat_prec`: to go on, to go on at an infix name that was tested already, or to stop.
+abbrev pub goOn : ℕ
+goOn = 1
+
+abbrev pub atOp : ℕ
+atOp = 2
+
+abbrev pub stop : ℕ
+stop = 3
+
+-- The first turn of the loop of `pat_prec` in the state Entered: the mark of a constructor pattern is still open, and it ends here in every case.
+-- An infix name is tested while it is open, since the source reports before it exits the node.
+unfoldable pub conTurn : PatPrec → InfixErr → Prog Rule true
+conTurn min e = do
+  k ← peek 0
+  branch (isNameStar k)
+      (lookup 0 (do
+        atPatMust e
+        close SK.ConPat
+        ret goOn)
+      (λ op. do
+        v ← shouldBreakPat op min
+        close SK.ConPat
+        ifNone v (ret atOp) (ret stop)))
+      (do
+        when (isArg k) (atPatMust e)
+        close SK.ConPat
+        ret goOn)
+
+-- the start of `pat_prec` in the state Entered
+unfoldable pub conPat : PatPrec → InfixErr → Prog Rule true
+conPat min e = do
+  k ← peek 0
+  ifKind k SK.OpKw pathInfix (conPath e)
+  conTurn min e
+
+-- an infix pattern behind its left side
+unfoldable pub infixPat : {g : Bool} → Env.Infix → InfixErr → Prog Rule g
+infixPat op e = marked (do
+  bump
+  patMust (PatPrec.Infix op) e
+  close SK.InfixPat)
+
+abbrev pub isMin : PatPrec → Bool
+isMin PatPrec.Min = true
+isMin PatPrec.Or = false
+isMin (PatPrec.Infix op) = false
+
+abbrev pub isInfix : PatPrec → Bool
+isInfix PatPrec.Min = false
+isInfix PatPrec.Or = false
+isInfix (PatPrec.Infix op) = true
+
+-- one turn of the loop of `pat_prec` in the state Exited
+unfoldable pub patStep : PatPrec → InfixErr → Prog Rule false
+patStep min e = do
+  k ← peek 0
+  branch (isNameStar k)
+      (lookup 0 (do
+        i ← look (index 0)
+        errorAt EK.NotInfix i
+        ret 0)
+      (λ op. do
+        v ← shouldBreakPat op min
+        ifNone v (do
+          infixPat op e
+          ret 1) (ret 0)))
+      (ifKind k SK.Bar
+      (branch (isMin min) (do
+        marked (do
+          bump
+          patMust PatPrec.Or e
+          close SK.OrPat)
+        ret 1) (ret 0))
+      (branch (isAscription k)
+      (branch (isInfix min) (ret 0) (do
+        marked (do
+          bump
+          ty
+          close SK.TypedPat)
+        ret 1))
+      (ifKind k SK.AsKw
+      (branch (isInfix min) (ret 0) (do
+        marked (do
+          v ← asPatTl e
+          ifNone v (expected EK.Pat) (ret 0)
+          close SK.AsPat)
+        ret 1))
+      (ret 0))))
+
+-- what follows the head of a pattern, which left by v
+unfoldable pub patTail : ℕ → PatPrec → InfixErr → Prog Rule false
+patTail v min e = do
+  when (eqb v atOp) (lookup 0 (ret 0) (λ op. infixPat op e))
+  branch (eqb v stop) (ret 0) (loop (patStep min e))
+  ret 1
+
+-- `pat_prec`, in the scope of its own that it opens
+unfoldable pub patScope : PatPrec → InfixErr → Prog Rule false
+patScope min e = do
+  k ← peek 0
+  k1 ← peek 1
+  v ← branch (isNameStar k || is k SK.OpKw && isNameStar k1) (marked (conPat min e)) (atPat e)
+  ifNone v (ret 0) (patTail v min e)

@@ -1,0 +1,153 @@
+-- The rules of ty.rs.
+use Prim.Native.Nat.{ℕ, _+_}
+use mathlib.Core.Bool.{Bool, true, false, _&&_}
+use lib.Dec.{eqb, ltb}
+use Rattle.grammar.specs.World.{none?}
+use Rattle.grammar.specs.Prog.{Prog, _>>=_, _>>_, peek, bump}
+use Rattle.grammar.specs.Prog.Prog.{ret, branch, from, close, marked, loop, call}
+use Rattle.grammar.specs.Rule.{Rule, Arrow, Star, App}
+use Rattle.grammar.specs.Rule.Rule.{tyPrec}
+use Rattle.grammar.specs.Util.{is, ifKind, ifNone, when, done, expected, eat, commaSep, isAscription, pathMust, lab}
+use Rattle.grammar.specs.SyntaxKind as SK
+use Rattle.grammar.specs.ErrorKind as EK
+
+-- `ty_prec`, or the finding that there is none
+unfoldable pub tyMust : ℕ → Prog Rule true
+tyMust min = do
+  v ← call (tyPrec min)
+  ifNone v (expected EK.Ty) (ret 0)
+
+-- `ty`
+abbrev pub ty : Prog Rule true
+ty = tyMust Arrow
+
+-- a row of a record type
+unfoldable pub tyRow : Prog Rule true
+tyRow = do
+  lab
+  k ← peek 0
+  when (isAscription k) bump
+  ty
+
+-- `(` and a type; where more follow, the whole sequence: 1 where `)` is next
+unfoldable pub tySeq : Prog Rule true
+tySeq = marked (from (do
+  bump
+  v ← marked (from (do
+    ty
+    k ← peek 0
+    ifKind k SK.RRound (ret 1) (do
+      eat SK.Comma
+      close SK.TyArg
+      ret 0)))
+  ifNone v (do
+    commaSep SK.TyArg SK.RRound ty
+    close SK.TySeq
+    ret 0) (ret 1)))
+
+-- what a type starts with
+unfoldable pub tyHead : ℕ → Prog Rule true
+tyHead k =
+    ifKind k SK.DotDotDot (do
+      bump
+      done SK.HoleTy)
+    (ifKind k SK.Underscore (do
+      bump
+      done SK.WildcardTy)
+    (ifKind k SK.TyVar (do
+      bump
+      done SK.TyVarTy)
+    (ifKind k SK.LCurly (do
+      bump
+      commaSep SK.TyRow SK.RCurly tyRow
+      done SK.RecordTy)
+    (ifKind k SK.LRound (do
+      v ← tySeq
+      ifNone v (do
+        pathMust
+        done SK.ConTy) (do
+          bump
+          done SK.ParenTy))
+    (ifKind k SK.Name (do
+      pathMust
+      done SK.ConTy)
+    (ret 0))))))
+
+-- one factor of a tuple type
+unfoldable pub starTurn : Prog Rule true
+starTurn = do
+  k ← peek 0
+  ifKind k SK.Star (do
+    marked (from (do
+      bump
+      tyMust App
+      close SK.StarTy))
+    ret 1) (ret 0)
+
+-- one turn of the loop of `ty_prec`
+unfoldable pub tyStep : ℕ → Prog Rule false
+tyStep min = do
+  k ← peek 0
+  ifKind k SK.MinusGt
+      (branch (ltb Arrow min) (ret 0) (do
+        marked (do
+          bump
+          tyMust Arrow
+          close SK.FnTy)
+        ret 1))
+      (ifKind k SK.Star
+      (branch (ltb Star min) (ret 0) (do
+        marked (do
+          loop starTurn
+          close SK.TupleTy)
+        ret 1))
+      (ifKind k SK.Name (do
+        marked (do
+          pathMust
+          close SK.OneArgConTy)
+        ret 1)
+      (ret 0)))
+
+-- `ty_prec`, in the scope of its own that it opens
+unfoldable pub tyScope : ℕ → Prog Rule false
+tyScope min = do
+  k ← peek 0
+  ifNone k (ret 0) (do
+    v ← marked (tyHead k)
+    ifNone v (ret 0) (do
+      loop (tyStep min)
+      ret 1))
+
+-- `ty_var_seq`
+unfoldable pub tyVarSeq : {g : Bool} → Prog Rule g
+tyVarSeq = marked (from (do
+  k ← peek 0
+  k1 ← peek 1
+  ifKind k SK.TyVar (do
+    marked (from (do
+      bump
+      close SK.TyVarArg))
+    done SK.TyVarSeq)
+      (branch (is k SK.LRound && is k1 SK.TyVar) (do
+        bump
+        commaSep SK.TyVarArg SK.RRound (eat SK.TyVar)
+        done SK.TyVarSeq)
+      (ret 0))))
+
+-- `of_ty`
+unfoldable pub ofTy : {g : Bool} → Prog Rule g
+ofTy = do
+  k ← peek 0
+  ifKind k SK.OfKw (marked (from (do
+    bump
+    ty
+    done SK.OfTy))) (ret 0)
+
+-- `ty_annotation`
+unfoldable pub tyAnnotation : {g : Bool} → Prog Rule g
+tyAnnotation = do
+  k ← peek 0
+  branch (isAscription k) (marked (from (do
+    bump
+    ty
+    done SK.TyAnnotation))) (ret 0)

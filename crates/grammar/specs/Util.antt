@@ -1,0 +1,208 @@
+-- The rules of util.rs, and `eat` of event_parse.
+use Prim.Native.Nat.{ℕ, zero, suc, _+_}
+use mathlib.Core.Bool.{Bool, true, false, not, _&&_, _||_}
+use lib.Dec.{eqb, ltb, leb}
+use Rattle.grammar.specs.Env.{Infix, Left}
+use Rattle.grammar.specs.World.{none?}
+use Rattle.grammar.specs.Prog.{Prog, _>>=_, _>>_, peek, bump, error, errorAt}
+use Rattle.grammar.specs.Prog.Prog.{ret, bind, branch, look, lookup, from, close, marked, loop}
+use Rattle.grammar.specs.Prog.Look.{index}
+use Rattle.grammar.specs.Rule.{Rule}
+use Rattle.grammar.specs.SyntaxKind as SK
+use Rattle.grammar.specs.ErrorKind as EK
+
+-- whether what a look gave is a token of this kind
+abbrev pub is : ℕ → ℕ → Bool
+is k want = eqb k (want + 1)
+
+abbrev pub ifKind : {g : Bool} → ℕ → ℕ → Prog Rule g → Prog Rule g → Prog Rule g
+ifKind k want p q = branch (is k want) p q
+
+abbrev pub ifNone : {g : Bool} → ℕ → Prog Rule g → Prog Rule g → Prog Rule g
+ifNone v p q = branch (none? v) p q
+
+abbrev pub when : {g : Bool} → Bool → Prog Rule g → Prog Rule g
+when t p = branch t p (ret 0)
+
+-- the node's end, and that it was found
+abbrev pub done : {g : Bool} → ℕ → Prog Rule g
+done k = do
+  close k
+  ret 1
+
+-- a finding that carries no detail
+abbrev pub plain : {g : Bool} → ℕ → Prog Rule g
+plain f = error f 0
+
+abbrev pub expected : {g : Bool} → ℕ → Prog Rule g
+expected d = error EK.Expected d
+
+-- event_parse, `eat`
+unfoldable pub eat : {g : Bool} → ℕ → Prog Rule g
+eat want = do
+  k ← peek 0
+  ifKind k want (do
+    bump
+    ret 1) (do
+      expected (EK.Kind want)
+      ret 0)
+
+-- a token of this kind, where it is next
+unfoldable pub bumpIf : {g : Bool} → ℕ → Prog Rule g
+bumpIf want = do
+  k ← peek 0
+  when (is k want) bump
+
+-- one turn of `maybe_semi_sep`
+unfoldable pub semiTurn : {g : Bool} → ℕ → Prog Rule true → Prog Rule g
+semiTurn wrap f = marked (from (do
+  v ← f
+  ifNone v (ret 0) (do
+    bumpIf SK.Semicolon
+    done wrap)))
+
+-- `maybe_semi_sep`: whether it advanced is whether its first turn found something
+unfoldable pub maybeSemiSep : {g : Bool} → ℕ → Prog Rule true → Prog Rule g
+maybeSemiSep wrap f = do
+  v ← semiTurn wrap f
+  ifNone v (ret 0) (do
+    loop (semiTurn wrap f)
+    ret 1)
+
+-- one turn of `end_sep`
+unfoldable pub endTurn : {g : Bool} → ℕ → ℕ → ℕ → Prog Rule true → Prog Rule g
+endTurn wrap sep end f = do
+  k ← peek 0
+  ifKind k end (do
+    bump
+    ret 0) (do
+      saw ← marked (from (do
+        f
+        k ← peek 0
+        saw ← ifKind k sep (do
+          bump
+          ret 1) (ret 0)
+        close wrap
+        ret saw))
+      ifNone saw (do
+        eat end
+        ret 0) (ret 1))
+
+-- `end_sep`
+unfoldable pub endSep : {g : Bool} → ℕ → ℕ → ℕ → Prog Rule true → Prog Rule g
+endSep wrap sep end f = loop (endTurn wrap sep end f)
+
+-- `comma_sep`
+abbrev pub commaSep : {g : Bool} → ℕ → ℕ → Prog Rule true → Prog Rule g
+commaSep wrap end f = endSep wrap SK.Comma end f
+
+-- one turn of `many_sep`: it goes on where the separator was read
+unfoldable pub manyTurn : {g : Bool} → ℕ → ℕ → Prog Rule true → Prog Rule g
+manyTurn sep wrap f = marked (from (do
+  v ← f
+  ifNone v (ret 0) (do
+    k ← peek 0
+    ifKind k sep (do
+      bump
+      done wrap) (do
+        close wrap
+        ret 0))))
+
+-- `many_sep`. Its answer serves one caller alone, FunBind, for which it is always true.
+unfoldable pub manySep : {g : Bool} → ℕ → ℕ → Prog Rule true → Prog Rule g
+manySep sep wrap f = loop (manyTurn sep wrap f)
+
+abbrev pub tie : Infix → Infix → Bool
+tie op min = eqb (op .prec) (min .prec) && not (eqb (op .assoc) (min .assoc))
+
+abbrev pub weaker : Infix → Infix → Bool
+weaker op min = elim (eqb (min .assoc) Left) [ true ↦ leb (op .prec) (min .prec) | false ↦ ltb (op .prec) (min .prec) ]
+
+-- `should_break`: 1 where the climb ends
+unfoldable pub shouldBreak : {g : Bool} → Infix → Infix → Prog Rule g
+shouldBreak op min =
+    branch (tie op min) (do
+      plain EK.SameFixityDiffAssoc
+      ret 0)
+    (branch (weaker op min) (ret 1) (ret 0))
+
+-- the kinds of `name_star_eq`, of `name_star` and of `ascription`
+abbrev pub isNameStarEq : ℕ → Bool
+isNameStarEq k = is k SK.Name || is k SK.Star || is k SK.Eq
+
+abbrev pub isNameStar : ℕ → Bool
+isNameStar k = is k SK.Name || is k SK.Star
+
+abbrev pub isAscription : ℕ → Bool
+isAscription k = is k SK.Colon || is k SK.ColonGt
+
+-- `eat_name_star`
+unfoldable pub eatNameStar : {g : Bool} → Prog Rule g
+eatNameStar = do
+  k ← peek 0
+  branch (isNameStar k) (do
+    bump
+    ret 1) (do
+      expected (EK.Kind SK.Name)
+      ret 0)
+
+-- a part of a path ends; 1 where a dot was read, behind which the next part stands
+unfoldable pub partEnd : {g : Bool} → Prog Rule g
+partEnd = do
+  k ← peek 0
+  ifKind k SK.Dot (do
+    bump
+    done SK.NameStarEqDot) (do
+      close SK.NameStarEqDot
+      ret 0)
+
+unfoldable pub pathPart : {g : Bool} → Prog Rule g
+pathPart = marked (from (do
+  eatNameStar
+  partEnd))
+
+-- `path`
+unfoldable pub path : {g : Bool} → Prog Rule g
+path = do
+  k ← peek 0
+  branch (isNameStarEq k)
+      (marked (from (do
+        v ← marked (from (do
+          bump
+          partEnd))
+        ifNone v (ret 0) (loop pathPart)
+        done SK.Path)))
+      (ret 0)
+
+-- `path_must`
+unfoldable pub pathMust : {g : Bool} → Prog Rule g
+pathMust = do
+  v ← path
+  ifNone v (do
+    expected EK.Path
+    ret 0) (ret 1)
+
+-- `path_infix`, at an `op`
+unfoldable pub pathInfix : {g : Bool} → Prog Rule g
+pathInfix = do
+  k2 ← peek 2
+  k1 ← peek 1
+  when (not (is k2 SK.Dot) && isNameStarEq k1) (lookup 1 (plain EK.UnnecessaryOp) (λ _. ret 0))
+  eat SK.OpKw
+  pathMust
+
+-- `path_no_infix`
+unfoldable pub pathNoInfix : {g : Bool} → Prog Rule g
+pathNoInfix = do
+  k ← peek 0
+  k1 ← peek 1
+  when (not (is k1 SK.Dot) && isNameStarEq k) (lookup 0 (ret 0) (λ _. do
+    i ← look (index 0)
+    errorAt EK.InfixWithoutOp i))
+  pathMust
+
+-- `lab`
+unfoldable pub lab : {g : Bool} → Prog Rule g
+lab = do
+  k ← peek 0
+  branch (isNameStar k || is k SK.IntLit) bump (expected EK.Lab)
