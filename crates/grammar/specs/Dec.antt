@@ -205,13 +205,17 @@ fixity = do
     when (not (isNameStarEq k)) (expected EK.NameOrInt)
     ret 0)
 
--- `names_star_eq`, whose closure makes the change c for each name
-unfoldable pub namesStarEq : Option Infix → Prog Rule true
-namesStarEq c = loop (do
+-- one turn of `names_star_eq`, whose closure makes the change c for each name
+unfoldable pub namesTurn : Option Infix → Prog Rule true
+namesTurn c = do
   k ← peek 0
   branch (isNameStarEq k) (do
     act (takeAs c)
-    ret 1) (ret 0))
+    ret 1) (ret 0)
+
+-- `names_star_eq`
+abbrev pub namesStarEq : Option Infix → Prog Rule true
+namesStarEq c = loop (namesTurn c)
 
 -- `local`
 unfoldable pub localDec : InfixErr → Prog Rule true
@@ -306,17 +310,21 @@ esImportSpec = marked (from (do
   tyAnnotation
   close SK.EsImportSpec))
 
+-- one name among the attributes of `es_import`
+unfoldable pub attrTurn : Prog Rule true
+attrTurn = do
+  k ← peek 0
+  ifKind k SK.Name (do
+    bump
+    ret 1) (ret 0)
+
 -- the attributes of `es_import`
 unfoldable pub esImportAttrs : Prog Rule true
 esImportAttrs = do
   k ← peek 0
   when (is k SK.LSquare) (marked (from (do
     bump
-    loop (do
-      k ← peek 0
-      ifKind k SK.Name (do
-        bump
-        ret 1) (ret 0))
+    loop attrTurn
     eat SK.RSquare
     close SK.EsImportAttrs)))
 

@@ -2,6 +2,7 @@
 use Prim.Native.Nat.{ℕ, _+_}
 use mathlib.Core.Bool.{Bool, true, false, _&&_, _||_}
 use lib.Dec.{eqb}
+use Rattle.grammar.specs.Env as Env
 use Rattle.grammar.specs.World.{none?, impossible}
 use Rattle.grammar.specs.Prog.{Prog, _>>=_, _>>_, peek, bump, error}
 use Rattle.grammar.specs.Prog.Prog.{ret, branch, lookup, act, from, close, marked, loop, scoped, call}
@@ -191,40 +192,51 @@ appExp = marked (do
   ifNone v (expected EK.Exp) (ret 0)
   close SK.AppExp)
 
--- the impossible cases of `should_break_exp`
-unfoldable pub unreachable : {g : Bool} → Prog Rule g
-unreachable = do
+-- What `should_break_exp` decides: that it cannot happen, that the climb goes on or ends, or that two infix names decide.
+pub data Verdict : Type 0 where
+  unreachable goesOn ends : Verdict
+  infixes : Env.Infix → Env.Infix → Verdict
+
+-- the cases of `should_break_exp`
+abbrev pub verdict : ExpPrec → ExpPrec → Verdict
+verdict prec ExpPrec.Handle = unreachable
+verdict prec ExpPrec.Ascription = unreachable
+verdict ExpPrec.Min ExpPrec.Min = unreachable
+verdict ExpPrec.Min ExpPrec.Orelse = unreachable
+verdict ExpPrec.Min ExpPrec.Andalso = unreachable
+verdict ExpPrec.Min (ExpPrec.Infix min) = unreachable
+verdict (ExpPrec.Infix op) (ExpPrec.Infix min) = infixes op min
+verdict (ExpPrec.Infix op) ExpPrec.Min = goesOn
+verdict (ExpPrec.Infix op) ExpPrec.Orelse = goesOn
+verdict (ExpPrec.Infix op) ExpPrec.Andalso = goesOn
+verdict ExpPrec.Ascription ExpPrec.Min = goesOn
+verdict ExpPrec.Ascription ExpPrec.Orelse = goesOn
+verdict ExpPrec.Ascription ExpPrec.Andalso = goesOn
+verdict ExpPrec.Ascription (ExpPrec.Infix min) = ends
+verdict ExpPrec.Andalso ExpPrec.Min = goesOn
+verdict ExpPrec.Andalso ExpPrec.Orelse = goesOn
+verdict ExpPrec.Andalso ExpPrec.Andalso = ends
+verdict ExpPrec.Andalso (ExpPrec.Infix min) = ends
+verdict ExpPrec.Orelse ExpPrec.Min = goesOn
+verdict ExpPrec.Orelse ExpPrec.Orelse = ends
+verdict ExpPrec.Orelse ExpPrec.Andalso = ends
+verdict ExpPrec.Orelse (ExpPrec.Infix min) = ends
+verdict ExpPrec.Handle ExpPrec.Min = goesOn
+verdict ExpPrec.Handle ExpPrec.Orelse = ends
+verdict ExpPrec.Handle ExpPrec.Andalso = ends
+verdict ExpPrec.Handle (ExpPrec.Infix min) = ends
+
+unfoldable pub decide : {g : Bool} → Verdict → Prog Rule g
+decide unreachable = do
   act (refuse impossible)
   ret 0
+decide goesOn = ret 0
+decide ends = ret 1
+decide (infixes op min) = shouldBreak op min
 
 -- `should_break_exp`: 1 where the climb ends
-unfoldable pub shouldBreakExp : {g : Bool} → ExpPrec → ExpPrec → Prog Rule g
-shouldBreakExp prec ExpPrec.Handle = unreachable
-shouldBreakExp prec ExpPrec.Ascription = unreachable
-shouldBreakExp ExpPrec.Min ExpPrec.Min = unreachable
-shouldBreakExp ExpPrec.Min ExpPrec.Orelse = unreachable
-shouldBreakExp ExpPrec.Min ExpPrec.Andalso = unreachable
-shouldBreakExp ExpPrec.Min (ExpPrec.Infix min) = unreachable
-shouldBreakExp (ExpPrec.Infix op) (ExpPrec.Infix min) = shouldBreak op min
-shouldBreakExp (ExpPrec.Infix op) ExpPrec.Min = ret 0
-shouldBreakExp (ExpPrec.Infix op) ExpPrec.Orelse = ret 0
-shouldBreakExp (ExpPrec.Infix op) ExpPrec.Andalso = ret 0
-shouldBreakExp ExpPrec.Ascription ExpPrec.Min = ret 0
-shouldBreakExp ExpPrec.Ascription ExpPrec.Orelse = ret 0
-shouldBreakExp ExpPrec.Ascription ExpPrec.Andalso = ret 0
-shouldBreakExp ExpPrec.Ascription (ExpPrec.Infix min) = ret 1
-shouldBreakExp ExpPrec.Andalso ExpPrec.Min = ret 0
-shouldBreakExp ExpPrec.Andalso ExpPrec.Orelse = ret 0
-shouldBreakExp ExpPrec.Andalso ExpPrec.Andalso = ret 1
-shouldBreakExp ExpPrec.Andalso (ExpPrec.Infix min) = ret 1
-shouldBreakExp ExpPrec.Orelse ExpPrec.Min = ret 0
-shouldBreakExp ExpPrec.Orelse ExpPrec.Orelse = ret 1
-shouldBreakExp ExpPrec.Orelse ExpPrec.Andalso = ret 1
-shouldBreakExp ExpPrec.Orelse (ExpPrec.Infix min) = ret 1
-shouldBreakExp ExpPrec.Handle ExpPrec.Min = ret 0
-shouldBreakExp ExpPrec.Handle ExpPrec.Orelse = ret 1
-shouldBreakExp ExpPrec.Handle ExpPrec.Andalso = ret 1
-shouldBreakExp ExpPrec.Handle (ExpPrec.Infix min) = ret 1
+abbrev pub shouldBreakExp : {g : Bool} → ExpPrec → ExpPrec → Prog Rule g
+shouldBreakExp prec min = decide (verdict prec min)
 
 -- An operator of `exp_prec_loop`: unless it ends the climb, the operator, its right side, and the node of all behind `precede`.
 unfoldable pub climb : ExpPrec → ExpPrec → ℕ → Prog Rule true → Prog Rule false

@@ -7,7 +7,7 @@ use lib.ListN.{length}
 use Rattle.grammar.specs.Bytes.{ascii, low, high}
 use Rattle.grammar.specs.Env.{Entry, left, put, std, envBytes}
 use Rattle.grammar.specs.World.{Find, noName, tooDeep, noScratch, noFindings}
-use Rattle.grammar.specs.Nodes.{Node, nodeRecord, findBytes}
+use Rattle.grammar.specs.Nodes.{Node, nodesBytes, findBytes}
 use Rattle.grammar.specs.Nodes.Node.{opens, token, closes}
 use Rattle.grammar.specs.Read.{Call, Result, read, handed, refusal}
 use Rattle.grammar.specs.Computing.{computing}
@@ -128,15 +128,11 @@ callOf x = record {
   final = 120;
 }
 
-unfoldable pub nodesOf : List Node → List ℕ
-nodesOf [] = []
-nodesOf (x ∷ xs) = nodeRecord x (nodesOf xs)
-
 unfoldable pub resultOf : Line → Result
-unfolding callOf nodesOf envBytes findBytes handed refusal
+unfolding callOf nodesBytes envBytes findBytes handed refusal
 resultOf x =
     elim (x .want) [
-      | gives t fs es ↦ handed (callOf x) (nodesOf (node SK.Root t [])) (findBytes fs) (envBytes es)
+      | gives t fs es ↦ handed (callOf x) (nodesBytes (node SK.Root t [])) (findBytes fs) (envBytes es)
       | refuses k ↦ refusal (callOf x) k
     ]
 

@@ -1,6 +1,6 @@
 -- The nodes that are handed out: from the log to the records of document 01.
 use Prim.Native.Nat.{ℕ, zero, suc, _+_}
-use mathlib.Core.List.{List, [], _∷_, _++_}
+use mathlib.Core.List.{List, [], _∷_, _++_, map}
 use mathlib.Core.Bool.{Bool, true, false}
 use lib.Dec.{leb}
 use Rattle.grammar.specs.Bytes.{low, high}
@@ -43,12 +43,14 @@ nodeRecord (opens k) l = opened ∷ k ∷ 0 ∷ 0 ∷ l
 nodeRecord (token k i) l = tokened ∷ k ∷ low i ∷ high i ∷ l
 nodeRecord (closes k) l = closed ∷ k ∷ 0 ∷ 0 ∷ l
 
-unfoldable pub placedBytes : List Placed → List ℕ
-placedBytes [] = []
-placedBytes (x ∷ xs) = nodeRecord (x .node) (placedBytes xs)
+-- the bytes of node records
+unfoldable pub nodesBytes : List Node → List ℕ
+nodesBytes [] = []
+nodesBytes (x ∷ xs) = nodeRecord x (nodesBytes xs)
 
-unfoldable pub nodeBytes : List Rec → List ℕ
-nodeBytes log = placedBytes (place [] 0 log)
+-- the nodes of a whole log
+unfoldable pub nodesOf : List Rec → List Node
+nodesOf log = map (λ x. x .node) (place [] 0 log)
 
 -- the records of the findings
 unfoldable pub findBytes : List Find → List ℕ

@@ -11,7 +11,7 @@ use Rattle.grammar.specs.World.{World, Now}
 use Rattle.grammar.specs.World.World.{refused, on}
 use Rattle.grammar.specs.Prog.{eval, rule}
 use Rattle.grammar.specs.Root.{root, body}
-use Rattle.grammar.specs.Nodes.{nodeBytes, findBytes}
+use Rattle.grammar.specs.Nodes.{nodesOf, nodesBytes, findBytes}
 
 -- What is lent to read, the settings, and the lengths in bytes of what is lent to write.
 pub record Call : Type 0 where
@@ -125,7 +125,7 @@ handed c ns fs es = record {
 unfoldable pub finish : Call → World → Result
 finish c (refused k l) = refusal c k
 finish c (on s) =
-    let ns = nodeBytes (s .log) in
+    let ns = nodesBytes (nodesOf (s .log)) in
     let es = envBytes (s .env) in
     elim (leb (length ns) (c .nodes)) [
       | true ↦ elim (leb (length es) (c .final)) [ true ↦ handed c ns (findBytes (s .finds)) es | false ↦ refusal c noFinal ]

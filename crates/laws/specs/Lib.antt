@@ -1,0 +1,11 @@
+pub mod Choice
+pub mod Laws
+pub mod Keeps
+pub mod Grows
+pub mod Loops
+pub mod Moves
+pub mod Trees
+pub mod Calls
+pub mod Scopes
+pub mod Progress
+pub mod Environments

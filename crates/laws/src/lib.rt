@@ -1,0 +1,1 @@
+// Laws of the grammar's programs, proved: see specs/.
