@@ -18,7 +18,7 @@ use Rattle.grammar.specs.Prog.{Prog, Act, does, iter, eval, upto, rule}
 use Rattle.grammar.specs.Prog.Prog.{ret, bind, branch, look, lookup, act, from, close, marked, loop, scoped, attempt, call}
 use Rattle.grammar.specs.Prog.Act.{take, takeAs, report, refuse}
 use Rattle.laws.specs.Choice.{if-both, option-both}
-use Rattle.laws.specs.Grows.{Growing, Longer, eval-refused, upto-grows, rule-longer, taken, tookOf, taken-append}
+use Rattle.laws.specs.Grows.{Growing, Longer, eval-refused, upto-grows, rule-grows, eval-longer, taken, tookOf, taken-append}
 
 -- A forest: none, or a forest and behind it a token (its kind and index) or a node (its kind, and what is in it).
 pub data Forest : Type 0 where
