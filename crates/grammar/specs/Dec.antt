@@ -39,7 +39,7 @@ infixHead e = do
   k ← peek 0
   branch (isNameStar k)
       (lookup 0 (do
-        i ← look (index 0)
+        i ← look index
         bump
         errorAt EK.NotInfix i)
       (λ _. bump))
@@ -60,7 +60,7 @@ prefixName = do
   k ← peek 0
   branch (isNameStar k) (do
     lookup 0 (ret 0) (λ _. do
-      i ← look (index 0)
+      i ← look index
       errorAt EK.InfixWithoutOp i)
     bump)
       (expected (EK.Kind SK.Name))

@@ -198,7 +198,7 @@ patStep min e = do
   k ← peek 0
   branch (isNameStar k)
       (lookup 0 (do
-        i ← look (index 0)
+        i ← look index
         errorAt EK.NotInfix i
         ret 0)
       (λ op. do

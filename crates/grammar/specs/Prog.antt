@@ -13,7 +13,7 @@ infixl 10 _>>_
 -- What a program may ask of a reading; it answers by a number.
 pub data Look : Type 0 where
   kind : ℕ → Look
-  index : ℕ → Look
+  index : Look
   says : List ℕ → Look
   number : Look
   mode : Look
@@ -66,7 +66,7 @@ errorAt f i = act (report f 0 i)
 
 unfoldable pub seen : Look → World → ℕ
 seen (kind n) w = ahead n w
-seen (index n) w = indexAhead n w
+seen index w = indexAhead w
 seen (says x) w = saysAhead x w
 seen number w = numberAhead w
 seen mode w = modeOf w

@@ -197,7 +197,7 @@ pathNoInfix = do
   k ← peek 0
   k1 ← peek 1
   when (not (is k1 SK.Dot) && isNameStarEq k) (lookup 0 (ret 0) (λ _. do
-    i ← look (index 0)
+    i ← look index
     errorAt EK.InfixWithoutOp i))
   pathMust
 

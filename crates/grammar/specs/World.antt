@@ -88,9 +88,9 @@ tokenAhead n (on s) = tokenIn n (s .rest)
 unfoldable pub ahead : ℕ → World → ℕ
 ahead n w = elim (tokenAhead n w) [ none ↦ 0 | some t ↦ suc (t .kind) ]
 
--- the index of the token n ahead, by which a finding spells its name
-unfoldable pub indexAhead : ℕ → World → ℕ
-indexAhead n w = elim (tokenAhead n w) [ none ↦ noName | some t ↦ t .index ]
+-- the index of the next token, by which a finding spells its name
+unfoldable pub indexAhead : World → ℕ
+indexAhead w = elim (tokenAhead 0 w) [ none ↦ noName | some t ↦ t .index ]
 
 -- whether the next token's text is this: 1 or 0
 unfoldable pub saysAhead : List ℕ → World → ℕ

@@ -200,7 +200,7 @@ when-test _ h = record { holds = h }
 abbrev pub elsewhere : Look → Bool
 elsewhere (kind zero) = false
 elsewhere (kind (suc j)) = true
-elsewhere (index j) = true
+elsewhere index = true
 elsewhere (says x) = true
 elsewhere number = true
 elsewhere mode = true
