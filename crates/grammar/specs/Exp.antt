@@ -3,8 +3,8 @@ use Prim.Native.Nat.{ℕ, _+_}
 use mathlib.Core.Bool.{Bool, true, false, _&&_, _||_}
 use lib.Dec.{eqb}
 use Rattle.grammar.specs.Env as Env
-use Rattle.grammar.specs.World.{none?, impossible}
-use Rattle.grammar.specs.Prog.{Prog, _>>=_, _>>_, peek, bump, error}
+use Rattle.grammar.specs.World.{none?}
+use Rattle.grammar.specs.Prog.{Prog, Reason, _>>=_, _>>_, peek, bump, error}
 use Rattle.grammar.specs.Prog.Prog.{ret, branch, lookup, act, from, close, marked, loop, scoped, call}
 use Rattle.grammar.specs.Prog.Act.{refuse}
 use Rattle.grammar.specs.Rule.{Rule, ExpPrec, InfixErr, PatPrec}
@@ -228,7 +228,7 @@ verdict ExpPrec.Handle (ExpPrec.Infix min) = ends
 
 unfoldable pub decide : {g : Bool} → Verdict → Prog Rule g
 decide unreachable = do
-  act (refuse impossible)
+  act (refuse Reason.unreachable)
   ret 0
 decide goesOn = ret 0
 decide ends = ret 1

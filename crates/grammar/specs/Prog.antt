@@ -5,7 +5,7 @@ use mathlib.Core.Option.{Option, none, some}
 use mathlib.Core.Bool.{Bool, true, false}
 use lib.Dec.{eqb}
 use Rattle.grammar.specs.Env.{Infix}
-use Rattle.grammar.specs.World.{World, Out, out, ahead, indexAhead, saysAhead, numberAhead, modeOf, fixityAhead, lengthOf, leftOf, mark, take1, takeChange, end, giveBack, okSince, tooDeep, noName}
+use Rattle.grammar.specs.World.{World, Out, out, ahead, indexAhead, saysAhead, numberAhead, modeOf, fixityAhead, lengthOf, leftOf, mark, take1, takeChange, end, giveBack, okSince, tooDeep, impossible, noName}
 use Rattle.grammar.specs.World as world
 
 infixl 10 _>>=_
@@ -18,12 +18,20 @@ pub data Look : Type 0 where
   number : Look
   mode : Look
 
+-- Why a program refuses: no mark may be opened any more, or a case that the source calls unreachable.
+pub data Reason : Type 0 where
+  deep unreachable : Reason
+
+abbrev pub answerOf : Reason → ℕ
+answerOf deep = tooDeep
+answerOf unreachable = impossible
+
 -- What a program may do to a reading, wherever it stands.
 pub data Act : Type 0 where
   take : Act
   takeAs : Option Infix → Act
   report : ℕ → ℕ → ℕ → Act
-  refuse : ℕ → Act
+  refuse : Reason → Act
 
 -- A program, whose calls of rules stand beneath a mark (`Prog R false`), or may stand anywhere (`Prog R true`).
 -- `lookup n p f` is p where the text of the token n ahead has no fixity, and f of the fixity otherwise.
@@ -75,7 +83,7 @@ unfoldable pub does : Act → World → World
 does take w = take1 w
 does (takeAs c) w = takeChange c w
 does (report f d x) w = world.report f d x w
-does (refuse k) w = world.refuse k w
+does (refuse y) w = world.refuse (answerOf y) w
 
 -- f again and again, at most n times, until it gives 0
 unfoldable pub iter : ℕ → (World → Out) → World → Out
@@ -94,7 +102,7 @@ eval ρ n b (lookup k p f) w = elim (fixityAhead k w) [ none ↦ eval ρ n b p w
 eval ρ n b (act a) w = out 0 (does a w)
 eval ρ n b (from p) w = eval ρ n (lengthOf w) p w
 eval ρ n b (close k) w = out 0 (end k b w)
-eval ρ n b (marked p) w = elim (eqb n 0) [ true ↦ out 0 (world.refuse tooDeep w) | false ↦ eval ρ (n - 1) b p (mark w) ]
+eval ρ n b (marked p) w = elim (eqb n 0) [ true ↦ out 0 (does (refuse deep) w) | false ↦ eval ρ (n - 1) b p (mark w) ]
 eval ρ n b (loop p) w = iter (leftOf w + 1) (eval ρ n b p) w
 eval ρ n b (scoped p) w = let o = eval ρ n b p w in out (o .val) (giveBack w (o .world))
 eval ρ n b (attempt p) w = okSince w (eval ρ n b p w .world)

@@ -52,7 +52,7 @@ pub record Made (w w' : World) : Type 0 where
 -- every operation is such a call, and what is taken back is none
 pub made : Kept Made
 unfolding run step giveBack does
-made = record { same = same; next = next; refuses = λ k w. one (did (refuse k)) w; marks = one entered; acts = λ a w. one (did a) w; ends = λ k b w. one (exited k b) w; backs = backs }
+made = record { same = same; next = next; marks = one entered; acts = λ a w. one (did a) w; ends = λ k b w. one (exited k b) w; backs = backs }
   where
     same : (w : World) → Made w w
     same w = record { calls = []; runs = refl }

@@ -162,12 +162,8 @@ grew-takeChangeIn c s (t ∷ ts) e =
 -- every operation is refused, or makes the reading longer
 pub grew : Kept Grew
 unfolding world.refuse mark take1 takeChange end world.report does giveBack
-grew = record { same = grew-same; next = grew-next; refuses = refuses; marks = marks; acts = acts; ends = ends; backs = backs }
+grew = record { same = grew-same; next = grew-next; marks = marks; acts = acts; ends = ends; backs = backs }
   where
-    refuses : (k : ℕ) (w : World) → Grew w (world.refuse k w)
-    refuses k (refused k' l) = refl
-    refuses k (on s) = tt
-
     marks : (w : World) → Grew w (mark w)
     marks (refused k l) = refl
     marks (on s) = longer-log s [] (s .rest) [] (s .log) refl (sym (append-nil (s .log))) refl (omega arith)
@@ -180,7 +176,8 @@ grew = record { same = grew-same; next = grew-next; refuses = refuses; marks = m
     acts (report f d x) (refused k l) = refl
     acts (report f d x) (on s) =
         if-both (Grew (on s)) (ltb (length (s .finds)) (s .kept)) (λ _. longer-finds s _ (s .env) (s .changes) (omega arith)) (λ _. tt)
-    acts (refuse k) w = refuses k w
+    acts (refuse y) (refused k l) = refl
+    acts (refuse y) (on s) = tt
 
     ends : (k b : ℕ) (w : World) → Grew w (end k b w)
     ends k b (refused k' l) = refl

@@ -3,9 +3,11 @@ use Prim.Native.Nat.{ℕ, zero, suc, _+_, _-_}
 use mathlib.Core.Bool.{Bool, false}
 use lib.Dec.{eqb}
 use lib.ListN.{length}
-use Rattle.grammar.specs.World.{World, Out, fixityAhead, lengthOf, leftOf, refuse, mark, end, giveBack, okSince, tooDeep}
+use Rattle.grammar.specs.World.{World, Out, fixityAhead, lengthOf, leftOf, mark, end, giveBack, okSince}
 use Rattle.grammar.specs.World.World.{refused, on}
 use Rattle.grammar.specs.Prog.{Prog, Act, does, iter, eval, upto, rule}
+use Rattle.grammar.specs.Prog.Act.{refuse}
+use Rattle.grammar.specs.Prog.Reason.{deep}
 use Rattle.grammar.specs.Prog.Prog.{ret, bind, branch, look, lookup, act, from, close, marked, loop, scoped, attempt, call}
 use Rattle.laws.specs.Choice.{if-both, option-both}
 
@@ -13,7 +15,6 @@ use Rattle.laws.specs.Choice.{if-both, option-both}
 pub record Kept (S : World → World → Type 0) : Type 0 where
   pub same : (w : World) → S w w
   pub next : (a b c : World) → S a b → S b c → S a c
-  pub refuses : (k : ℕ) (w : World) → S w (refuse k w)
   pub marks : (w : World) → S w (mark w)
   pub acts : (a : Act) (w : World) → S w (does a w)
   pub ends : (k b : ℕ) (w : World) → S w (end k b w)
@@ -56,7 +57,7 @@ module _ (S : World → World → Type 0) (c : Kept S) where
   eval-keeps ρ h n b (from p) w = eval-keeps ρ h n (lengthOf w) p w
   eval-keeps ρ h n b (close k) w = c .ends k b w
   eval-keeps ρ h n b (marked p) w =
-      if-both (λ (o : Out). S w (o .world)) (eqb n 0) (λ _. c .refuses tooDeep w)
+      if-both (λ (o : Out). S w (o .world)) (eqb n 0) (λ _. c .acts (refuse deep) w)
       (λ _. c .next w (mark w) (eval ρ (n - 1) b p (mark w) .world) (c .marks w) (eval-keeps ρ h (n - 1) b p (mark w)))
   eval-keeps ρ h n b (loop p) w = iter-keeps (leftOf w + 1) (eval ρ n b p) (eval-keeps ρ h n b p) w
   eval-keeps ρ h n b (scoped p) w = c .backs w (eval ρ n b p w .world) (eval-keeps ρ h n b p w)

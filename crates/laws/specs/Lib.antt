@@ -5,7 +5,10 @@ pub mod Grows
 pub mod Loops
 pub mod Moves
 pub mod Trees
+pub mod Flat
 pub mod Calls
 pub mod Scopes
 pub mod Progress
 pub mod Environments
+pub mod Refusals
+pub mod Pairs

@@ -11,13 +11,14 @@ use lib.Dec.{eqb, ltb, leb}
 use lib.ListN.{length, length-append}
 use Rattle.grammar.specs.Tokens.{Token}
 use Rattle.grammar.specs.Env.{Infix, find}
-use Rattle.grammar.specs.World.{World, Now, Out, none?, tokenIn, tokenAhead, ahead, fixityAhead, lengthOf, leftOf, mark, take1, takeIn, takeChange, takeChangeIn, change, withRecord, giveBack, okSince, tooDeep}
+use Rattle.grammar.specs.World.{World, Now, Out, none?, tokenIn, tokenAhead, ahead, fixityAhead, lengthOf, leftOf, mark, take1, takeIn, takeChange, takeChangeIn, change, withRecord, giveBack, okSince}
 use Rattle.grammar.specs.World.World.{refused, on}
 use Rattle.grammar.specs.World as world
 use Rattle.grammar.specs.Prog.{Prog, Look, Act, does, iter, eval, rule}
 use Rattle.grammar.specs.Prog.Prog.{ret, bind, branch, look, lookup, act, from, close, marked, loop, scoped, attempt, call}
 use Rattle.grammar.specs.Prog.Look.{kind, index, says, number, mode}
 use Rattle.grammar.specs.Prog.Act.{take, takeAs, report, refuse}
+use Rattle.grammar.specs.Prog.Reason.{deep}
 use Rattle.laws.specs.Choice.{if-both, option-both}
 use Rattle.laws.specs.Keeps.{Keeps, iter-keeps}
 use Rattle.laws.specs.Grows.{Grew, after, Growing, eval-grows, eval-after, grew, grew-after, grew-change, rule-has}
@@ -323,16 +324,16 @@ module _ {R : Type 0} {g : Bool} {ρ : ℕ → ℕ → R → World → Out} {n k
   pub moves-marked : Growing ρ → {p : Prog R true} → Held k (K 0) → Moves ρ (n - 1) p k K → Moves {g = g} ρ n (marked p) k K
   unfolding eval
   moves-marked grows {p} h t = record {
-    still = λ b w e. if-both (λ (o : Out). after (o .world) ≡ after w → K (o .val)) (eqb n 0) (λ _. deep h w e) (λ _ q.
+    still = λ b w e. if-both (λ (o : Out). after (o .world) ≡ after w → K (o .val)) (eqb n 0) (λ _. sunk h w e) (λ _ q.
         let l = grew-after w (mark w) (grew .marks w) in
         let l' = eval-after ρ grows (n - 1) b p (mark w) in
         let s : after (mark w) ≡ after w = omega arith in
         t .still b (mark w) (same-ahead w (mark w) (grew .marks w) s ∙ e) (q ∙ sym s));
   }
     where
-      deep : Held k (K 0) → (w : World) → ahead 0 w ≡ k → after (world.refuse tooDeep w) ≡ after w → K 0
-      deep (value z) w e q = z
-      deep (token z) w e q = absurd (omega (arith, act-less (refuse tooDeep) w refl (some-ahead w (ap none? e ∙ z))))
+      sunk : Held k (K 0) → (w : World) → ahead 0 w ≡ k → after (does (refuse deep) w) ≡ after w → K 0
+      sunk (value z) w e q = z
+      sunk (token z) w e q = absurd (omega (arith, act-less (refuse deep) w refl (some-ahead w (ap none? e ∙ z))))
 
 -- the call of a rule that advances
 pub moves-call : {R : Type 0} {ρ : ℕ → ℕ → R → World → Out} {n k : ℕ} {K : ℕ → Type 0} {r : R} → ((b : ℕ) → Advances (ρ n b r)) → K 0 → Moves ρ n (call r) k K

@@ -8,12 +8,13 @@ use lib.Dec.{eqb, ltb}
 use lib.ListN.{length}
 use Rattle.grammar.specs.Tokens.{Token}
 use Rattle.grammar.specs.Env.{Infix}
-use Rattle.grammar.specs.World.{World, Now, Out, Rec, fixityAhead, lengthOf, leftOf, mark, take1, takeIn, withRecord, end, giveBack, okSince, tooDeep}
+use Rattle.grammar.specs.World.{World, Now, Out, Rec, fixityAhead, lengthOf, leftOf, mark, take1, takeIn, withRecord, end, giveBack, okSince}
 use Rattle.grammar.specs.World.World.{refused, on}
 use Rattle.grammar.specs.World as world
 use Rattle.grammar.specs.Prog.{Prog, Look, Act, does, iter, eval, upto, rule}
 use Rattle.grammar.specs.Prog.Prog.{ret, bind, branch, look, lookup, act, from, close, marked, loop, scoped, attempt, call}
 use Rattle.grammar.specs.Prog.Act.{take, takeAs, report, refuse}
+use Rattle.grammar.specs.Prog.Reason.{deep}
 use Rattle.laws.specs.Choice.{if-both, option-both}
 use Rattle.laws.specs.Keeps.{Keeps, iter-keeps}
 use Rattle.laws.specs.Grows.{Grew, Growing, grew, eval-grows, upto-grows}
@@ -137,7 +138,7 @@ module _ {R : Type 0} (C : R → Type 0) where
   eval-env ρ grows h n b (still-from s) w = eval-env ρ grows h n (lengthOf w) s w
   eval-env ρ grows h n b (still-close {k = k}) w = end-env k b w
   eval-env ρ grows h n b (still-marked {p = p} s) w =
-      if-both (λ (o : Out). SameEnv w (o .world)) (eqb n 0) (λ _. act-env (refuse tooDeep) refl w)
+      if-both (λ (o : Out). SameEnv w (o .world)) (eqb n 0) (λ _. act-env (refuse deep) refl w)
       (λ _. next-env w (mark w) (eval ρ (n - 1) b p (mark w) .world) (mark-env w) (eval-grows ρ grows (n - 1) b p (mark w)) (eval-env ρ grows h (n - 1) b s (mark w)))
   eval-env ρ grows h n b (still-loop {p = p} s) w = iter-env (leftOf w + 1) (eval ρ n b p) (eval-grows ρ grows n b p) (eval-env ρ grows h n b s) w
   eval-env ρ grows h n b (still-scoped {p = p}) w = scoped-env ρ n b p w

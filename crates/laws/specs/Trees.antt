@@ -10,13 +10,14 @@ use lib.Dec.{eqb, ltb}
 use lib.ListN.{length, length-append}
 use Rattle.grammar.specs.Tokens.{Token}
 use Rattle.grammar.specs.Env.{Infix}
-use Rattle.grammar.specs.World.{World, Now, Out, Rec, fixityAhead, lengthOf, leftOf, mark, take1, takeIn, takeChange, takeChangeIn, change, changeIn, mayChange, maxChanges, withRecord, end, giveBack, okSince, tooDeep}
+use Rattle.grammar.specs.World.{World, Now, Out, Rec, fixityAhead, lengthOf, leftOf, mark, take1, takeIn, takeChange, takeChangeIn, change, changeIn, mayChange, maxChanges, withRecord, end, giveBack, okSince}
 use Rattle.grammar.specs.World.World.{refused, on}
 use Rattle.grammar.specs.World.Rec.{took, ended}
 use Rattle.grammar.specs.World as world
 use Rattle.grammar.specs.Prog.{Prog, Act, does, iter, eval, upto, rule}
 use Rattle.grammar.specs.Prog.Prog.{ret, bind, branch, look, lookup, act, from, close, marked, loop, scoped, attempt, call}
 use Rattle.grammar.specs.Prog.Act.{take, takeAs, report, refuse}
+use Rattle.grammar.specs.Prog.Reason.{deep}
 use Rattle.laws.specs.Choice.{if-both, option-both}
 use Rattle.laws.specs.Grows.{Growing, Longer, eval-refused, upto-grows, rule-grows, eval-longer, taken, tookOf, taken-append}
 
@@ -208,7 +209,7 @@ module _ {R : Type 0} (ρ : ℕ → ℕ → R → World → Out) (grows : Growin
   eval-builds n (from p) L (on s) a = scope-stands L s a (eval ρ n (length (s .log)) p (on s) .world) (eval-builds n p (s .log) (on s) (start s))
   eval-builds n (close k) L w a = end-stands k L w a
   eval-builds n (marked p) L w a =
-      if-both (λ (o : Out). Stands L (o .world)) (eqb n 0) (λ _. act-stands (refuse tooDeep) L w a)
+      if-both (λ (o : Out). Stands L (o .world)) (eqb n 0) (λ _. act-stands (refuse deep) L w a)
       (λ _. eval-builds (n - 1) p L (mark w) (mark-stands L w a))
   eval-builds n (loop p) L w a = iter-stands L (leftOf w + 1) (eval ρ n (length L) p) (eval-builds n p L) w a
   eval-builds n (scoped p) L w a = back-stands L w (eval ρ n (length L) p w .world) (eval-builds n p L w a)
