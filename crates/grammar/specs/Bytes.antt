@@ -1,4 +1,4 @@
--- Bytes: their order, and numbers of two bytes.
+-- Bytes: those of an ASCII text, their order, and numbers of two bytes.
 use Prim.Native.Nat.{ℕ, _+_, _*_, _/_, _%_}
 use mathlib.Core.List.{List, [], _∷_}
 use mathlib.Core.Bool.{Bool, true, false}
@@ -27,16 +27,21 @@ before [] (y ∷ ys) = true
 before (x ∷ xs) [] = false
 before (x ∷ xs) (y ∷ ys) = elim (eqb x y) [ true ↦ before xs ys | false ↦ ltb x y ]
 
+-- how many values a byte has
+abbrev pub byteValues : ℕ
+byteValues = 256
+
 -- the number in two bytes, the lower first
 abbrev pub pair : ℕ → ℕ → ℕ
-pair lo hi = lo + 256 * hi
+pair lo hi = lo + byteValues * hi
 
+-- the number in the bytes i and i + 1 of a list; a byte that is not there counts as 0
 abbrev pub pairAt : List ℕ → ℕ → ℕ
 pairAt bytes i = pair (getD bytes i 0) (getD bytes (i + 1) 0)
 
 -- the two bytes of a number
 abbrev pub low : ℕ → ℕ
-low n = n % 256
+low n = n % byteValues
 
 abbrev pub high : ℕ → ℕ
-high n = n / 256 % 256
+high n = n / byteValues % byteValues

@@ -1,11 +1,11 @@
 -- The rules of dec.rs.
-use Prim.Native.Nat.{ℕ, _+_, _-_}
+use Prim.Native.Nat.{ℕ, _-_}
 use mathlib.Core.Option.{Option, none, some}
 use mathlib.Core.Bool.{Bool, true, false, not, _&&_, _||_}
 use lib.Dec.{eqb, ltb}
 use Rattle.grammar.specs.Bytes.{ascii}
 use Rattle.grammar.specs.Env.{Infix, left, right}
-use Rattle.grammar.specs.World.{none?, negative, invalid}
+use Rattle.grammar.specs.World.{none?, negative, invalid, valid}
 use Rattle.grammar.specs.Prog.{Prog, _>>=_, _>>_, peek, bump, errorAt}
 use Rattle.grammar.specs.Prog.Prog.{ret, branch, look, lookup, act, from, close, marked, loop, scoped, attempt, call}
 use Rattle.grammar.specs.Prog.Look.{index, says, number, mode}
@@ -19,7 +19,7 @@ use Rattle.grammar.specs.Exp.{exp, expOpt, eqExp}
 use Rattle.grammar.specs.SyntaxKind as SK
 use Rattle.grammar.specs.ErrorKind as EK
 
--- a ValBind
+-- dec.rs, `dec_one`: its closure for ValBind
 unfoldable pub valBind : InfixErr → Prog Rule true
 valBind e = do
   k ← peek 0
@@ -32,7 +32,7 @@ valBind e = do
     eqExp
     ret 1)
 
--- `infix_fun_bind_case_head_inner`
+-- dec.rs, `infix_fun_bind_case_head_inner`
 unfoldable pub infixHead : {g : Bool} → InfixErr → Prog Rule g
 infixHead e = do
   atPatMust e
@@ -46,7 +46,7 @@ infixHead e = do
       (expected (EK.Kind SK.Name))
   atPatMust e
 
--- a prefix head behind `op`
+-- dec.rs, `dec_one`: a prefix head that starts at `op`, which is read here. `UnnecessaryOp` is reported before that.
 unfoldable pub prefixOp : {g : Bool} → Prog Rule g
 prefixOp = do
   k1 ← peek 1
@@ -54,7 +54,7 @@ prefixOp = do
   bump
   branch (isNameStar k1) bump (expected (EK.Kind SK.Name))
 
--- a prefix head without `op`
+-- dec.rs, `dec_one`: a prefix head without `op`
 unfoldable pub prefixName : {g : Bool} → Prog Rule g
 prefixName = do
   k ← peek 0
@@ -65,7 +65,7 @@ prefixName = do
     bump)
       (expected (EK.Kind SK.Name))
 
--- The head of a FunBindCase: 1 where it is infix and stands without parentheses.
+-- dec.rs, `dec_one`: the head of a FunBindCase, to its exit. 1 where it is infix and stands without parentheses.
 unfoldable pub funHead : {g : Bool} → InfixErr → Prog Rule g
 funHead e = do
   v ← attempt (infixHead e)
@@ -80,7 +80,7 @@ funHead e = do
         close SK.PrefixFunBindCaseHead)
     ret 0) (done SK.InfixFunBindCaseHead)
 
--- a FunBindCase, which is always found
+-- dec.rs, `dec_one`: its closure for FunBindCase, which always gives true
 unfoldable pub funCase : InfixErr → Prog Rule true
 funCase e = do
   v ← marked (from (funHead e))
@@ -89,14 +89,14 @@ funCase e = do
   eqExp
   ret 1
 
--- a FunBind: `many_sep` found its first case, so it gives true
+-- dec.rs, `dec_one`: its closure for FunBind. `many_sep` found its first case, so it gives true.
 unfoldable pub funBind : InfixErr → Prog Rule true
 funBind e = do
   bumpIf SK.Bar
   manySep SK.Bar SK.FunBindCase (funCase e)
   ret 1
 
--- a TyBind
+-- dec.rs, `ty_binds`: its closure for TyBind
 unfoldable pub tyBind : Prog Rule true
 tyBind = do
   s ← tyVarSeq
@@ -109,11 +109,12 @@ tyBind = do
       close SK.EqTy)))
     ret 1)
 
--- `ty_binds`
+-- dec.rs, `ty_binds`
 abbrev pub tyBinds : {g : Bool} → Prog Rule g
 tyBinds = manySep SK.AndKw SK.TyBind tyBind
 
--- a name that may stand behind an unnecessary `op`: whether there was either
+-- dec.rs, the start of the closures for ConBind (`dat_binds`) and ExBind (`dec_one`): a name that may stand behind
+-- an unnecessary `op`. It gives `got`: whether there was either.
 unfoldable pub opName : {g : Bool} → Prog Rule g
 opName = do
   k ← peek 0
@@ -124,7 +125,7 @@ opName = do
   v ← eatNameStar
   branch (none? r && none? v) (ret 0) (ret 1)
 
--- a ConBind; both callers of `dat_binds` allow `op`
+-- dec.rs, `dat_binds`: its closure for ConBind. Both callers of `dat_binds` allow `op`.
 unfoldable pub conBind : Prog Rule true
 conBind = do
   v ← opName
@@ -132,7 +133,7 @@ conBind = do
     ofTy
     ret 1)
 
--- a DatBind
+-- dec.rs, `dat_binds`: its closure for DatBind
 unfoldable pub datBind : Prog Rule true
 datBind = do
   s ← tyVarSeq
@@ -146,7 +147,7 @@ datBind = do
       close SK.EqConBinds)))
     ret 1)
 
--- `dat_binds`
+-- dec.rs, `dat_binds`
 unfoldable pub datBinds : {g : Bool} → Prog Rule g
 datBinds = do
   manySep SK.AndKw SK.DatBind datBind
@@ -156,7 +157,7 @@ datBinds = do
     tyBinds
     close SK.WithType)))
 
--- `datatype`
+-- dec.rs, `datatype`, and the exit of its node in `dec_one`
 unfoldable pub datatype : Prog Rule true
 datatype = do
   bump
@@ -170,7 +171,7 @@ datatype = do
       datBinds
       done SK.DatDec)
 
--- an ExBind
+-- dec.rs, `dec_one`: its closure for ExBind
 unfoldable pub exBind : Prog Rule true
 exBind = do
   v ← opName
@@ -179,25 +180,26 @@ exBind = do
     ifNone t eqExp (ret 0)
     ret 1)
 
--- the mode in which a large fixity number is reported, and the largest that is not
+-- document 01: the mode in which a large fixity number is reported, and the largest that is not
 abbrev pub strict : ℕ
 strict = 2
 
 abbrev pub largest : ℕ
 largest = 9
 
--- The number of a fixity declaration that is there: `numberOf` has 2 more than it. Strict mode is document 01's.
+-- dec.rs, `fixity`: its case of a number that is there, which `numberOf` gives as `valid` more. Strict mode is document 01's.
+-- A negative or an invalid one counts as 0, since the subtraction stops there.
 unfoldable pub fixityNumber : Prog Rule true
 fixityNumber = do
   v ← look number
   m ← look mode
   branch (eqb v negative) (plain EK.NegativeFixity)
       (branch (eqb v invalid) (plain EK.InvalidFixity)
-      (when (eqb m strict && ltb largest (v - 2)) (plain EK.LargeFixity)))
+      (when (eqb m strict && ltb largest (v - valid)) (plain EK.LargeFixity)))
   bump
-  ret (v - 2)
+  ret (v - valid)
 
--- `fixity`
+-- dec.rs, `fixity`
 unfoldable pub fixity : Prog Rule true
 fixity = do
   k ← peek 0
@@ -205,7 +207,7 @@ fixity = do
     when (not (isNameStarEq k)) (expected EK.NameOrInt)
     ret 0)
 
--- one turn of `names_star_eq`, whose closure makes the change c for each name
+-- dec.rs, `names_star_eq`: one turn of its loop. Its closure makes the change c for each name.
 unfoldable pub namesTurn : Option Infix → Prog Rule true
 namesTurn c = do
   k ← peek 0
@@ -213,11 +215,11 @@ namesTurn c = do
     act (takeAs c)
     ret 1) (ret 0)
 
--- `names_star_eq`
+-- dec.rs, `names_star_eq`
 abbrev pub namesStarEq : Option Infix → Prog Rule true
 namesStarEq c = loop (namesTurn c)
 
--- `local`
+-- dec.rs, `dec_one`: its case of `local`
 unfoldable pub localDec : InfixErr → Prog Rule true
 localDec e = do
   marked (from (do
@@ -231,7 +233,7 @@ localDec e = do
   eat SK.EndKw
   done SK.LocalDec
 
--- `str_exp` and `sig_exp`, or the finding that there is none
+-- dec.rs, `str_exp` and `sig_exp`: their calls, or the finding that there is none
 unfoldable pub strMust : Prog Rule true
 strMust = do
   v ← call strExp
@@ -242,19 +244,20 @@ sigMust = do
   v ← call sigExp
   ifNone v (expected EK.SigExp) (ret 0)
 
--- `ascription_tail`
+-- dec.rs, `ascription_tail`
 unfoldable pub ascriptionTail : {g : Bool} → Prog Rule g
 ascriptionTail = marked (from (do
   bump
   sigMust
   close SK.AscriptionTail))
 
+-- dec.rs, `dec_one`: `ascription_tail` where an ascription is next, in its closures for StrBind and FunctorBind
 unfoldable pub ascriptionOpt : {g : Bool} → Prog Rule g
 ascriptionOpt = do
   k ← peek 0
   when (isAscription k) ascriptionTail
 
--- a StrBind
+-- dec.rs, `dec_one`: its closure for StrBind
 unfoldable pub strBind : Prog Rule true
 strBind = do
   v ← eat SK.Name
@@ -267,7 +270,7 @@ strBind = do
       close SK.EqStrExp)))
     ret 1)
 
--- a SigBind
+-- dec.rs, `dec_one`: its closure for SigBind
 unfoldable pub sigBind : Prog Rule true
 sigBind = do
   v ← eat SK.Name
@@ -276,7 +279,7 @@ sigBind = do
     sigMust
     ret 1)
 
--- the parameter of a functor
+-- dec.rs, `dec_one`: the parameter of a functor, in its closure for FunctorBind
 unfoldable pub functorArg : Prog Rule true
 functorArg = do
   k ← peek 0
@@ -288,7 +291,7 @@ functorArg = do
     close SK.FunctorArgNameSigExp)))
       (call (dec InfixErr.No))
 
--- a FunctorBind
+-- dec.rs, `dec_one`: its closure for FunctorBind
 unfoldable pub functorBind : Prog Rule true
 functorBind = do
   v ← eat SK.Name
@@ -301,7 +304,7 @@ functorBind = do
     strMust
     ret 1)
 
--- `es_import_spec`
+-- dec.rs, `es_import_spec`
 unfoldable pub esImportSpec : Prog Rule true
 esImportSpec = marked (from (do
   k ← peek 0
@@ -310,7 +313,7 @@ esImportSpec = marked (from (do
   tyAnnotation
   close SK.EsImportSpec))
 
--- one name among the attributes of `es_import`
+-- dec.rs, `es_import`: one turn of its loop over the names among the attributes
 unfoldable pub attrTurn : Prog Rule true
 attrTurn = do
   k ← peek 0
@@ -318,7 +321,7 @@ attrTurn = do
     bump
     ret 1) (ret 0)
 
--- the attributes of `es_import`
+-- dec.rs, `es_import`: the attributes
 unfoldable pub esImportAttrs : Prog Rule true
 esImportAttrs = do
   k ← peek 0
@@ -328,7 +331,7 @@ esImportAttrs = do
     eat SK.RSquare
     close SK.EsImportAttrs)))
 
--- the default import, and the comma between it and the named ones
+-- dec.rs, `es_import`: the default import, and the comma between it and the named ones
 unfoldable pub esImportDefault : Prog Rule true
 esImportDefault = do
   k ← peek 0
@@ -338,7 +341,7 @@ esImportDefault = do
     k1 ← peek 1
     when (is k SK.Comma && is k1 SK.LCurly) bump)
 
--- the named imports
+-- dec.rs, `es_import`: the named imports
 unfoldable pub esImportSpecs : Prog Rule true
 esImportSpecs = do
   k ← peek 0
@@ -347,7 +350,7 @@ esImportSpecs = do
     commaSep SK.EsImportSpecArg SK.RCurly esImportSpec
     close SK.EsImportSpecs)))
 
--- the name `from` of `es_import`
+-- dec.rs, `es_import`: the name `from`
 unfoldable pub esImportFrom : Prog Rule true
 esImportFrom = do
   k ← peek 0
@@ -357,7 +360,7 @@ esImportFrom = do
     ifNone s (expected EK.From) (ret 0))
       (expected (EK.Kind SK.Name))
 
--- `es_import`, at its keyword
+-- dec.rs, `es_import`, at its keyword
 unfoldable pub esImport : Prog Rule true
 esImport = do
   bump
@@ -369,7 +372,7 @@ esImport = do
     esImportFrom
     eat SK.StringLit)
 
--- the declarations of `dec_one` that bind values, types and exceptions
+-- dec.rs, `dec_one`: its cases that bind values, types and exceptions
 unfoldable pub coreDec : ℕ → InfixErr → Prog Rule true → Prog Rule true
 coreDec k e other =
     ifKind k SK.DotDotDot (do
@@ -403,7 +406,7 @@ coreDec k e other =
       done SK.ExDec)
     other))))))
 
--- those that open structures, change fixities, or hold others
+-- dec.rs, `dec_one`: its cases that open structures, change fixities, or hold expressions or declarations
 unfoldable pub scopeDec : ℕ → InfixErr → Prog Rule true → Prog Rule true
 scopeDec k e other =
     ifKind k SK.OpenKw (do
@@ -431,7 +434,7 @@ scopeDec k e other =
     (ifKind k SK.LocalKw (localDec e)
     other)))))
 
--- those of modules
+-- dec.rs, `dec_one`: its cases of structures, signatures, functors and `include`
 unfoldable pub moduleDec : ℕ → Prog Rule true → Prog Rule true
 moduleDec k other =
     ifKind k SK.StructureKw (do
@@ -452,7 +455,7 @@ moduleDec k other =
       done SK.IncludeDec)
     other)))
 
--- the last arm of `dec_one`
+-- dec.rs, `dec_one`: its last case
 unfoldable pub otherDec : ℕ → Prog Rule true
 otherDec k =
     ifKind k SK.EsimportKw (do
@@ -461,13 +464,13 @@ otherDec k =
         v ← expOpt
         ifNone v (ret 0) (done SK.ExpDec))
 
--- `dec_one`
+-- dec.rs, `dec_one`
 unfoldable pub decOne : {g : Bool} → InfixErr → Prog Rule g
 decOne e = do
   k ← peek 0
   ifNone k (ret 0) (marked (from (coreDec k e (scopeDec k e (moduleDec k (otherDec k))))))
 
--- one sharing tail of `dec_with_tail`
+-- dec.rs, `dec_with_tail`: one turn of its loop, a sharing tail
 unfoldable pub sharingTurn : {g : Bool} → Prog Rule g
 sharingTurn = do
   k ← peek 0
@@ -479,7 +482,7 @@ sharingTurn = do
       close SK.SharingTail))
     ret 1) (ret 0)
 
--- `dec_with_tail`: its node stands also where it is empty
+-- dec.rs, `dec_with_tail`: its node stands also where it is empty
 unfoldable pub decWithTail : {g : Bool} → InfixErr → Prog Rule g
 decWithTail e = marked (from (do
   v ← maybeSemiSep SK.DecInSeq (decOne e)
@@ -488,11 +491,11 @@ decWithTail e = marked (from (do
   close SK.DecWithTail
   ifKind k SK.SharingKw (ret 1) (ret v)))
 
--- `dec`
+-- dec.rs, `dec`
 unfoldable pub decs : {g : Bool} → InfixErr → Prog Rule g
 decs e = maybeSemiSep SK.Dec (decWithTail e)
 
--- the argument of a functor application: a structure, or declarations in an environment of their own
+-- dec.rs, `str_exp`: the argument of a functor application, a structure, or declarations in an environment of their own
 unfoldable pub appArg : Prog Rule true
 appArg = do
   v ← marked (from (do
@@ -500,7 +503,7 @@ appArg = do
     ifNone v (ret 0) (done SK.AppStrExpArgStrExp)))
   ifNone v (scoped (call (dec InfixErr.Yes))) (ret 0)
 
--- what `str_exp` starts with
+-- dec.rs, `str_exp`: its `match`, beneath its mark
 unfoldable pub strHead : ℕ → Prog Rule true
 strHead k =
     ifKind k SK.StructKw (do
@@ -528,7 +531,7 @@ strHead k =
           done SK.PathStrExp))
     (ret 0)))
 
--- one ascription behind a structure
+-- dec.rs, `str_exp`: one turn of its loop, an ascription behind a structure
 unfoldable pub strStep : Prog Rule false
 strStep = do
   k ← peek 0
@@ -538,7 +541,7 @@ strStep = do
       close SK.AscriptionStrExp)
     ret 1) (ret 0)
 
--- `str_exp`, in the scope of its own that it opens
+-- dec.rs, `str_exp`: the whole, in the scope of its own that `body` opens
 unfoldable pub strScope : Prog Rule false
 strScope = do
   k ← peek 0
@@ -548,7 +551,7 @@ strScope = do
       loop strStep
       ret 1))
 
--- what `sig_exp` starts with
+-- dec.rs, `sig_exp`: its first `match`, beneath its mark
 unfoldable pub sigHead : ℕ → Prog Rule true
 sigHead k =
     ifKind k SK.SigKw (do
@@ -561,7 +564,7 @@ sigHead k =
       done SK.NameSigExp)
     (ret 0))
 
--- what stands behind `where`, or an `and` that goes on with it
+-- dec.rs, `sig_exp`: what stands in its loop behind `where`, or behind an `and` that goes on with it
 unfoldable pub whereTail : Prog Rule true
 whereTail = do
   k ← peek 0
@@ -577,6 +580,7 @@ whereTail = do
       pathMust
       close SK.WhereSigExp)
 
+-- dec.rs, `sig_exp`: one turn of its loop
 unfoldable pub sigStep : Prog Rule false
 sigStep = do
   k ← peek 0
@@ -586,7 +590,8 @@ sigStep = do
       whereTail)
     ret 1) (ret 0)
 
--- `sig_exp`, in the scope of its own that it opens: the first `where` must be one, further ones can be `and`
+-- dec.rs, `sig_exp`: the whole, in the scope of its own that `body` opens.
+-- The first `where` must be one, further ones can be `and`.
 unfoldable pub sigScope : Prog Rule false
 sigScope = do
   k ← peek 0

@@ -32,7 +32,7 @@ NeedParensAroundExpHere = 9
 abbrev pub LargeFixity : ℕ
 LargeFixity = 10
 
--- the details of Expected
+-- parser.rs, `Expected`: the details of Expected
 abbrev pub Exp : ℕ
 Exp = 1
 
@@ -69,11 +69,15 @@ From = 11
 abbrev pub NameOrString : ℕ
 NameOrString = 12
 
--- Expected::Kind: a token of this kind
-abbrev pub Kind : ℕ → ℕ
-Kind k = 128 + k
+-- document 01: what the detail of an expected token has more than the token's kind
+abbrev pub kindBase : ℕ
+kindBase = 128
 
--- the details of NeedParensAroundExpHere
+-- parser.rs, `Expected::Kind`: a token of this kind
+abbrev pub Kind : ℕ → ℕ
+Kind k = kindBase + k
+
+-- parser.rs, `ParensExpFlavor`: the details of NeedParensAroundExpHere
 abbrev pub Raise : ℕ
 Raise = 1
 

@@ -1,13 +1,12 @@
 -- The rules of exp.rs.
-use Prim.Native.Nat.{ℕ, _+_}
+use Prim.Native.Nat.{ℕ}
 use mathlib.Core.Bool.{Bool, true, false, _&&_, _||_}
 use lib.Dec.{eqb}
 use Rattle.grammar.specs.Env as Env
-use Rattle.grammar.specs.World.{none?}
 use Rattle.grammar.specs.Prog.{Prog, Reason, _>>=_, _>>_, peek, bump, error}
 use Rattle.grammar.specs.Prog.Prog.{ret, branch, lookup, act, from, close, marked, loop, scoped, call}
 use Rattle.grammar.specs.Prog.Act.{refuse}
-use Rattle.grammar.specs.Rule.{Rule, ExpPrec, InfixErr, PatPrec}
+use Rattle.grammar.specs.Rule.{Rule, ExpPrec, InfixErr}
 use Rattle.grammar.specs.Rule.Rule.{expPrec, dec}
 use Rattle.grammar.specs.Util.{is, ifKind, ifNone, when, done, expected, eat, bumpIf, endSep, commaSep, manySep, shouldBreak, isNameStarEq, isAscription, pathInfix, pathNoInfix, lab}
 use Rattle.grammar.specs.Ty.{ty}
@@ -15,21 +14,21 @@ use Rattle.grammar.specs.Pat.{pat, isSCon}
 use Rattle.grammar.specs.SyntaxKind as SK
 use Rattle.grammar.specs.ErrorKind as EK
 
--- `exp_prec`, or the finding that there is none
+-- exp.rs, `exp_prec`: its call, or the finding that there is none
 unfoldable pub expMust : ExpPrec → Prog Rule true
 expMust min = do
   v ← call (expPrec min)
   ifNone v (expected EK.Exp) (ret 0)
 
--- `exp`; its answer serves no caller
+-- exp.rs, `exp`; its answer serves no caller
 abbrev pub exp : Prog Rule true
 exp = expMust ExpPrec.Min
 
--- `exp_opt`
+-- exp.rs, `exp_opt`
 abbrev pub expOpt : Prog Rule true
 expOpt = call (expPrec ExpPrec.Min)
 
--- `eq_exp`
+-- exp.rs, `eq_exp`
 unfoldable pub eqExp : {g : Bool} → Prog Rule g
 eqExp = do
   k ← peek 0
@@ -38,7 +37,7 @@ eqExp = do
     exp
     close SK.EqExp)))
 
--- one arm of `matcher`
+-- exp.rs, `matcher`: its closure for `many_sep`, one arm
 unfoldable pub arm : Prog Rule true
 arm = do
   v ← pat InfixErr.Yes
@@ -49,18 +48,25 @@ arm = do
       exp
       ret 1)
 
--- `matcher`
+-- exp.rs, `matcher`
 unfoldable pub matcher : {g : Bool} → Prog Rule g
 matcher = marked (from (do
   bumpIf SK.Bar
   manySep SK.Bar SK.Arm arm
   close SK.Matcher))
 
--- `exp_args`
+-- exp.rs, `exp_args`
 abbrev pub expArgs : {g : Bool} → Prog Rule g
 expArgs = commaSep SK.ExpArg SK.RSquare exp
 
--- `at_exp_l_round`
+-- exp.rs, `at_exp_l_round`: its `sep`, what was read behind the first expression; 0 where it is neither
+abbrev pub sawSemicolon : ℕ
+sawSemicolon = 1
+
+abbrev pub sawComma : ℕ
+sawComma = 2
+
+-- exp.rs, `at_exp_l_round`
 unfoldable pub atExpLRound : Prog Rule true
 atExpLRound = do
   k ← peek 0
@@ -73,22 +79,22 @@ atExpLRound = do
         ifKind k SK.Semicolon (do
           bump
           close SK.ExpInSeq
-          ret 1)
+          ret sawSemicolon)
             (ifKind k SK.Comma (do
               bump
               close SK.ExpArg
-              ret 2) (ret 0))))
-      branch (eqb v 1) (do
+              ret sawComma) (ret 0))))
+      branch (eqb v sawSemicolon) (do
         endSep SK.ExpInSeq SK.Semicolon SK.RRound exp
         done SK.SeqExp)
-          (branch (eqb v 2) (do
+          (branch (eqb v sawComma) (do
             endSep SK.ExpArg SK.Comma SK.RRound exp
             done SK.TupleExp) (do
               k ← peek 0
               ifKind k SK.RRound bump (expected EK.LRoundExpTail)
               done SK.ParenExp)))
 
--- `op` in `at_exp`
+-- exp.rs, `at_exp`: its case of `op`
 unfoldable pub opExp : Prog Rule true
 opExp = do
   k1 ← peek 1
@@ -103,7 +109,7 @@ opExp = do
           pathInfix
           done SK.PathExp))
 
--- the start of a record update in `at_exp`
+-- exp.rs, `at_exp`: the start of a record update, in its case of `{`
 unfoldable pub recordUpdate : Prog Rule true
 recordUpdate = do
   k ← peek 0
@@ -115,13 +121,13 @@ recordUpdate = do
     bump
     close SK.RecordUpdate)))
 
--- a row of a record expression
+-- exp.rs, `at_exp`: a row of a record expression, in its closure for `comma_sep`
 unfoldable pub expRow : Prog Rule true
 expRow = do
   lab
   eqExp
 
--- `#` in `at_exp`, behind it
+-- exp.rs, `at_exp`: its case of `#`, behind that token
 unfoldable pub hashExp : Prog Rule true
 hashExp = do
   k ← peek 0
@@ -134,7 +140,7 @@ hashExp = do
       lab
       done SK.SelectorExp)
 
--- `let` in `at_exp`, behind it
+-- exp.rs, `at_exp`: its case of `let`, behind that token
 unfoldable pub letExp : Prog Rule true
 letExp = do
   scoped (do
@@ -143,7 +149,7 @@ letExp = do
     endSep SK.ExpInSeq SK.Semicolon SK.EndKw exp)
   done SK.LetExp
 
--- what stands in `at_exp`
+-- exp.rs, `at_exp`: its `match`, beneath its mark
 unfoldable pub atExpHead : ℕ → Prog Rule true
 atExpHead k =
     ifKind k SK.DotDotDot (do
@@ -179,25 +185,26 @@ atExpHead k =
       letExp)
     (ret 0))))))))))
 
--- `at_exp`
+-- exp.rs, `at_exp`
 unfoldable pub atExp : {g : Bool} → Prog Rule g
 atExp = do
   k ← peek 0
   ifNone k (ret 0) (marked (from (atExpHead k)))
 
--- `app_exp`
+-- exp.rs, `app_exp`
 unfoldable pub appExp : {g : Bool} → Prog Rule g
 appExp = marked (do
   v ← atExp
   ifNone v (expected EK.Exp) (ret 0)
   close SK.AppExp)
 
--- What `should_break_exp` decides: that it cannot happen, that the climb goes on or ends, or that two infix names decide.
+-- exp.rs, `should_break_exp`: that a case cannot happen, that the climb goes on or ends, or that two infix names decide.
+-- Verdicts are data, so that a fact about `should_break_exp` has four cases and not thirty-six.
 pub data Verdict : Type 0 where
   unreachable goesOn ends : Verdict
   infixes : Env.Infix → Env.Infix → Verdict
 
--- the cases of `should_break_exp`
+-- exp.rs, `should_break_exp`: the cases of its `match`
 abbrev pub verdict : ExpPrec → ExpPrec → Verdict
 verdict prec ExpPrec.Handle = unreachable
 verdict prec ExpPrec.Ascription = unreachable
@@ -226,6 +233,7 @@ verdict ExpPrec.Handle ExpPrec.Orelse = ends
 verdict ExpPrec.Handle ExpPrec.Andalso = ends
 verdict ExpPrec.Handle (ExpPrec.Infix min) = ends
 
+-- exp.rs, `should_break_exp`: what follows from a verdict, 1 where the climb ends. What cannot happen is answer 10.
 unfoldable pub decide : {g : Bool} → Verdict → Prog Rule g
 decide unreachable = do
   act (refuse Reason.unreachable)
@@ -234,11 +242,12 @@ decide goesOn = ret 0
 decide ends = ret 1
 decide (infixes op min) = shouldBreak op min
 
--- `should_break_exp`: 1 where the climb ends
+-- exp.rs, `should_break_exp`: 1 where the climb ends
 abbrev pub shouldBreakExp : {g : Bool} → ExpPrec → ExpPrec → Prog Rule g
 shouldBreakExp prec min = decide (verdict prec min)
 
--- An operator of `exp_prec_loop`: unless it ends the climb, the operator, its right side, and the node of all behind `precede`.
+-- exp.rs, `exp_prec_loop`: an operator of the kind prec. Unless it ends the climb, the operator, its right side,
+-- and the node of all behind `precede`.
 unfoldable pub climb : ExpPrec → ExpPrec → ℕ → Prog Rule true → Prog Rule false
 climb prec min node right = do
   v ← shouldBreakExp prec min
@@ -249,11 +258,11 @@ climb prec min node right = do
       close node)
     ret 1) (ret 0)
 
--- the kinds in `exp_prec_loop` that start an argument, names left aside
+-- exp.rs, `exp_prec_loop`: the kinds that start an argument, names left aside
 abbrev pub isArg : ℕ → Bool
 isArg k = is k SK.DotDotDot || is k SK.Underscore || isSCon k || is k SK.OpKw || is k SK.LCurly || is k SK.Hash || is k SK.LRound || is k SK.LSquare || is k SK.LetKw
 
--- one turn of `exp_prec_loop`
+-- exp.rs, `exp_prec_loop`: one turn of its loop
 unfoldable pub expStep : ExpPrec → Prog Rule false
 expStep min = do
   k ← peek 0
@@ -270,6 +279,7 @@ expStep min = do
         appExp
         ret 1) (ret 0))))))
 
+-- exp.rs, `exp_prec`: its `infix`, whether this is the right side of an infix name
 abbrev pub isInfix : ExpPrec → Bool
 isInfix ExpPrec.Min = false
 isInfix ExpPrec.Handle = false
@@ -278,13 +288,13 @@ isInfix ExpPrec.Andalso = false
 isInfix ExpPrec.Ascription = false
 isInfix (ExpPrec.Infix op) = true
 
--- a keyword that wants parentheses behind an infix name, and is read
+-- exp.rs, `exp_prec`: a keyword that is read, and that wants parentheses on the right side of an infix name
 unfoldable pub keyword : ExpPrec → ℕ → Prog Rule true
 keyword min flavor = do
   when (isInfix min) (error EK.NeedParensAroundExpHere flavor)
   bump
 
--- the expressions in `exp_prec` that start with a keyword
+-- exp.rs, `exp_prec`: its cases that start with a keyword, beneath its mark
 unfoldable pub expHead : ℕ → ExpPrec → Prog Rule true
 expHead k min =
     ifKind k SK.RaiseKw (do
@@ -317,7 +327,7 @@ expHead k min =
       done SK.FnExp)
     (ret 0)))))
 
--- `exp_prec`, in the scope of its own that it opens
+-- exp.rs, `exp_prec`: the whole, in the scope of its own that `body` opens
 unfoldable pub expScope : ExpPrec → Prog Rule false
 expScope min = do
   k ← peek 0

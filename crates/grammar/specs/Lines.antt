@@ -1,5 +1,5 @@
 -- Document 01's lines to try that it marks P: one table, and one claim about `read`.
-use Prim.Native.Nat.{ℕ, zero, suc, _+_}
+use Prim.Native.Nat.{ℕ, _+_}
 use Prim.Native.String.{String}
 use mathlib.Core.Path.{_≡_, refl}
 use mathlib.Core.List.{List, [], _∷_, _++_, map}
@@ -15,11 +15,12 @@ use Rattle.grammar.specs.SyntaxKind as SK
 use Rattle.grammar.specs.ErrorKind as EK
 
 infixr 20 _then_
--- A token of a line: its kind and its spelling.
+-- Words. A token of a line: its kind and its spelling.
 pub record Word : Type 0 where
   pub kind : ℕ
   pub text : String
 
+-- the words that the lines are made of
 abbrev pub word : ℕ → String → Word
 word k s = record { kind = k; text = s }
 
@@ -35,11 +36,15 @@ semicolon = word SK.Semicolon ";"
 abbrev pub infixKw : Word
 infixKw = word SK.InfixKw "infix"
 
+-- the byte of a space
+abbrev pub space : ℕ
+space = 32
+
 -- the text of a line: a space behind each token, which is no token itself
 unfoldable pub spelled : List Word → List ℕ
 unfolding ascii
 spelled [] = []
-spelled (x ∷ xs) = ascii (x .text) ++ (32 ∷ spelled xs)
+spelled (x ∷ xs) = ascii (x .text) ++ (space ∷ spelled xs)
 
 -- the records of a line whose text starts at `at`
 unfoldable pub records : ℕ → List Word → List ℕ
@@ -53,18 +58,22 @@ records at (x ∷ xs) =
 abbrev pub Tree : Type 0
 Tree = List Node → List Node
 
+-- the token of kind k and index i
 abbrev pub tok : ℕ → ℕ → Tree
 tok k i l = token k i ∷ l
 
 abbrev pub empty : Tree
 empty l = l
 
+-- a tree and another behind it
 abbrev pub _then_ : Tree → Tree → Tree
 (s then t) l = s (t l)
 
+-- the node of kind k over a tree
 abbrev pub node : ℕ → Tree → Tree
 node k t l = opens k ∷ t (closes k ∷ l)
 
+-- the expression of the number that is the token i
 abbrev pub int : ℕ → Tree
 int i = node SK.SConExp (tok SK.IntLit i)
 
@@ -76,10 +85,11 @@ path i = node SK.Path (node SK.NameStarEqDot (tok SK.Name i))
 abbrev pub op : Tree → ℕ → ℕ → Tree → Tree
 op s k i t = node SK.InfixExp (s then tok k i then t)
 
--- declarations one behind another, each with its `;` where it has one
+-- the Dec of declarations one behind another, each with its `;` where it has one
 abbrev pub decs : Tree → Tree
 decs t = node SK.Dec (node SK.DecWithTail t)
 
+-- one of them
 abbrev pub one : Tree → Tree
 one t = node SK.DecInSeq t
 
@@ -94,18 +104,20 @@ tail = node SK.DecWithTail empty
 abbrev pub valX : Tree
 valX = node SK.ValDec (tok SK.ValKw 0 then node SK.ValBind (node SK.ConPat (path 1) then node SK.EqExp (tok SK.Eq 2 then int 3)))
 
--- `infix`, a number and a name, from index i on
+-- the declaration of `infix`, a number and a name, from index i on
 abbrev pub infixDec : ℕ → Tree
 infixDec i = node SK.InfixDec (tok SK.InfixKw i then tok SK.IntLit (i + 1) then tok SK.Name (i + 2))
 
+-- a finding without a name: number, detail, place
 abbrev pub finding : ℕ → ℕ → ℕ → Find
 finding f d p = record { number = f; detail = d; place = p; name = noName }
 
--- What `read` hands out: the nodes beneath Root, the findings, the final environment; or the refusal.
+-- What a line wants of `read`: the nodes beneath Root, the findings, the final environment; or the refusal.
 pub data Want : Type 0 where
   gives : Tree → List Find → List Entry → Want
   refuses : ℕ → Want
 
+-- A line: its words, the depth, the bytes of scratch and of findings that are lent, and what it wants.
 pub record Line : Type 0 where
   pub words : List Word
   pub depth : ℕ
@@ -128,6 +140,7 @@ callOf x = record {
   final = 120;
 }
 
+-- the whole result that a line wants
 unfoldable pub resultOf : Line → Result
 unfolding callOf nodesBytes envBytes findBytes handed refusal
 resultOf x =
@@ -136,6 +149,7 @@ resultOf x =
       | refuses k ↦ refusal (callOf x) k
     ]
 
+-- a line: words, depth, scratch, findings, and what it wants
 abbrev pub line : List Word → ℕ → ℕ → ℕ → Want → Line
 line ws d s f w = record { words = ws; depth = d; scratch = s; finds = f; want = w }
 
@@ -143,9 +157,11 @@ line ws d s f w = record { words = ws; depth = d; scratch = s; finds = f; want =
 abbrev pub plain : List Word → Want → Line
 plain ws w = line ws 100 1000 16 w
 
+-- the standard environment with f infix, of the precedence n
 abbrev pub with-f : ℕ → List Entry
 with-f n = put (ascii "f") (left n) std
 
+-- The lines, under their numbers in document 01.
 unfoldable pub table : List Line
 table =
     -- 1. the empty file

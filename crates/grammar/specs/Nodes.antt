@@ -1,12 +1,13 @@
 -- The nodes that are handed out: from the log to the records of document 01.
-use Prim.Native.Nat.{ℕ, zero, suc, _+_}
+use Prim.Native.Nat.{ℕ, suc}
 use mathlib.Core.List.{List, [], _∷_, _++_, map}
-use mathlib.Core.Bool.{Bool, true, false}
+use mathlib.Core.Bool.{true, false}
 use lib.Dec.{leb}
 use Rattle.grammar.specs.Bytes.{low, high}
 use Rattle.grammar.specs.World.{Rec, Find}
 use Rattle.grammar.specs.World.Rec.{took, ended}
 
+-- A node record of document 01: a node opens (kind), a token (kind, index), a node closes (kind).
 pub data Node : Type 0 where
   opens : ℕ → Node
   token : ℕ → ℕ → Node
@@ -17,18 +18,19 @@ pub record Placed : Type 0 where
   pub at : ℕ
   pub node : Node
 
--- before all that stands at b in the log or behind
+-- a node record at b in the log, before all that stands at b or behind
 unfoldable pub insert : ℕ → Node → List Placed → List Placed
 insert b x [] = record { at = b; node = x } ∷ []
 insert b x (y ∷ ys) = elim (leb b (y .at)) [ true ↦ record { at = b; node = x } ∷ y ∷ ys | false ↦ y ∷ insert b x ys ]
 
--- The nodes of the log's records from i on, behind those of the records before: a node that ends opens before all that came since its start.
+-- The nodes of the log's records from i on, behind those of the records before.
+-- A node that ends opens before all that came since its start.
 unfoldable pub place : List Placed → ℕ → List Rec → List Placed
 place out i [] = out
 place out i (took k x ∷ l) = place (out ++ (record { at = i; node = token k x } ∷ [])) (suc i) l
 place out i (ended k b ∷ l) = place (insert b (opens k) out ++ (record { at = i; node = closes k } ∷ [])) (suc i) l
 
--- the numbers of document 01
+-- document 01: the first byte of a node record
 abbrev pub opened : ℕ
 opened = 1
 
@@ -38,6 +40,7 @@ tokened = 2
 abbrev pub closed : ℕ
 closed = 3
 
+-- the four bytes of a node record, before the bytes l
 abbrev pub nodeRecord : Node → List ℕ → List ℕ
 nodeRecord (opens k) l = opened ∷ k ∷ 0 ∷ 0 ∷ l
 nodeRecord (token k i) l = tokened ∷ k ∷ low i ∷ high i ∷ l
@@ -52,7 +55,7 @@ nodesBytes (x ∷ xs) = nodeRecord x (nodesBytes xs)
 unfoldable pub nodesOf : List Rec → List Node
 nodesOf log = map (λ x. x .node) (place [] 0 log)
 
--- the records of the findings
+-- the bytes of findings, eight for each
 unfoldable pub findBytes : List Find → List ℕ
 findBytes [] = []
 findBytes (f ∷ fs) = f .number ∷ f .detail ∷ low (f .place) ∷ high (f .place) ∷ low (f .name) ∷ high (f .name) ∷ 0 ∷ 0 ∷ findBytes fs

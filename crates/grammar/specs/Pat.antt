@@ -1,41 +1,41 @@
 -- The rules of pat.rs.
-use Prim.Native.Nat.{ℕ, _+_}
+use Prim.Native.Nat.{ℕ}
 use mathlib.Core.Bool.{Bool, true, false, _&&_, _||_}
 use lib.Dec.{eqb}
 use Rattle.grammar.specs.Env as Env
-use Rattle.grammar.specs.World.{none?}
 use Rattle.grammar.specs.Prog.{Prog, _>>=_, _>>_, peek, bump, errorAt}
 use Rattle.grammar.specs.Prog.Prog.{ret, branch, look, lookup, from, close, marked, loop, call}
 use Rattle.grammar.specs.Prog.Look.{index}
 use Rattle.grammar.specs.Rule.{Rule, PatPrec, InfixErr, reports}
 use Rattle.grammar.specs.Rule.Rule.{patPrec}
-use Rattle.grammar.specs.Util.{is, ifKind, ifNone, when, done, expected, eat, endSep, commaSep, shouldBreak, isNameStar, isAscription, eatNameStar, path, pathInfix, pathNoInfix, lab}
+use Rattle.grammar.specs.Util.{is, ifKind, ifNone, when, done, expected, eat, commaSep, shouldBreak, isNameStar, isAscription, eatNameStar, path, pathInfix, pathNoInfix, lab}
 use Rattle.grammar.specs.Ty.{ty, tyAnnotation}
 use Rattle.grammar.specs.SyntaxKind as SK
 use Rattle.grammar.specs.ErrorKind as EK
 
--- `pat_prec`, or the finding that there is none
+-- pat.rs, `pat_prec`: its call, or the finding that there is none
 unfoldable pub patMust : PatPrec → InfixErr → Prog Rule true
 patMust min e = do
   v ← call (patPrec min e)
   ifNone v (expected EK.Pat) (ret 0)
 
--- `pat`
+-- pat.rs, `pat`
 abbrev pub pat : InfixErr → Prog Rule true
 pat e = call (patPrec PatPrec.Min e)
 
+-- pat.rs, `at_pat`: the kinds of its first case, the literals
 abbrev pub isSCon : ℕ → Bool
 isSCon k = is k SK.IntLit || is k SK.RealLit || is k SK.WordLit || is k SK.CharLit || is k SK.StringLit
 
--- the path of a constructor that stands without `op`
+-- pat.rs, `match infix` in `pat_prec` and in `at_pat`: the path of a constructor that stands without `op`
 unfoldable pub conPath : {g : Bool} → InfixErr → Prog Rule g
 conPath e = branch (reports e) pathNoInfix path
 
--- `pat_args`
+-- pat.rs, `pat_args`
 abbrev pub patArgs : {g : Bool} → ℕ → InfixErr → Prog Rule g
 patArgs end e = commaSep SK.PatArg end (patMust PatPrec.Min e)
 
--- `as_pat_tl`
+-- pat.rs, `as_pat_tl`
 unfoldable pub asPatTl : {g : Bool} → InfixErr → Prog Rule g
 asPatTl e = do
   k ← peek 0
@@ -44,7 +44,7 @@ asPatTl e = do
     patMust PatPrec.Min e
     done SK.AsPatTail))) (ret 0)
 
--- a row of a record pattern
+-- pat.rs, `at_pat`: a row of a record pattern, in its closure for `comma_sep`
 unfoldable pub patRow : InfixErr → Prog Rule true
 patRow e = marked (from (do
   k ← peek 0
@@ -62,7 +62,7 @@ patRow e = marked (from (do
           asPatTl e
           close SK.LabPatRow))))
 
--- `at_pat_l_round`
+-- pat.rs, `at_pat_l_round`
 unfoldable pub atPatLRound : InfixErr → Prog Rule true
 atPatLRound e = do
   k ← peek 0
@@ -82,7 +82,7 @@ atPatLRound e = do
           bump
           done SK.ParenPat))
 
--- what stands in `at_pat`
+-- pat.rs, `at_pat`: its `match`, beneath its mark
 unfoldable pub atPatHead : ℕ → InfixErr → Prog Rule true
 atPatHead k e =
     branch (isSCon k) (do
@@ -117,29 +117,30 @@ atPatHead k e =
       done SK.VectorPat)
     (ret 0))))))))
 
--- `at_pat`
+-- pat.rs, `at_pat`
 unfoldable pub atPat : {g : Bool} → InfixErr → Prog Rule g
 atPat e = do
   k ← peek 0
   ifNone k (ret 0) (marked (from (atPatHead k e)))
 
--- `at_pat`, or the finding that there is none
+-- pat.rs, `at_pat`: its call, or the finding that there is none
 unfoldable pub atPatMust : {g : Bool} → InfixErr → Prog Rule g
 atPatMust e = do
   v ← atPat e
   ifNone v (expected EK.Pat) (ret 0)
 
--- the kinds in the loop of `pat_prec` behind which a constructor's argument starts, names left aside
+-- pat.rs, `pat_prec`: the kinds in its loop that a constructor's argument starts with, names left aside
 abbrev pub isArg : ℕ → Bool
 isArg k = isSCon k || is k SK.Underscore || is k SK.OpKw || is k SK.LCurly || is k SK.LRound || is k SK.LSquare || is k SK.Hash
 
--- whether an infix name ends the climb of a pattern: 1 where it does
+-- pat.rs, `pat_prec`: its `match` at an infix name, whether the name ends the climb. 1 where it does.
 unfoldable pub shouldBreakPat : {g : Bool} → Env.Infix → PatPrec → Prog Rule g
 shouldBreakPat op PatPrec.Min = ret 0
 shouldBreakPat op PatPrec.Or = ret 0
 shouldBreakPat op (PatPrec.Infix min) = shouldBreak op min
 
--- How the head of a pattern leaves the loop of `pat_prec`: to go on, to go on at an infix name that was tested already, or to stop.
+-- pat.rs, `pat_prec`: how the head of a pattern leaves the first turn of the loop: to go on, to go on at an infix name
+-- that was tested already, or to stop. A head that `atPat` read takes no such turn; the 1 that it gives is taken as goOn in `patScope`.
 abbrev pub goOn : ℕ
 goOn = 1
 
@@ -149,8 +150,8 @@ atOp = 2
 abbrev pub stop : ℕ
 stop = 3
 
--- The first turn of the loop of `pat_prec` in the state Entered: the mark of a constructor pattern is still open, and it ends here in every case.
--- An infix name is tested while it is open, since the source reports before it exits the node.
+-- pat.rs, `pat_prec`: the first turn of its loop in the state Entered. The mark of the constructor pattern is still open, and ends here in
+-- every case. An infix name is tested while it is open, since the source reports before it exits the node.
 unfoldable pub conTurn : PatPrec → InfixErr → Prog Rule true
 conTurn min e = do
   k ← peek 0
@@ -168,31 +169,33 @@ conTurn min e = do
         close SK.ConPat
         ret goOn)
 
--- the start of `pat_prec` in the state Entered
+-- pat.rs, `pat_prec`: its start in the state Entered, and the first turn of its loop
 unfoldable pub conPat : PatPrec → InfixErr → Prog Rule true
 conPat min e = do
   k ← peek 0
   ifKind k SK.OpKw pathInfix (conPath e)
   conTurn min e
 
--- an infix pattern behind its left side
+-- pat.rs, `pat_prec`: its loop at an infix name that does not end the climb, from `precede` on
 unfoldable pub infixPat : {g : Bool} → Env.Infix → InfixErr → Prog Rule g
 infixPat op e = marked (do
   bump
   patMust (PatPrec.Infix op) e
   close SK.InfixPat)
 
+-- pat.rs, `pat_prec`: its test of min_prec at `|`, which goes on for Min alone
 abbrev pub isMin : PatPrec → Bool
 isMin PatPrec.Min = true
 isMin PatPrec.Or = false
 isMin (PatPrec.Infix op) = false
 
+-- pat.rs, `pat_prec`: its test of min_prec at `:`, `:>` and `as`, which end the climb for Infix
 abbrev pub isInfix : PatPrec → Bool
 isInfix PatPrec.Min = false
 isInfix PatPrec.Or = false
 isInfix (PatPrec.Infix op) = true
 
--- one turn of the loop of `pat_prec` in the state Exited
+-- pat.rs, `pat_prec`: one turn of its loop in the state Exited
 unfoldable pub patStep : PatPrec → InfixErr → Prog Rule false
 patStep min e = do
   k ← peek 0
@@ -229,14 +232,14 @@ patStep min e = do
         ret 1))
       (ret 0))))
 
--- what follows the head of a pattern, which left by v
+-- pat.rs, `pat_prec`: what follows the head of a pattern, which left by v
 unfoldable pub patTail : ℕ → PatPrec → InfixErr → Prog Rule false
 patTail v min e = do
   when (eqb v atOp) (lookup 0 (ret 0) (λ op. infixPat op e))
   branch (eqb v stop) (ret 0) (loop (patStep min e))
   ret 1
 
--- `pat_prec`, in the scope of its own that it opens
+-- pat.rs, `pat_prec`: the whole, in the scope of its own that `body` opens
 unfoldable pub patScope : PatPrec → InfixErr → Prog Rule false
 patScope min e = do
   k ← peek 0

@@ -34,7 +34,7 @@ pub data Act : Type 0 where
   refuse : Reason → Act
 
 -- A program, whose calls of rules stand beneath a mark (`Prog R false`), or may stand anywhere (`Prog R true`).
--- `lookup n p f` is p where the text of the token n ahead has no fixity, and f of the fixity otherwise.
+-- `lookup n p f` is p where the text of the token n ahead has no fixity, and f of the fixity otherwise: `fe.get` and `fe.contains_key`.
 -- `from p` is a scope: in it, `close k` makes a node of all that the scope has logged so far.
 -- `marked p`: a mark is open while p runs. `loop p`: p until it gives 0. `scoped p`: p in an environment of its own.
 -- `attempt p`: p between save and ok_since.
@@ -53,25 +53,29 @@ pub data Prog (R : Type 0) : Bool → Type 0 where
   attempt : {g : Bool} → Prog R g → Prog R g
   call : R → Prog R true
 
+-- what `do` stands for
 abbrev pub _>>=_ : {R : Type 0} {g : Bool} → Prog R g → (ℕ → Prog R g) → Prog R g
 p >>= f = bind p f
 
 abbrev pub _>>_ : {R : Type 0} {g : Bool} → Prog R g → Prog R g → Prog R g
 p >> q = bind p (λ _. q)
 
+-- event_parse, `peek_n`: the kind of the token n ahead, plus one, or 0
 abbrev pub peek : {R : Type 0} {g : Bool} → ℕ → Prog R g
 peek n = look (kind n)
 
+-- event_parse, `bump`
 abbrev pub bump : {R : Type 0} {g : Bool} → Prog R g
 bump = act take
 
--- a finding without a name, and one with the name of the token of that index
+-- event_parse, `error`: a finding without a name, and one with the name of the token of that index
 abbrev pub error : {R : Type 0} {g : Bool} → ℕ → ℕ → Prog R g
 error f d = act (report f d noName)
 
 abbrev pub errorAt : {R : Type 0} {g : Bool} → ℕ → ℕ → Prog R g
 errorAt f i = act (report f 0 i)
 
+-- the number that answers a look
 unfoldable pub seen : Look → World → ℕ
 seen (kind n) w = ahead n w
 seen index w = indexAhead w
@@ -79,6 +83,7 @@ seen (says x) w = saysAhead x w
 seen number w = numberAhead w
 seen mode w = modeOf w
 
+-- the reading after an act
 unfoldable pub does : Act → World → World
 does take w = take1 w
 does (takeAs c) w = takeChange c w
@@ -91,7 +96,7 @@ iter zero f w = out 0 w
 iter (suc n) f w = let o = f w in elim (eqb (o .val) 0) [ true ↦ out 0 (o .world) | false ↦ iter n f (o .world) ]
 
 -- What a program does where n marks may still be opened and the scope started at b in the log, ρ being what a rule does.
--- A loop runs at most once more than there are tokens left: each turn that goes on reads one (laws, Loops).
+-- A loop runs at most once more than there are tokens left: each turn that goes on reads one (crate laws, file Loops).
 unfoldable pub eval : {R : Type 0} {g : Bool} → (ℕ → ℕ → R → World → Out) → ℕ → ℕ → Prog R g → World → Out
 unfolding iter seen does
 eval ρ n b (ret v) w = out v w
@@ -109,7 +114,8 @@ eval ρ n b (attempt p) w = okSince w (eval ρ n b p w .world)
 eval ρ n b (call r) w = ρ n b r w
 
 module _ {R : Type 0} (body : R → Prog R false) where
-  -- the rules' meaning, for calls at most k deep
+  -- The rules' meaning, for calls at most k deep. From `rule`, `upto zero` is never reached:
+  -- a call stands beneath a mark, so the level n falls at each call (crate laws, file Laws, `stable`).
   unfoldable pub upto : ℕ → ℕ → ℕ → R → World → Out
   upto zero n b r w = out 0 w
   upto (suc k) n b r w = eval (upto k) n b (body r) w

@@ -1,6 +1,6 @@
 -- A whole call: from what is lent and set to the answer and every lent byte afterwards (document 01).
-use Prim.Native.Nat.{ℕ, zero, suc, _+_, _-_, _/_}
-use mathlib.Core.List.{List, [], _∷_, _++_}
+use Prim.Native.Nat.{ℕ, _-_, _/_}
+use mathlib.Core.List.{List, [], _++_}
 use mathlib.Core.Option.{Option, none, some}
 use mathlib.Core.Bool.{Bool, true, false, _&&_}
 use lib.Dec.{leb}
@@ -55,6 +55,7 @@ noNodes = 6
 abbrev pub noFinal : ℕ
 noFinal = 9
 
+-- document 01: the largest depth and the largest mode
 abbrev pub maxDepth : ℕ
 maxDepth = 1000
 
@@ -68,9 +69,11 @@ scratchSize = 8
 abbrev pub findSize : ℕ
 findSize = 8
 
+-- Answer 1's whole test: the settings, the text and the records.
 unfoldable pub settingsFit : Call → Bool
 settingsFit c = leb 1 (c .depth) && leb (c .depth) maxDepth && leb (c .mode) maxMode && listsFit (c .text) (c .toks)
 
+-- lib.rs, `get`: the parser as it is made. Every token that is no trivia is left; the rooms are counted in whole records.
 unfoldable pub start : Call → List Entry → Now
 start c es = record {
   rest = live (c .text) (c .toks) (recordCount (c .toks)) 0;
@@ -85,10 +88,11 @@ start c es = record {
   mode = c .mode;
 }
 
--- lib.rs, `get`: the reading of the whole file
+-- lib.rs, `get`: the reading of the whole file by `root`
 unfoldable pub reading : Call → List Entry → World
 reading c es = eval (rule body) (c .depth) 0 root (on (start c es)) .world
 
+-- so many zeroes
 abbrev pub zeroes : ℕ → List ℕ
 zeroes n = replicate n 0
 
@@ -96,6 +100,7 @@ zeroes n = replicate n 0
 unfoldable pub pad : ℕ → List ℕ → List ℕ
 pad n l = l ++ zeroes (n - length l)
 
+-- the answer k, which is not 0: zero lengths, and zeroes everywhere
 unfoldable pub refusal : Call → ℕ → Result
 refusal c k = record {
   answer = k;
@@ -132,11 +137,12 @@ finish c (on s) =
       | false ↦ refusal c noNodes
     ]
 
+-- after the first two tests: answer 3 where the environment's bytes give none, otherwise the reading
 unfoldable pub readWith : Call → Option (List Entry) → Result
 readWith c none = refusal c badEnv
 readWith c (some es) = finish c (reading c es)
 
--- The call.
+-- The call, with the tests of the answers 1, 2 and 3 in that order.
 unfoldable pub read : Call → Result
 read c =
     elim (settingsFit c) [

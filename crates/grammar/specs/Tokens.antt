@@ -13,6 +13,7 @@ pub record Token : Type 0 where
   pub kind : ℕ
   pub text : List ℕ
 
+-- document 01: the bytes of a token record, and the most bytes of a text and records of a list
 abbrev pub recordSize : ℕ
 recordSize = 5
 
@@ -22,15 +23,22 @@ maxText = 65535
 abbrev pub maxRecords : ℕ
 maxRecords = 13107
 
+-- where the start and the length of a token stand in its record, behind the kind
+abbrev pub startOffset : ℕ
+startOffset = 1
+
+abbrev pub lengthOffset : ℕ
+lengthOffset = 3
+
 -- the fields of the record i, and where it ends in the text
 abbrev pub kindAt : List ℕ → ℕ → ℕ
 kindAt toks i = getD toks (recordSize * i) 0
 
 abbrev pub startAt : List ℕ → ℕ → ℕ
-startAt toks i = pairAt toks (recordSize * i + 1)
+startAt toks i = pairAt toks (recordSize * i + startOffset)
 
 abbrev pub lengthAt : List ℕ → ℕ → ℕ
-lengthAt toks i = pairAt toks (recordSize * i + 3)
+lengthAt toks i = pairAt toks (recordSize * i + lengthOffset)
 
 abbrev pub endAt : List ℕ → ℕ → ℕ
 endAt toks i = startAt toks i + lengthAt toks i
@@ -40,6 +48,7 @@ abbrev pub endBefore : List ℕ → ℕ → ℕ
 endBefore toks zero = 0
 endBefore toks (suc i) = endAt toks i
 
+-- how many records the bytes are
 abbrev pub recordCount : List ℕ → ℕ
 recordCount toks = length toks / recordSize
 
@@ -69,7 +78,21 @@ live text toks (suc n) i =
       | false ↦ record { index = i; kind = kindAt toks i; text = textAt text toks i } ∷ live text toks n (i + 1)
     ]
 
--- Document 01: the text of the token i, for reports; empty for an index at or past the count, a record that fails answer 2's test, or lists that answer 1 refuses.
+-- A part of the lent text: where it starts, and how many bytes it has.
+pub record Part : Type 0 where
+  pub start : ℕ
+  pub len : ℕ
+
+-- Document 01: where the text of the token i stands, for reports. It is the empty part at the text's start for an index at or
+-- past the count, a record that fails answer 2's test, or lists that answer 1 refuses.
+unfoldable pub tokenPart : List ℕ → List ℕ → ℕ → Part
+tokenPart text toks i =
+    elim (listsFit text toks && ltb i (recordCount toks) && recordFits (length text) toks i) [
+      | true ↦ record { start = startAt toks i; len = lengthAt toks i }
+      | false ↦ record { start = 0; len = 0 }
+    ]
+
+-- the text of the token i: the bytes of that part
 unfoldable pub tokenText : List ℕ → List ℕ → ℕ → List ℕ
-tokenText text toks i =
-    elim (listsFit text toks && ltb i (recordCount toks) && recordFits (length text) toks i) [ true ↦ textAt text toks i | false ↦ [] ]
+unfolding tokenPart
+tokenText text toks i = let p = tokenPart text toks i in take (p .len) (drop (p .start) text)

@@ -1,8 +1,7 @@
 -- The rules of ty.rs.
-use Prim.Native.Nat.{ℕ, _+_}
+use Prim.Native.Nat.{ℕ}
 use mathlib.Core.Bool.{Bool, true, false, _&&_}
-use lib.Dec.{eqb, ltb}
-use Rattle.grammar.specs.World.{none?}
+use lib.Dec.{ltb}
 use Rattle.grammar.specs.Prog.{Prog, _>>=_, _>>_, peek, bump}
 use Rattle.grammar.specs.Prog.Prog.{ret, branch, from, close, marked, loop, call}
 use Rattle.grammar.specs.Rule.{Rule, Arrow, Star, App}
@@ -11,17 +10,17 @@ use Rattle.grammar.specs.Util.{is, ifKind, ifNone, when, done, expected,
 use Rattle.grammar.specs.SyntaxKind as SK
 use Rattle.grammar.specs.ErrorKind as EK
 
--- `ty_prec`, or the finding that there is none
+-- ty.rs, `ty_prec`: its call, or the finding that there is none
 unfoldable pub tyMust : ℕ → Prog Rule true
 tyMust min = do
   v ← call (tyPrec min)
   ifNone v (expected EK.Ty) (ret 0)
 
--- `ty`
+-- ty.rs, `ty`
 abbrev pub ty : Prog Rule true
 ty = tyMust Arrow
 
--- a row of a record type
+-- ty.rs, `ty_prec`: a row of a record type, in its closure for `comma_sep`
 unfoldable pub tyRow : Prog Rule true
 tyRow = do
   lab
@@ -29,7 +28,7 @@ tyRow = do
   when (isAscription k) bump
   ty
 
--- `(` and a type; where more follow, the whole sequence: 1 where `)` is next
+-- ty.rs, `ty_prec`: `(` and a type; where more follow, the whole sequence. 1 where `)` is next and both marks are abandoned.
 unfoldable pub tySeq : Prog Rule true
 tySeq = marked (from (do
   bump
@@ -45,7 +44,7 @@ tySeq = marked (from (do
     close SK.TySeq
     ret 0) (ret 1)))
 
--- what a type starts with
+-- ty.rs, `ty_prec`: its first `match`, what a type starts with
 unfoldable pub tyHead : ℕ → Prog Rule true
 tyHead k =
     ifKind k SK.DotDotDot (do
@@ -73,7 +72,7 @@ tyHead k =
       done SK.ConTy)
     (ret 0))))))
 
--- one factor of a tuple type
+-- ty.rs, `ty_prec`: the inner loop at `*`, one factor of a tuple type
 unfoldable pub starTurn : Prog Rule true
 starTurn = do
   k ← peek 0
@@ -84,7 +83,7 @@ starTurn = do
       close SK.StarTy))
     ret 1) (ret 0)
 
--- one turn of the loop of `ty_prec`
+-- ty.rs, `ty_prec`: one turn of its loop
 unfoldable pub tyStep : ℕ → Prog Rule false
 tyStep min = do
   k ← peek 0
@@ -108,7 +107,7 @@ tyStep min = do
         ret 1)
       (ret 0)))
 
--- `ty_prec`, in the scope of its own that it opens
+-- ty.rs, `ty_prec`: the whole, in the scope of its own that `body` opens
 unfoldable pub tyScope : ℕ → Prog Rule false
 tyScope min = do
   k ← peek 0
@@ -118,7 +117,7 @@ tyScope min = do
       loop (tyStep min)
       ret 1))
 
--- `ty_var_seq`
+-- ty.rs, `ty_var_seq`
 unfoldable pub tyVarSeq : {g : Bool} → Prog Rule g
 tyVarSeq = marked (from (do
   k ← peek 0
@@ -134,7 +133,7 @@ tyVarSeq = marked (from (do
         done SK.TyVarSeq)
       (ret 0))))
 
--- `of_ty`
+-- ty.rs, `of_ty`
 unfoldable pub ofTy : {g : Bool} → Prog Rule g
 ofTy = do
   k ← peek 0
@@ -143,7 +142,7 @@ ofTy = do
     ty
     done SK.OfTy))) (ret 0)
 
--- `ty_annotation`
+-- ty.rs, `ty_annotation`
 unfoldable pub tyAnnotation : {g : Bool} → Prog Rule g
 tyAnnotation = do
   k ← peek 0

@@ -1,39 +1,43 @@
 -- The rules of util.rs, and `eat` of event_parse.
-use Prim.Native.Nat.{ℕ, zero, suc, _+_}
+use Prim.Native.Nat.{ℕ, _+_}
 use mathlib.Core.Bool.{Bool, true, false, not, _&&_, _||_}
 use lib.Dec.{eqb, ltb, leb}
 use Rattle.grammar.specs.Env.{Infix, Left}
 use Rattle.grammar.specs.World.{none?}
 use Rattle.grammar.specs.Prog.{Prog, _>>=_, _>>_, peek, bump, error, errorAt}
-use Rattle.grammar.specs.Prog.Prog.{ret, bind, branch, look, lookup, from, close, marked, loop}
+use Rattle.grammar.specs.Prog.Prog.{ret, branch, look, lookup, from, close, marked, loop}
 use Rattle.grammar.specs.Prog.Look.{index}
 use Rattle.grammar.specs.Rule.{Rule}
 use Rattle.grammar.specs.SyntaxKind as SK
 use Rattle.grammar.specs.ErrorKind as EK
 
--- whether what a look gave is a token of this kind
+-- event_parse, `at_n`: whether what a look gave is a token of this kind
 abbrev pub is : ℕ → ℕ → Bool
 is k want = eqb k (want + 1)
 
+-- event_parse, `at`: the first program where the look gave a token of this kind, and the second otherwise
 abbrev pub ifKind : {g : Bool} → ℕ → ℕ → Prog Rule g → Prog Rule g → Prog Rule g
 ifKind k want p q = branch (is k want) p q
 
+-- `is_none`: the first program where a look or a rule found nothing, and the second otherwise
 abbrev pub ifNone : {g : Bool} → ℕ → Prog Rule g → Prog Rule g → Prog Rule g
 ifNone v p q = branch (none? v) p q
 
+-- `if` without an else; it gives 0 where the test fails
 abbrev pub when : {g : Bool} → Bool → Prog Rule g → Prog Rule g
 when t p = branch t p (ret 0)
 
--- the node's end, and that it was found
+-- event_parse, `exit`, as a function's last call: the node's end, and 1, since something was found
 abbrev pub done : {g : Bool} → ℕ → Prog Rule g
 done k = do
   close k
   ret 1
 
--- a finding that carries no detail
+-- event_parse, `error`: a finding that carries no detail
 abbrev pub plain : {g : Bool} → ℕ → Prog Rule g
 plain f = error f 0
 
+-- parser.rs, `ErrorKind::Expected`: the finding with this detail
 abbrev pub expected : {g : Bool} → ℕ → Prog Rule g
 expected d = error EK.Expected d
 
@@ -47,13 +51,13 @@ eat want = do
       expected (EK.Kind want)
       ret 0)
 
--- a token of this kind, where it is next
+-- event_parse, `at` and `bump`: a token of this kind is read, where it is next
 unfoldable pub bumpIf : {g : Bool} → ℕ → Prog Rule g
 bumpIf want = do
   k ← peek 0
   when (is k want) bump
 
--- one turn of `maybe_semi_sep`
+-- util.rs, `maybe_semi_sep`: one turn of its loop
 unfoldable pub semiTurn : {g : Bool} → ℕ → Prog Rule true → Prog Rule g
 semiTurn wrap f = marked (from (do
   v ← f
@@ -61,7 +65,7 @@ semiTurn wrap f = marked (from (do
     bumpIf SK.Semicolon
     done wrap)))
 
--- `maybe_semi_sep`: whether it advanced is whether its first turn found something
+-- util.rs, `maybe_semi_sep`: whether it advanced is whether its first turn found something
 unfoldable pub maybeSemiSep : {g : Bool} → ℕ → Prog Rule true → Prog Rule g
 maybeSemiSep wrap f = do
   v ← semiTurn wrap f
@@ -69,7 +73,7 @@ maybeSemiSep wrap f = do
     loop (semiTurn wrap f)
     ret 1)
 
--- one turn of `end_sep`
+-- util.rs, `end_sep`: one turn of its loop
 unfoldable pub endTurn : {g : Bool} → ℕ → ℕ → ℕ → Prog Rule true → Prog Rule g
 endTurn wrap sep end f = do
   k ← peek 0
@@ -88,15 +92,15 @@ endTurn wrap sep end f = do
         eat end
         ret 0) (ret 1))
 
--- `end_sep`
+-- util.rs, `end_sep`
 unfoldable pub endSep : {g : Bool} → ℕ → ℕ → ℕ → Prog Rule true → Prog Rule g
 endSep wrap sep end f = loop (endTurn wrap sep end f)
 
--- `comma_sep`
+-- util.rs, `comma_sep`
 abbrev pub commaSep : {g : Bool} → ℕ → ℕ → Prog Rule true → Prog Rule g
 commaSep wrap end f = endSep wrap SK.Comma end f
 
--- one turn of `many_sep`: it goes on where the separator was read
+-- util.rs, `many_sep`: one turn of its loop, which goes on where the separator was read
 unfoldable pub manyTurn : {g : Bool} → ℕ → ℕ → Prog Rule true → Prog Rule g
 manyTurn sep wrap f = marked (from (do
   v ← f
@@ -108,17 +112,19 @@ manyTurn sep wrap f = marked (from (do
         close wrap
         ret 0))))
 
--- `many_sep`. Its answer serves one caller alone, FunBind, for which it is always true.
+-- util.rs, `many_sep`. Its answer serves one caller alone, FunBind, for which it is always true.
 unfoldable pub manySep : {g : Bool} → ℕ → ℕ → Prog Rule true → Prog Rule g
 manySep sep wrap f = loop (manyTurn sep wrap f)
 
+-- util.rs, `should_break`: its first test, equal precedence with unlike association
 abbrev pub tie : Infix → Infix → Bool
 tie op min = eqb (op .prec) (min .prec) && not (eqb (op .assoc) (min .assoc))
 
+-- util.rs, `should_break`: its `match`. The next name binds weaker than min, or as strong where min associates to the left.
 abbrev pub weaker : Infix → Infix → Bool
 weaker op min = elim (eqb (min .assoc) Left) [ true ↦ leb (op .prec) (min .prec) | false ↦ ltb (op .prec) (min .prec) ]
 
--- `should_break`: 1 where the climb ends
+-- util.rs, `should_break`: 1 where the climb ends
 unfoldable pub shouldBreak : {g : Bool} → Infix → Infix → Prog Rule g
 shouldBreak op min =
     branch (tie op min) (do
@@ -126,7 +132,7 @@ shouldBreak op min =
       ret 0)
     (branch (weaker op min) (ret 1) (ret 0))
 
--- the kinds of `name_star_eq`, of `name_star` and of `ascription`
+-- util.rs: the kinds of `name_star_eq`, of `name_star` and of `ascription`
 abbrev pub isNameStarEq : ℕ → Bool
 isNameStarEq k = is k SK.Name || is k SK.Star || is k SK.Eq
 
@@ -136,7 +142,7 @@ isNameStar k = is k SK.Name || is k SK.Star
 abbrev pub isAscription : ℕ → Bool
 isAscription k = is k SK.Colon || is k SK.ColonGt
 
--- `eat_name_star`
+-- util.rs, `eat_name_star`
 unfoldable pub eatNameStar : {g : Bool} → Prog Rule g
 eatNameStar = do
   k ← peek 0
@@ -146,7 +152,7 @@ eatNameStar = do
       expected (EK.Kind SK.Name)
       ret 0)
 
--- a part of a path ends; 1 where a dot was read, behind which the next part stands
+-- util.rs, `path`: the test in its loop. A part of the path ends; 1 where a dot was read, behind which the next part stands.
 unfoldable pub partEnd : {g : Bool} → Prog Rule g
 partEnd = do
   k ← peek 0
@@ -156,12 +162,13 @@ partEnd = do
       close SK.NameStarEqDot
       ret 0)
 
+-- util.rs, `path`: one turn of its loop behind a dot, the next part of the path
 unfoldable pub pathPart : {g : Bool} → Prog Rule g
 pathPart = marked (from (do
   eatNameStar
   partEnd))
 
--- `path`
+-- util.rs, `path`
 unfoldable pub path : {g : Bool} → Prog Rule g
 path = do
   k ← peek 0
@@ -174,7 +181,7 @@ path = do
         done SK.Path)))
       (ret 0)
 
--- `path_must`
+-- util.rs, `path_must`
 unfoldable pub pathMust : {g : Bool} → Prog Rule g
 pathMust = do
   v ← path
@@ -182,7 +189,7 @@ pathMust = do
     expected EK.Path
     ret 0) (ret 1)
 
--- `path_infix`, at an `op`
+-- util.rs, `path_infix`, at an `op`
 unfoldable pub pathInfix : {g : Bool} → Prog Rule g
 pathInfix = do
   k2 ← peek 2
@@ -191,7 +198,7 @@ pathInfix = do
   eat SK.OpKw
   pathMust
 
--- `path_no_infix`
+-- util.rs, `path_no_infix`
 unfoldable pub pathNoInfix : {g : Bool} → Prog Rule g
 pathNoInfix = do
   k ← peek 0
@@ -201,7 +208,7 @@ pathNoInfix = do
     errorAt EK.InfixWithoutOp i))
   pathMust
 
--- `lab`
+-- util.rs, `lab`
 unfoldable pub lab : {g : Bool} → Prog Rule g
 lab = do
   k ← peek 0

@@ -14,6 +14,7 @@ pub data Rec : Type 0 where
   took : ℕ → ℕ → Rec
   ended : ℕ → ℕ → Rec
 
+-- A finding: the fields of document 01's record.
 pub record Find : Type 0 where
   pub number : ℕ
   pub detail : ℕ
@@ -35,10 +36,12 @@ pub record Now : Type 0 where
   pub mode : ℕ
 
 -- A reading that was refused by number, with the log's length then; or one that goes on.
+-- A scope that starts in a refused reading starts at that length, as the code's does; no answer depends on it.
 pub data World : Type 0 where
   refused : ℕ → ℕ → World
   on : Now → World
 
+-- What a program gives: a number, and the reading after it.
 pub record Out : Type 0 where
   pub val : ℕ
   pub world : World
@@ -62,6 +65,7 @@ noFixity = 8
 abbrev pub impossible : ℕ
 impossible = 10
 
+-- document 01: the most fixity changes of a reading
 abbrev pub maxChanges : ℕ
 maxChanges = 1024
 
@@ -74,12 +78,13 @@ abbrev pub none? : ℕ → Bool
 none? zero = true
 none? (suc n) = false
 
--- the token n ahead
+-- the token n ahead in a list of them
 unfoldable pub tokenIn : ℕ → List Token → Option Token
 tokenIn n [] = none
 tokenIn zero (t ∷ ts) = some t
 tokenIn (suc n) (t ∷ ts) = tokenIn n ts
 
+-- the token n ahead in a reading; a refused one has none
 unfoldable pub tokenAhead : ℕ → World → Option Token
 tokenAhead n (refused k l) = none
 tokenAhead n (on s) = tokenIn n (s .rest)
@@ -96,6 +101,7 @@ indexAhead w = elim (tokenAhead 0 w) [ none ↦ noName | some t ↦ t .index ]
 unfoldable pub saysAhead : List ℕ → World → ℕ
 saysAhead x w = elim (tokenAhead 0 w) [ none ↦ 0 | some t ↦ elim (same (t .text) x) [ true ↦ 1 | false ↦ 0 ] ]
 
+-- the bytes and the limit that reading a fixity number needs
 abbrev pub plus : ℕ
 plus = 43
 
@@ -111,10 +117,14 @@ tilde = 126
 abbrev pub maxU16 : ℕ
 maxU16 = 65535
 
--- the digits' number, after a number in front of them
+-- the digits are decimal
+abbrev pub radix : ℕ
+radix = 10
+
+-- the number of the digits, n being that of the digits before them
 unfoldable pub digits : ℕ → List ℕ → Option ℕ
 digits n [] = some n
-digits n (d ∷ ds) = elim (leb digit0 d && leb d digit9) [ true ↦ digits (10 * n + (d - digit0)) ds | false ↦ none ]
+digits n (d ∷ ds) = elim (leb digit0 d && leb d digit9) [ true ↦ digits (radix * n + (d - digit0)) ds | false ↦ none ]
 
 -- at least one digit
 unfoldable pub someDigits : List ℕ → Option ℕ
@@ -130,30 +140,37 @@ signedDigits (c ∷ cs) = elim (eqb c plus) [ true ↦ someDigits cs | false ↦
 unfoldable pub parseU16 : List ℕ → Option ℕ
 parseU16 x = elim (signedDigits x) [ none ↦ none | some n ↦ elim (leb n maxU16) [ true ↦ some n | false ↦ none ] ]
 
+-- what `numberOf` gives for a text that is no fixity number
 abbrev pub negative : ℕ
 negative = 0
 
 abbrev pub invalid : ℕ
 invalid = 1
 
--- A fixity number: `negative` where it starts with ~, `invalid` where it is none, or 2 more than it is.
+-- how many more than a fixity number `numberOf` gives for it, so that it is neither of these two
+abbrev pub valid : ℕ
+valid = 2
+
+-- dec.rs, `fixity`: its number. `negative` where it starts with ~, `invalid` where it is none, or `valid` more than it is.
 unfoldable pub numberOf : List ℕ → ℕ
 numberOf [] = invalid
-numberOf (c ∷ cs) = elim (eqb c tilde) [ true ↦ negative | false ↦ elim (parseU16 (c ∷ cs)) [ none ↦ invalid | some n ↦ n + 2 ] ]
+numberOf (c ∷ cs) = elim (eqb c tilde) [ true ↦ negative | false ↦ elim (parseU16 (c ∷ cs)) [ none ↦ invalid | some n ↦ n + valid ] ]
 
+-- dec.rs, `fixity`: the number of the next token
 unfoldable pub numberAhead : World → ℕ
 numberAhead w = elim (tokenAhead 0 w) [ none ↦ invalid | some t ↦ numberOf (t .text) ]
 
+-- the mode of the call; a refused reading has none, and gives 0
 unfoldable pub modeOf : World → ℕ
 modeOf (refused k l) = 0
 modeOf (on s) = s .mode
 
--- `fe.get` of the text of the token n ahead
+-- `fe.get` and `fe.contains_key` of the text of the token n ahead
 unfoldable pub fixityAhead : ℕ → World → Option Infix
 fixityAhead n (refused k l) = none
 fixityAhead n (on s) = elim (tokenIn n (s .rest)) [ none ↦ none | some t ↦ find (t .text) (s .env) ]
 
--- the log's length
+-- the log's length, where a scope starts
 unfoldable pub lengthOf : World → ℕ
 lengthOf (refused k l) = l
 lengthOf (on s) = length (s .log)
@@ -181,6 +198,7 @@ unfoldable pub mark : World → World
 mark (refused k l) = refused k l
 mark (on s) = withRecord s (s .rest) (s .log)
 
+-- `bump`, where these tokens are left
 unfoldable pub takeIn : Now → List Token → World
 takeIn s [] = on s
 takeIn s (t ∷ ts) = withRecord s ts (s .log ++ (took (t .kind) (t .index) ∷ []))
@@ -223,7 +241,7 @@ abbrev pub mayChange : Option Infix → List ℕ → List Entry → Bool
 mayChange none x es = true
 mayChange (some i) x es = leb (length x) maxName && leb (length (put x i es)) maxEntries
 
--- `fe.insert` and `fe.remove`
+-- `fe.insert` and `fe.remove` of the name x, or the refusal: answer 8
 unfoldable pub changeIn : Option Infix → List ℕ → Now → World
 changeIn c x s =
     elim (ltb (s .changes) maxChanges && mayChange c x (s .env)) [
@@ -231,26 +249,29 @@ changeIn c x s =
       | false ↦ refused noFixity (length (s .log))
     ]
 
+-- `fe.insert` and `fe.remove`, unless the reading was refused
 unfoldable pub change : Option Infix → List ℕ → World → World
 change c x (refused k l) = refused k l
 change c x (on s) = changeIn c x s
 
+-- `bump` and the change of the fixity of the name that it read, where these tokens are left
 unfoldable pub takeChangeIn : Option Infix → Now → List Token → World
 takeChangeIn c s [] = on s
 takeChangeIn c s (t ∷ ts) = change c (t .text) (takeIn s (t ∷ ts))
 
--- `bump`, and the change of the fixity of the name that was read
+-- dec.rs, `names_star_eq`: a turn of its loop, `bump` and the closure's change of the fixity of the name that was read
 unfoldable pub takeChange : Option Infix → World → World
 takeChange c (refused k l) = refused k l
 takeChange c (on s) = takeChangeIn c s (s .rest)
 
--- the second reading, with the first one's environment
+-- the second reading, with the first one's environment: the end of a scope that had a clone of it
 unfoldable pub giveBack : World → World → World
 giveBack (refused k l) w = w
 giveBack (on s) (refused k l) = refused k l
 giveBack (on s) (on s') = on (inEnv s' (s .env) (s' .changes))
 
--- `ok_since`, where the first reading was saved: the second stays where no finding came since, and gives 1; otherwise the first is back.
+-- `ok_since`, where the first reading was saved: the second stays where no finding came since, and gives 1;
+-- otherwise the first is back, and gives 0.
 unfoldable pub okSince : World → World → Out
 okSince (refused k l) w = out 0 w
 okSince (on s) (refused k l) = out 0 (refused k l)

@@ -15,7 +15,7 @@ use Rattle.laws.specs.Keeps.{Keeps}
 use Rattle.laws.specs.Scopes.{Still, SameEnv, stills, rule-env}
 use Rattle.laws.specs.Scopes.Still.{still-from}
 
--- the rules that keep the environment
+-- the rules that keep the environment: all but `dec`
 abbrev pub Kind : Rule → Type 0
 Kind (tyPrec min) = Unit {0}
 Kind (patPrec min e) = Unit {0}
@@ -24,6 +24,7 @@ Kind (dec e) = ⊥
 Kind strExp = Unit {0}
 Kind sigExp = Unit {0}
 
+-- The programs of which the bodies of these rules are made: none makes a fixity change outside of a scope, or calls `dec` there.
 eat-still : {g : Bool} (k : ℕ) → Still Kind g (U.eat k)
 unfolding U.eat
 eat-still k = search stills depth 40
@@ -44,6 +45,7 @@ no-infix-still : {g : Bool} → Still Kind g U.pathNoInfix
 unfolding U.pathNoInfix
 no-infix-still = search (stills, must-still) depth 40
 
+-- a list is still where what it lists is
 end-still : {g : Bool} (wrap sep end : ℕ) (f : Prog Rule true) → Still Kind true f → Still Kind g (U.endSep wrap sep end f)
 unfolding U.endSep U.endTurn
 end-still wrap sep end f h = search (stills, eat-still) depth 40
@@ -102,6 +104,7 @@ at-exp-still : {g : Bool} → Still Kind g E.atExp
 unfolding E.atExp E.atExpHead E.atExpLRound E.opExp E.recordUpdate E.expRow E.hashExp E.letExp E.eqExp U.lab
 at-exp-still = search (stills, infix-still, no-infix-still, end-still, exp-still) depth 60 fits 10000
 
+-- one case for each verdict
 decide-still : {g : Bool} (v : E.Verdict) → Still Kind g (E.decide v)
 unfolding E.decide
 decide-still E.unreachable = search stills depth 10
@@ -125,6 +128,7 @@ sig-scope-still : Still Kind false D.sigScope
 unfolding D.sigScope D.sigHead D.sigStep D.whereTail
 sig-scope-still = search (stills, eat-still, must-still, var-seq-still, ty-still) depth 60 fits 10000
 
+-- the body of each of these rules
 body-still : (r : Rule) → Kind r → Still Kind false (Root.body r)
 unfolding Root.body
 body-still (tyPrec min) _ = still-from (ty-scope-still min)

@@ -362,8 +362,11 @@ advancing f h s z = omega (arith, h .less (on s) z)
 
 -- What proves that a program moves: `search moving depth 40 fits 10000`, with the definitions that the program names opened by `unfolding`,
 -- and with a hypothesis `Growing ρ` and one that says which rules advance in scope. List besides:
--- lemmas of parts, stated for every K: `(n k : ℕ) (K : ℕ → Type 0) → K 0 → Moves ρ n part k K`, or `.. → t k ≡ true → Moves ρ n part k K` of one that then takes a token;
--- `opaque p` for a part of which nothing is to be said; `test t` for a test of another form; `moves-turn` for a loop whose first turn takes a token.
--- A part that takes a token where a test of the kind holds is proved as `When (t k) (Moves ρ n part k K)`, which takes the test by cases, and used by `.holds`.
+-- lemmas of parts, stated for every K: `(n k : ℕ) (K : ℕ → Type 0) → K 0 → Moves ρ n part k K`,
+-- or `.. → t k ≡ true → Moves ρ n part k K` of one that then takes a token;
+-- `opaque p` for a part of which nothing is to be said; `test t` for a test of another form;
+-- `moves-turn` for a loop whose first turn takes a token.
+-- A part that takes a token where a test of the kind holds is proved as `When (t k) (Moves ρ n part k K)`,
+-- which takes the test by cases, and used by `.holds`.
 pub ruleset moving =
     (moves-any, moves-ret, moves-peek, moves-look, moves-on, moves-off, moves-branch, moves-lookup, moves-take, moves-act, moves-close, moves-loop, moves-from, moves-scoped, moves-attempt, moves-marked, moves-call, moves-bind, when-or, when-and, when-eqb, when-none, when-leb, when-not, when-test, Held.token, Held.value, some-kind, next-some, or-left, or-right, tt)

@@ -17,10 +17,12 @@ use Rattle.grammar.specs.Dec as D
 use Rattle.grammar.specs.Root as Root
 use Rattle.grammar.specs.SyntaxKind as SK
 use Rattle.laws.specs.Grows.{Growing, rule-grows}
-use Rattle.laws.specs.Moves.{Moves, Idle, Advances, moving, moves-turn, moves-cases, moves-branch, moves-bind, moves-from, Opaque, When, Test, advances, rule-advances}
+use Rattle.laws.specs.Moves.{Moves, Idle, Advances, moving, moves-turn, moves-cases, moves-branch, moves-bind, moves-from, Opaque, When, advances, rule-advances}
 use Rattle.laws.specs.Moves.Opaque.{opaque}
 use Rattle.laws.specs.Moves.Test.{test}
 
+-- Where the rules that are called advance, so do the programs. A lemma for every K is of a part of a larger program:
+-- with `K 0` it takes a token unless it gives 0; with a test of the kind k of the next token it takes one where the test holds.
 module _ (ρ : ℕ → ℕ → Rule → World → Out) (grows : Growing ρ) (adv : (m c : ℕ) (r : Rule) → Advances (ρ m c r)) where
   path-moves : {g : Bool} (n k : ℕ) (K : ℕ → Type 0) → K 0 → Moves {g = g} ρ n U.path k K
   unfolding U.path U.partEnd U.pathPart U.eatNameStar
@@ -30,6 +32,7 @@ module _ (ρ : ℕ → ℕ → Rule → World → Out) (grows : Growing ρ) (adv
   unfolding U.pathPart U.partEnd U.eatNameStar
   path-part n k = search moving depth 40
 
+  -- a path takes a token where one of its kinds is next: by cases of the kind, and as the searches use it
   path-when : {g : Bool} (n k : ℕ) (K : ℕ → Type 0) → When (U.isNameStarEq k) (Moves {g = g} ρ n U.path k K)
   unfolding U.path U.partEnd U.pathPart U.eatNameStar
   path-when n k K = search moving depth 16
@@ -41,6 +44,7 @@ module _ (ρ : ℕ → ℕ → Rule → World → Out) (grows : Growing ρ) (adv
   unfolding U.pathMust
   must-takes n k K z = search (moving, path-takes) depth 14
 
+  -- a turn goes on only behind a separator, whatever f does
   end-turn : {g : Bool} (n : ℕ) (wrap sep end : ℕ) (f : Prog Rule true) (k : ℕ) → Moves {g = g} ρ n (U.endTurn wrap sep end f) k Idle
   unfolding U.endTurn U.eat
   end-turn n wrap sep end f k = search (moving, opaque f) depth 40 fits 10000
@@ -92,6 +96,7 @@ module _ (ρ : ℕ → ℕ → Rule → World → Out) (grows : Growing ρ) (adv
   unfolding U.pathNoInfix
   path-no-infix n k K z = search (moving, must-takes) depth 24
 
+  -- an application takes a token where an argument starts, or a name is next: by cases of the kind, and as the searches use it
   app-arg : {g : Bool} (n k : ℕ) (K : ℕ → Type 0) → When (E.isArg k) (Moves {g = g} ρ n E.appExp k K)
   unfolding E.appExp E.atExp E.atExpHead E.opExp
   app-arg n k K = search (moving, path-infix, path-no-infix) depth 40 fits 10000
@@ -100,18 +105,19 @@ module _ (ρ : ℕ → ℕ → Rule → World → Out) (grows : Growing ρ) (adv
   unfolding E.appExp E.atExp E.atExpHead E.opExp
   app-name n k K = search (moving, path-infix, path-no-infix) depth 40 fits 10000
 
-  app-takes : {g : Bool} (n k : ℕ) (K : ℕ → Type 0) → E.isArg k ≡ true → Moves {g = g} ρ n E.appExp k K
-  app-takes n k K = app-arg n k K .holds
+  app-takes-arg : {g : Bool} (n k : ℕ) (K : ℕ → Type 0) → E.isArg k ≡ true → Moves {g = g} ρ n E.appExp k K
+  app-takes-arg n k K = app-arg n k K .holds
 
-  app-takes2 : {g : Bool} (n k : ℕ) (K : ℕ → Type 0) → U.isNameStarEq k ≡ true → Moves {g = g} ρ n E.appExp k K
-  app-takes2 n k K = app-name n k K .holds
+  app-takes-name : {g : Bool} (n k : ℕ) (K : ℕ → Type 0) → U.isNameStarEq k ≡ true → Moves {g = g} ρ n E.appExp k K
+  app-takes-name n k K = app-name n k K .holds
 
+  -- the last case of `expStep`: its test has the cases of `isArg`, which are taken apart once, in `app-arg`
   arg-step : (n : ℕ) (k : ℕ) → Moves {g = false} ρ n (branch (E.isArg k) (E.appExp >> ret 1) (ret 0)) k Idle
-  arg-step n k = moves-branch (E.isArg k) (record { holds = λ e. moves-bind grows (app-takes n k _ e) }) (λ _. search moving)
+  arg-step n k = moves-branch (E.isArg k) (record { holds = λ e. moves-bind grows (app-takes-arg n k _ e) }) (λ _. search moving)
 
   exp-step : (n : ℕ) (k : ℕ) (min : ExpPrec) → Moves ρ n (E.expStep min) k Idle
   unfolding E.expStep E.climb
-  exp-step n k min = search (moving, breaks, arg-step, app-takes2) depth 40 fits 10000
+  exp-step n k min = search (moving, breaks, arg-step, app-takes-name) depth 40 fits 10000
     where
       breaks : (v : E.Verdict) → Opaque {g = false} (E.decide v)
       breaks v = opaque (E.decide v)
@@ -124,6 +130,7 @@ module _ (ρ : ℕ → ℕ → Rule → World → Out) (grows : Growing ρ) (adv
   unfolding E.expScope E.expHead E.keyword
   exp-scope n k min = search (moving, at-exp, test (E.isInfix min)) depth 40 fits 10000
 
+  -- where what is wrapped takes a token unless it gives 0, so does a turn, and so does the whole
   semi-turn : {g : Bool} (wrap : ℕ) (f : Prog Rule true) → ((n k : ℕ) (K : ℕ → Type 0) → K 0 → Moves ρ n f k K)
       → (n k : ℕ) (K : ℕ → Type 0) → K 0 → Moves {g = g} ρ n (U.semiTurn wrap f) k K
   unfolding U.semiTurn
@@ -134,6 +141,7 @@ module _ (ρ : ℕ → ℕ → Rule → World → Out) (grows : Growing ρ) (adv
   unfolding U.maybeSemiSep
   semi-sep {g} wrap f h n k K z = search (moving, semi-turn {g = g} wrap f h) depth 40 fits 10000
 
+  -- the four parts of `decOne`; the first three move where the part after them does
   other-dec : (k : ℕ) (K : ℕ → Type 0) (n : ℕ) → K 0 → Moves ρ n (D.otherDec k) k K
   unfolding D.otherDec D.esImport
   other-dec k K n z = search moving depth 40 fits 10000
@@ -162,6 +170,7 @@ module _ (ρ : ℕ → ℕ → Rule → World → Out) (grows : Growing ρ) (adv
   unfolding D.sharingTurn
   share-takes n k K z = search moving depth 40
 
+  -- where `sharing` is next the tail takes a token, whatever the declarations before it did
   dec-tail : {g : Bool} (e : InfixErr) (n k : ℕ) (K : ℕ → Type 0) → K 0 → Moves {g = g} ρ n (D.decWithTail e) k K
   unfolding D.decWithTail
   dec-tail e n k K z = moves-cases (U.is k SK.SharingKw)

@@ -157,6 +157,7 @@ module _ {R : Type 0} (C : R → Type 0) where
     unfolding rule
     rule-env n b r c w = upto-env (suc n) n b r c w
 
--- What proves that a program is still: `search stills depth 40`, with the definitions that it names opened by `unfolding`; list what is known of its parts.
+-- What proves that a program is still: `search stills depth 40`, with the definitions that it names opened by `unfolding`;
+-- list what is known of its parts.
 pub ruleset stills =
     (Still.still-ret, Still.still-bind, Still.still-branch, Still.still-look, Still.still-lookup, Still.still-act, Still.still-from, Still.still-close, Still.still-marked, Still.still-loop, Still.still-scoped, Still.still-attempt, Still.still-call, tt)
