@@ -1,0 +1,3 @@
+-- Laws behind the proofs of `basis`.
+pub mod Stores
+pub mod Tests

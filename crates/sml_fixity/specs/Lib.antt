@@ -1,0 +1,7 @@
+pub mod Basis
+pub mod Entries
+pub mod EnvBytes
+pub mod Fix
+pub mod Form
+pub mod Names
+pub mod Table
