@@ -12,7 +12,7 @@ use Rattle.grammar.specs.Prog.Look.{index, says, number, mode}
 use Rattle.grammar.specs.Prog.Act.{takeAs}
 use Rattle.grammar.specs.Rule.{Rule, InfixErr}
 use Rattle.grammar.specs.Rule.Rule.{dec, strExp, sigExp}
-use Rattle.grammar.specs.Util.{is, ifKind, ifNone, when, done, plain, expected, eat, bumpIf, commaSep, manySep, maybeSemiSep, isNameStar, isNameStarEq, isAscription, eatNameStar, path, pathMust}
+use Rattle.grammar.specs.Util.{is, ifKind, ifNone, when, done, plain, expected, eat, bumpIf, commaSep, manySep, maybeSemiSep, isNameStar, isNameStarEq, isAscription, bumpAscription, eatNameStar, path, pathMust}
 use Rattle.grammar.specs.Ty.{ty, tyVarSeq, ofTy, tyAnnotation}
 use Rattle.grammar.specs.Pat.{pat, atPat, atPatMust, asPatTl}
 use Rattle.grammar.specs.Exp.{exp, expOpt, eqExp}
@@ -285,8 +285,7 @@ functorArg = do
   k ← peek 0
   ifKind k SK.Name (marked (from (do
     bump
-    k ← peek 0
-    when (isAscription k) bump
+    bumpAscription
     sigMust
     close SK.FunctorArgNameSigExp)))
       (call (dec InfixErr.No))

@@ -6,7 +6,7 @@ use Rattle.grammar.specs.Prog.{Prog, _>>=_, _>>_, peek, bump}
 use Rattle.grammar.specs.Prog.Prog.{ret, branch, from, close, marked, loop, call}
 use Rattle.grammar.specs.Rule.{Rule, Arrow, Star, App}
 use Rattle.grammar.specs.Rule.Rule.{tyPrec}
-use Rattle.grammar.specs.Util.{is, ifKind, ifNone, when, done, expected, eat, commaSep, isAscription, pathMust, lab}
+use Rattle.grammar.specs.Util.{is, ifKind, ifNone, done, expected, eat, commaSep, isAscription, bumpAscription, pathMust, lab}
 use Rattle.grammar.specs.SyntaxKind as SK
 use Rattle.grammar.specs.ErrorKind as EK
 
@@ -24,21 +24,24 @@ ty = tyMust Arrow
 unfoldable pub tyRow : Prog Rule true
 tyRow = do
   lab
-  k ← peek 0
-  when (isAscription k) bump
+  bumpAscription
   ty
+
+-- ty.rs, `ty_prec`: the type behind `(`. 1 where `)` is next.
+unfoldable pub tyArg : Prog Rule true
+tyArg = marked (from (do
+  ty
+  k ← peek 0
+  ifKind k SK.RRound (ret 1) (do
+    eat SK.Comma
+    close SK.TyArg
+    ret 0)))
 
 -- ty.rs, `ty_prec`: `(` and a type; where more follow, the whole sequence. 1 where `)` is next and both marks are abandoned.
 unfoldable pub tySeq : Prog Rule true
 tySeq = marked (from (do
   bump
-  v ← marked (from (do
-    ty
-    k ← peek 0
-    ifKind k SK.RRound (ret 1) (do
-      eat SK.Comma
-      close SK.TyArg
-      ret 0)))
+  v ← tyArg
   ifNone v (do
     commaSep SK.TyArg SK.RRound ty
     close SK.TySeq

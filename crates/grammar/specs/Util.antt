@@ -168,15 +168,19 @@ pathPart = marked (from (do
   eatNameStar
   partEnd))
 
+-- util.rs, `path`: its first part
+unfoldable pub pathStart : {g : Bool} → Prog Rule g
+pathStart = marked (from (do
+  bump
+  partEnd))
+
 -- util.rs, `path`
 unfoldable pub path : {g : Bool} → Prog Rule g
 path = do
   k ← peek 0
   branch (isNameStarEq k)
       (marked (from (do
-        v ← marked (from (do
-          bump
-          partEnd))
+        v ← pathStart
         ifNone v (ret 0) (loop pathPart)
         done SK.Path)))
       (ret 0)
@@ -189,24 +193,40 @@ pathMust = do
     expected EK.Path
     ret 0) (ret 1)
 
--- util.rs, `path_infix`, at an `op`
-unfoldable pub pathInfix : {g : Bool} → Prog Rule g
-pathInfix = do
+-- util.rs, `path_infix`: its finding
+unfoldable pub unnecessaryOp : {g : Bool} → Prog Rule g
+unnecessaryOp = do
   k2 ← peek 2
   k1 ← peek 1
   when (not (is k2 SK.Dot) && isNameStarEq k1) (lookup 1 (plain EK.UnnecessaryOp) (λ _. ret 0))
+
+-- util.rs, `path_infix`, at an `op`
+unfoldable pub pathInfix : {g : Bool} → Prog Rule g
+pathInfix = do
+  unnecessaryOp
   eat SK.OpKw
   pathMust
 
--- util.rs, `path_no_infix`
-unfoldable pub pathNoInfix : {g : Bool} → Prog Rule g
-pathNoInfix = do
+-- util.rs, `path_no_infix`: its finding
+unfoldable pub withoutOp : {g : Bool} → Prog Rule g
+withoutOp = do
   k ← peek 0
   k1 ← peek 1
   when (not (is k1 SK.Dot) && isNameStarEq k) (lookup 0 (ret 0) (λ _. do
     i ← look index
     errorAt EK.InfixWithoutOp i))
+
+-- util.rs, `path_no_infix`
+unfoldable pub pathNoInfix : {g : Bool} → Prog Rule g
+pathNoInfix = do
+  withoutOp
   pathMust
+
+-- ty.rs and dec.rs: `:` or `:>`, where it is next
+unfoldable pub bumpAscription : {g : Bool} → Prog Rule g
+bumpAscription = do
+  k ← peek 0
+  when (isAscription k) bump
 
 -- util.rs, `lab`
 unfoldable pub lab : {g : Bool} → Prog Rule g

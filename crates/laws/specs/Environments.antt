@@ -30,7 +30,7 @@ unfolding U.eat
 eat-still k = search stills depth 40
 
 path-still : {g : Bool} → Still Kind g U.path
-unfolding U.path U.partEnd U.pathPart U.eatNameStar
+unfolding U.path U.partEnd U.pathPart U.eatNameStar U.pathStart
 path-still = search stills depth 40
 
 must-still : {g : Bool} → Still Kind g U.pathMust
@@ -38,11 +38,11 @@ unfolding U.pathMust
 must-still = search (stills, path-still) depth 40
 
 infix-still : {g : Bool} → Still Kind g U.pathInfix
-unfolding U.pathInfix
+unfolding U.pathInfix U.unnecessaryOp
 infix-still = search (stills, must-still, eat-still) depth 40
 
 no-infix-still : {g : Bool} → Still Kind g U.pathNoInfix
-unfolding U.pathNoInfix
+unfolding U.pathNoInfix U.withoutOp
 no-infix-still = search (stills, must-still) depth 40
 
 -- a list is still where what it lists is
@@ -59,7 +59,7 @@ unfolding T.tyMust
 ty-still min = search stills depth 40
 
 ty-scope-still : (min : ℕ) → Still Kind false (T.tyScope min)
-unfolding T.tyScope T.tyHead T.tySeq T.tyStep T.starTurn T.tyRow U.lab
+unfolding T.tyScope T.tyHead T.tySeq T.tyStep T.starTurn T.tyRow U.lab T.tyArg U.bumpAscription
 ty-scope-still min = search (stills, eat-still, must-still, end-still, ty-still) depth 60 fits 10000
 
 pat-still : (min : PatPrec) (e : InfixErr) → Still Kind true (P.patMust min e)

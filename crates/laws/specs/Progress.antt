@@ -25,7 +25,7 @@ use Rattle.laws.specs.Moves.Test.{test}
 -- with `K 0` it takes a token unless it gives 0; with a test of the kind k of the next token it takes one where the test holds.
 module _ (ρ : ℕ → ℕ → Rule → World → Out) (grows : Growing ρ) (adv : (m c : ℕ) (r : Rule) → Advances (ρ m c r)) where
   path-moves : {g : Bool} (n k : ℕ) (K : ℕ → Type 0) → K 0 → Moves {g = g} ρ n U.path k K
-  unfolding U.path U.partEnd U.pathPart U.eatNameStar
+  unfolding U.path U.partEnd U.pathPart U.eatNameStar U.pathStart
   path-moves n k K z = search moving depth 14
 
   path-part : {g : Bool} (n k : ℕ) → Moves {g = g} ρ n U.pathPart k Idle
@@ -34,7 +34,7 @@ module _ (ρ : ℕ → ℕ → Rule → World → Out) (grows : Growing ρ) (adv
 
   -- a path takes a token where one of its kinds is next: by cases of the kind, and as the searches use it
   path-when : {g : Bool} (n k : ℕ) (K : ℕ → Type 0) → When (U.isNameStarEq k) (Moves {g = g} ρ n U.path k K)
-  unfolding U.path U.partEnd U.pathPart U.eatNameStar
+  unfolding U.path U.partEnd U.pathPart U.eatNameStar U.pathStart
   path-when n k K = search moving depth 16
 
   path-takes : {g : Bool} (n k : ℕ) (K : ℕ → Type 0) → U.isNameStarEq k ≡ true → Moves {g = g} ρ n U.path k K
@@ -66,15 +66,15 @@ module _ (ρ : ℕ → ℕ → Rule → World → Out) (grows : Growing ρ) (adv
   ty-step n k min = search (moving, moves-turn, star-takes, must-takes) depth 20
 
   ty-scope : (n : ℕ) (k min : ℕ) → Moves ρ n (T.tyScope min) k Idle
-  unfolding T.tyScope T.tyHead T.tySeq
+  unfolding T.tyScope T.tyHead T.tySeq T.tyArg
   ty-scope n k min = search (moving, must-takes) depth 24
 
   con-path : {g : Bool} (n k : ℕ) (e : InfixErr) (K : ℕ → Type 0) → U.isNameStarEq k ≡ true → Moves {g = g} ρ n (P.conPath e) k K
-  unfolding P.conPath U.pathNoInfix
+  unfolding P.conPath U.pathNoInfix U.withoutOp
   con-path n k e K z = search (moving, path-takes, must-takes) depth 24
 
   path-infix : {g : Bool} (n k : ℕ) (K : ℕ → Type 0) → U.is k SK.OpKw ≡ true → Moves {g = g} ρ n U.pathInfix k K
-  unfolding U.pathInfix U.eat
+  unfolding U.pathInfix U.eat U.unnecessaryOp
   path-infix n k K z = search moving depth 24
 
   at-pat : {g : Bool} (n : ℕ) (k : ℕ) (e : InfixErr) (K : ℕ → Type 0) → K 0 → Moves {g = g} ρ n (P.atPat e) k K
@@ -93,7 +93,7 @@ module _ (ρ : ℕ → ℕ → Rule → World → Out) (grows : Growing ρ) (adv
   pat-scope n k e min = search (moving, path-infix, con-path, at-pat) depth 24
 
   path-no-infix : {g : Bool} (n k : ℕ) (K : ℕ → Type 0) → U.isNameStarEq k ≡ true → Moves {g = g} ρ n U.pathNoInfix k K
-  unfolding U.pathNoInfix
+  unfolding U.pathNoInfix U.withoutOp
   path-no-infix n k K z = search (moving, must-takes) depth 24
 
   -- an application takes a token where an argument starts, or a name is next: by cases of the kind, and as the searches use it
