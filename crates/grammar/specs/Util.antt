@@ -174,16 +174,18 @@ pathStart = marked (from (do
   bump
   partEnd))
 
+-- util.rs, `path`: what it reads where a path starts
+unfoldable pub pathHere : {g : Bool} → Prog Rule g
+pathHere = marked (from (do
+  v ← pathStart
+  ifNone v (ret 0) (loop pathPart)
+  done SK.Path))
+
 -- util.rs, `path`
 unfoldable pub path : {g : Bool} → Prog Rule g
 path = do
   k ← peek 0
-  branch (isNameStarEq k)
-      (marked (from (do
-        v ← pathStart
-        ifNone v (ret 0) (loop pathPart)
-        done SK.Path)))
-      (ret 0)
+  branch (isNameStarEq k) pathHere (ret 0)
 
 -- util.rs, `path_must`
 unfoldable pub pathMust : {g : Bool} → Prog Rule g

@@ -30,7 +30,7 @@ unfolding U.eat
 eat-still k = search stills depth 40
 
 path-still : {g : Bool} → Still Kind g U.path
-unfolding U.path U.partEnd U.pathPart U.eatNameStar U.pathStart
+unfolding U.path U.partEnd U.pathPart U.eatNameStar U.pathStart U.pathHere
 path-still = search stills depth 40
 
 must-still : {g : Bool} → Still Kind g U.pathMust

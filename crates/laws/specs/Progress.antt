@@ -25,7 +25,7 @@ use Rattle.laws.specs.Moves.Test.{test}
 -- with `K 0` it takes a token unless it gives 0; with a test of the kind k of the next token it takes one where the test holds.
 module _ (ρ : ℕ → ℕ → Rule → World → Out) (grows : Growing ρ) (adv : (m c : ℕ) (r : Rule) → Advances (ρ m c r)) where
   path-moves : {g : Bool} (n k : ℕ) (K : ℕ → Type 0) → K 0 → Moves {g = g} ρ n U.path k K
-  unfolding U.path U.partEnd U.pathPart U.eatNameStar U.pathStart
+  unfolding U.path U.partEnd U.pathPart U.eatNameStar U.pathStart U.pathHere
   path-moves n k K z = search moving depth 14
 
   path-part : {g : Bool} (n k : ℕ) → Moves {g = g} ρ n U.pathPart k Idle
@@ -34,7 +34,7 @@ module _ (ρ : ℕ → ℕ → Rule → World → Out) (grows : Growing ρ) (adv
 
   -- a path takes a token where one of its kinds is next: by cases of the kind, and as the searches use it
   path-when : {g : Bool} (n k : ℕ) (K : ℕ → Type 0) → When (U.isNameStarEq k) (Moves {g = g} ρ n U.path k K)
-  unfolding U.path U.partEnd U.pathPart U.eatNameStar U.pathStart
+  unfolding U.path U.partEnd U.pathPart U.eatNameStar U.pathStart U.pathHere
   path-when n k K = search moving depth 16
 
   path-takes : {g : Bool} (n k : ℕ) (K : ℕ → Type 0) → U.isNameStarEq k ≡ true → Moves {g = g} ρ n U.path k K

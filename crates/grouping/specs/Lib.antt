@@ -1,0 +1,13 @@
+pub mod Grouping
+pub mod Runs
+pub mod Atoms
+pub mod Climbs
+pub mod Files
+pub mod Readings
+pub mod Meanings
+pub mod Proofs
+pub mod Patterns
+pub mod PatRuns
+pub mod PatFiles
+pub mod PatProofs
+pub mod Examples

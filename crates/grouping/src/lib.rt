@@ -1,0 +1,1 @@
+// One lawful grouping of a line, proved of `read`: see specs/Grouping.antt.
