@@ -47,6 +47,29 @@ tySeq = marked (from (do
     close SK.TySeq
     ret 0) (ret 1)))
 
+-- ty.rs, `ty_prec`: what a type with `(` starts with, by what stands in the parentheses
+unfoldable pub tyRound : Prog Rule true
+tyRound = do
+  v ← tySeq
+  ifNone v (do
+    pathMust
+    done SK.ConTy) (do
+      bump
+      done SK.ParenTy)
+
+-- ty.rs, `ty_prec`: the arms of its first `match` that hold others
+unfoldable pub tyInner : ℕ → Prog Rule true
+tyInner k =
+    ifKind k SK.LCurly (do
+      bump
+      commaSep SK.TyRow SK.RCurly tyRow
+      done SK.RecordTy)
+    (ifKind k SK.LRound tyRound
+    (ifKind k SK.Name (do
+      pathMust
+      done SK.ConTy)
+    (ret 0)))
+
 -- ty.rs, `ty_prec`: its first `match`, what a type starts with
 unfoldable pub tyHead : ℕ → Prog Rule true
 tyHead k =
@@ -59,21 +82,7 @@ tyHead k =
     (ifKind k SK.TyVar (do
       bump
       done SK.TyVarTy)
-    (ifKind k SK.LCurly (do
-      bump
-      commaSep SK.TyRow SK.RCurly tyRow
-      done SK.RecordTy)
-    (ifKind k SK.LRound (do
-      v ← tySeq
-      ifNone v (do
-        pathMust
-        done SK.ConTy) (do
-          bump
-          done SK.ParenTy))
-    (ifKind k SK.Name (do
-      pathMust
-      done SK.ConTy)
-    (ret 0))))))
+    (tyInner k)))
 
 -- ty.rs, `ty_prec`: the inner loop at `*`, one factor of a tuple type
 unfoldable pub starTurn : Prog Rule true

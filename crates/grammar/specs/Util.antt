@@ -230,8 +230,12 @@ bumpAscription = do
   k ← peek 0
   when (isAscription k) bump
 
+-- util.rs, `lab`: its kinds
+abbrev pub isLabel : ℕ → Bool
+isLabel k = isNameStar k || is k SK.IntLit
+
 -- util.rs, `lab`
 unfoldable pub lab : {g : Bool} → Prog Rule g
 lab = do
   k ← peek 0
-  branch (isNameStar k || is k SK.IntLit) bump (expected EK.Lab)
+  branch (isLabel k) bump (expected EK.Lab)

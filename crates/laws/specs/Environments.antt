@@ -59,7 +59,7 @@ unfolding T.tyMust
 ty-still min = search stills depth 40
 
 ty-scope-still : (min : ℕ) → Still Kind false (T.tyScope min)
-unfolding T.tyScope T.tyHead T.tySeq T.tyStep T.starTurn T.tyRow U.lab T.tyArg U.bumpAscription
+unfolding T.tyScope T.tyHead T.tySeq T.tyStep T.starTurn T.tyRow U.lab T.tyArg U.bumpAscription T.tyInner T.tyRound
 ty-scope-still min = search (stills, eat-still, must-still, end-still, ty-still) depth 60 fits 10000
 
 pat-still : (min : PatPrec) (e : InfixErr) → Still Kind true (P.patMust min e)

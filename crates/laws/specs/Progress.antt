@@ -66,7 +66,7 @@ module _ (ρ : ℕ → ℕ → Rule → World → Out) (grows : Growing ρ) (adv
   ty-step n k min = search (moving, moves-turn, star-takes, must-takes) depth 20
 
   ty-scope : (n : ℕ) (k min : ℕ) → Moves ρ n (T.tyScope min) k Idle
-  unfolding T.tyScope T.tyHead T.tySeq T.tyArg
+  unfolding T.tyScope T.tyHead T.tySeq T.tyArg T.tyInner T.tyRound
   ty-scope n k min = search (moving, must-takes) depth 24
 
   con-path : {g : Bool} (n k : ℕ) (e : InfixErr) (K : ℕ → Type 0) → U.isNameStarEq k ≡ true → Moves {g = g} ρ n (P.conPath e) k K
