@@ -1,3 +1,4 @@
 pub mod Checks
+pub mod Kinds
 pub mod Runs
 pub mod View

@@ -8,7 +8,25 @@ ghost use Rattle.grammar.specs.World.{World, end, report as reports};
 ghost use Rattle.grammar.specs.Prog.{Look as Ask};
 ghost use Rattle.parser.specs.View.{Reads, Logs, Holds, Next, Saw, Is, Marks, Bumps, Adds, Tells, Spells, putAt, refusedBy, kindOf, outState, sinceOf, backOf};
 
+pub mod finding;
+pub mod kind;
 pub mod tokens;
+pub mod util;
+
+// The answers that the operations give.
+pub const TOO_DEEP: u8 = 4;
+
+pub const NO_SCRATCH: u8 = 5;
+
+pub const NO_FINDINGS: u8 = 7;
+
+// The name of a finding that carries none.
+pub const NO_NAME: usize = 65535;
+
+// The tags of the log's records: a token that was read, a node that ended.
+const TOOK: u8 = 1;
+
+const ENDED: u8 = 2;
 
 // Where a reading stands: the next token that is no trivia and the count of records, the log's records, the scratch records used of the
 // room, the findings held of those that fit, the fixities in force, the mode, and the refusal (0: none).
@@ -72,7 +90,7 @@ impl State {
             return self;
         }
         if self.room <= self.used {
-            return self.refuse(5);
+            return self.refuse(NO_SCRATCH);
         }
         let mut s = self;
         s.used = self.used + 1;
@@ -142,7 +160,7 @@ pub fn next_live(toks: &[u8], count: usize, from: usize) -> usize
 {
     let mut i = from;
     while i < count {
-        if toks[5 * i] != 68 {
+        if toks[5 * i] != kind::TRIVIA {
             return i;
         }
         i += 1;
@@ -211,9 +229,9 @@ pub fn bump(toks: &[u8], scratch: &mut [u8], s: State) -> State
         return s;
     }
     if s.room <= s.used {
-        return s.refuse(5);
+        return s.refuse(NO_SCRATCH);
     }
-    put(scratch, s.len, 1, toks[5 * at], at);
+    put(scratch, s.len, TOOK, toks[5 * at], at);
     let mut r = s;
     r.at = next_live(toks, s.count, at + 1);
     r.len = s.len + 1;
@@ -230,9 +248,9 @@ pub fn close(scratch: &mut [u8], kind: u8, b: usize, s: State) -> State
         return s;
     }
     if s.room <= s.used {
-        return s.refuse(5);
+        return s.refuse(NO_SCRATCH);
     }
-    put(scratch, s.len, 2, kind, b);
+    put(scratch, s.len, ENDED, kind, b);
     let mut r = s;
     r.len = s.len + 1;
     r.used = s.used + 1;
@@ -248,7 +266,7 @@ pub fn report(finds: &mut [u8], number: u8, detail: u8, name: usize, s: State) -
         return s;
     }
     if s.kept <= s.found {
-        return s.refuse(7);
+        return s.refuse(NO_FINDINGS);
     }
     put(finds, s.found, number, detail, s.at + 65536 * name);
     let mut r = s;
@@ -261,7 +279,7 @@ pub fn index(s: State) -> usize
     ensures { λ r. ⌜ Spells s r ⌝ }
 {
     if s.stop != 0 {
-        return 65535;
+        return NO_NAME;
     }
-    if s.at < s.count { s.at } else { 65535 }
+    if s.at < s.count { s.at } else { NO_NAME }
 }
