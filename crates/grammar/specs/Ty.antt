@@ -95,27 +95,37 @@ starTurn = do
       close SK.StarTy))
     ret 1) (ret 0)
 
+-- ty.rs, `ty_prec`: the arms of its loop, each behind `precede`: an arrow,
+unfoldable pub tyArrow : {g : Bool} → Prog Rule g
+tyArrow = marked (do
+  bump
+  tyMust Arrow
+  close SK.FnTy)
+
+-- the factors of a tuple,
+unfoldable pub tyTuple : {g : Bool} → Prog Rule g
+tyTuple = marked (do
+  loop starTurn
+  close SK.TupleTy)
+
+-- a constructor
+unfoldable pub tyCon : {g : Bool} → Prog Rule g
+tyCon = marked (do
+  pathMust
+  close SK.OneArgConTy)
+
 -- ty.rs, `ty_prec`: one turn of its loop
 unfoldable pub tyStep : ℕ → Prog Rule false
 tyStep min = do
   k ← peek 0
-  ifKind k SK.MinusGt
-      (branch (ltb Arrow min) (ret 0) (do
-        marked (do
-          bump
-          tyMust Arrow
-          close SK.FnTy)
-        ret 1))
-      (ifKind k SK.Star
-      (branch (ltb Star min) (ret 0) (do
-        marked (do
-          loop starTurn
-          close SK.TupleTy)
+  ifKind k SK.MinusGt (branch (ltb Arrow min) (ret 0) (do
+    tyArrow
+    ret 1))
+      (ifKind k SK.Star (branch (ltb Star min) (ret 0) (do
+        tyTuple
         ret 1))
       (ifKind k SK.Name (do
-        marked (do
-          pathMust
-          close SK.OneArgConTy)
+        tyCon
         ret 1)
       (ret 0)))
 

@@ -73,21 +73,25 @@ maybeSemiSep wrap f = do
     loop (semiTurn wrap f)
     ret 1)
 
--- util.rs, `end_sep`: one turn of its loop
+-- util.rs, `end_sep`: what stands in one turn, and its separator; 1 where there was one
+unfoldable pub endItem : {g : Bool} → ℕ → ℕ → Prog Rule true → Prog Rule g
+endItem wrap sep f = marked (from (do
+  f
+  k ← peek 0
+  saw ← ifKind k sep (do
+    bump
+    ret 1) (ret 0)
+  close wrap
+  ret saw))
+
+-- util.rs, `end_sep`: one turn
 unfoldable pub endTurn : {g : Bool} → ℕ → ℕ → ℕ → Prog Rule true → Prog Rule g
 endTurn wrap sep end f = do
   k ← peek 0
   ifKind k end (do
     bump
     ret 0) (do
-      saw ← marked (from (do
-        f
-        k ← peek 0
-        saw ← ifKind k sep (do
-          bump
-          ret 1) (ret 0)
-        close wrap
-        ret saw))
+      saw ← endItem wrap sep f
       ifNone saw (do
         eat end
         ret 0) (ret 1))

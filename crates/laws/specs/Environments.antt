@@ -47,7 +47,7 @@ no-infix-still = search (stills, must-still) depth 40
 
 -- a list is still where what it lists is
 end-still : {g : Bool} (wrap sep end : ℕ) (f : Prog Rule true) → Still Kind true f → Still Kind g (U.endSep wrap sep end f)
-unfolding U.endSep U.endTurn
+unfolding U.endSep U.endTurn U.endItem
 end-still wrap sep end f h = search (stills, eat-still) depth 40
 
 many-still : {g : Bool} (sep wrap : ℕ) (f : Prog Rule true) → Still Kind true f → Still Kind g (U.manySep sep wrap f)
@@ -59,7 +59,7 @@ unfolding T.tyMust
 ty-still min = search stills depth 40
 
 ty-scope-still : (min : ℕ) → Still Kind false (T.tyScope min)
-unfolding T.tyScope T.tyHead T.tySeq T.tyStep T.starTurn T.tyRow U.lab T.tyArg U.bumpAscription T.tyInner T.tyRound
+unfolding T.tyScope T.tyHead T.tySeq T.tyStep T.starTurn T.tyRow U.lab T.tyArg U.bumpAscription T.tyInner T.tyRound T.tyArrow T.tyTuple T.tyCon
 ty-scope-still min = search (stills, eat-still, must-still, end-still, ty-still) depth 60 fits 10000
 
 pat-still : (min : PatPrec) (e : InfixErr) → Still Kind true (P.patMust min e)

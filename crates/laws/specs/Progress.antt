@@ -46,7 +46,7 @@ module _ (ρ : ℕ → ℕ → Rule → World → Out) (grows : Growing ρ) (adv
 
   -- a turn goes on only behind a separator, whatever f does
   end-turn : {g : Bool} (n : ℕ) (wrap sep end : ℕ) (f : Prog Rule true) (k : ℕ) → Moves {g = g} ρ n (U.endTurn wrap sep end f) k Idle
-  unfolding U.endTurn U.eat
+  unfolding U.endTurn U.eat U.endItem
   end-turn n wrap sep end f k = search (moving, opaque f) depth 40 fits 10000
 
   many-turn : {g : Bool} (n : ℕ) (sep wrap : ℕ) (f : Prog Rule true) (k : ℕ) → Moves {g = g} ρ n (U.manyTurn sep wrap f) k Idle
@@ -62,7 +62,7 @@ module _ (ρ : ℕ → ℕ → Rule → World → Out) (grows : Growing ρ) (adv
   star-takes n k K z = search moving depth 14
 
   ty-step : (n : ℕ) (k min : ℕ) → Moves ρ n (T.tyStep min) k Idle
-  unfolding T.tyStep
+  unfolding T.tyStep T.tyArrow T.tyTuple T.tyCon
   ty-step n k min = search (moving, moves-turn, star-takes, must-takes) depth 20
 
   ty-scope : (n : ℕ) (k min : ℕ) → Moves ρ n (T.tyScope min) k Idle

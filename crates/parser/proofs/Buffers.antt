@@ -12,6 +12,7 @@ use lib.Seq.{sets, length-sets, getD-set-same, getD-set-other}
 use Rattle.grammar.specs.Tokens.{Token, live, kindAt, textAt}
 use Rattle.grammar.specs.SyntaxKind as SK
 use Rattle.parser.specs.View.{chunks, chunkSize, bytesOf, putAt}
+use Rattle.parser.specs.Texts.{tokenAt}
 
 -- ---- a run of stores
 
@@ -68,9 +69,6 @@ module _ {X : Type 0} (f : ℕ → ℕ → ℕ → X) where
       (cc (chunks-same ys xs n (put-below xs n tag kind v), four-bytes v small, add-zero (8 * n), b 0 (lit< tt), b 1 (lit< tt), b 2 (lit< tt), b 3 (lit< tt), b 4 (lit< tt), b 5 (lit< tt)))
 
 -- ---- the next token
-
-abbrev pub tokenAt : List ℕ → List ℕ → ℕ → Token
-tokenAt text toks i = record { index = i; kind = kindAt toks i; text = textAt text toks i }
 
 pub live-none : (text toks : List ℕ) (n i : ℕ) → n ≤ i → live text toks (n - i) i ≡ []
 unfolding live

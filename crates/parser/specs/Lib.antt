@@ -1,4 +1,6 @@
+pub mod Backs
 pub mod Checks
 pub mod Kinds
 pub mod Runs
+pub mod Texts
 pub mod View

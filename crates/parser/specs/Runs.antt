@@ -57,7 +57,7 @@ pub record Always {g : Bool} (p : Prog Rule g) (m m' : Mem) (v : ℕ) : Type 0 w
 pub kept-same : {x t e j l f x' t' e' l' f' : List ℕ} {s s' : State} → s' .fixes ≡ s .fixes → Kept (mem x t e j l f s) (mem x' t' e' j l' f' s')
 kept-same q = record { grows = omega arith; bytes = λ i h. refl }
 
-kept-next : {a b c : Mem} → Kept a b → Kept b c → Kept a c
+pub kept-next : {a b c : Mem} → Kept a b → Kept b c → Kept a c
 kept-next p q = record {
   grows = let l = p .grows in let m = q .grows in omega arith;
   bytes = λ i h. q .bytes i (let l = p .grows in omega arith) ∙ p .bytes i h;
@@ -102,7 +102,7 @@ pub always : {g : Bool} {p : Prog Rule g} {m m' : Mem} {v : ℕ} → Sound m →
 always o f = record { ok = f 0 0 .run o .ok; same = λ n b. f n b .run o .same; kept = f 0 0 .run o .kept }
 
 -- a call that did a program, and what is left
-then-steps : {g h : Bool} {i n b m d : ℕ} {p : Prog Rule g} {f : ℕ → Prog Rule h} {k : Left} {a c e : Mem} {u v : ℕ} → RunsIn n b p a c u → Steps (suc i) m d (f u) k c e v → Steps i n b p (then m d f k) a e v
+pub then-steps : {g h : Bool} {i n b m d : ℕ} {p : Prog Rule g} {f : ℕ → Prog Rule h} {k : Left} {a c e : Mem} {u v : ℕ} → RunsIn n b p a c u → Steps (suc i) m d (f u) k c e v → Steps i n b p (then m d f k) a e v
 then-steps {m} {d} {f} {k} r s = record {
   run = λ _.
       let q = s .run (r .ok) in
@@ -114,7 +114,7 @@ then-steps {m} {d} {f} {k} r s = record {
 }
 
 -- a call that did a program at its end
-ran : {g : Bool} {n b : ℕ} {p : Prog Rule g} {a c : Mem} {u : ℕ} → RunsIn n b p a c u → Ran n b p done a c u
+pub ran : {g : Bool} {n b : ℕ} {p : Prog Rule g} {a c : Mem} {u : ℕ} → RunsIn n b p a c u → Ran n b p done a c u
 ran r = record { ok = r .ok; same = r .same; kept = r .kept }
 
 ends : {g : Bool} {i n b : ℕ} {p : Prog Rule g} {a c : Mem} {u : ℕ} → RunsIn n b p a c u → Steps i n b p done a c u
@@ -223,7 +223,7 @@ step-call {n} {b} {r} {k} {a} s = record {
 }
 
 -- a reading that was refused
-shut : (m : Mem) → eqb (m .state .stop) 0 ≡ false → seenIn m ≡ refused (m .state .stop) (m .state .len)
+pub shut : (m : Mem) → eqb (m .state .stop) 0 ≡ false → seenIn m ≡ refused (m .state .stop) (m .state .len)
 unfolding seenIn
 shut m e = rw (e, seenIn)
 

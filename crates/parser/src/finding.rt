@@ -6,6 +6,8 @@ pub const LAB: u8 = 2;
 
 pub const PATH: u8 = 4;
 
+pub const TY: u8 = 7;
+
 pub const KIND_BASE: u8 = 128;
 
 // a token of kind Name

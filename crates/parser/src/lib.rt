@@ -10,6 +10,7 @@ ghost use Rattle.parser.specs.View.{Reads, Logs, Holds, Next, Saw, Is, M
 
 pub mod finding;
 pub mod kind;
+pub mod names;
 pub mod tokens;
 pub mod util;
 

@@ -1,9 +1,9 @@
 // The lent text and token records: the tests behind the answers 1 and 2, and the text of a token.
+use sml_fixity::table::pair;
 ghost use mathlib.Core.Path.{_≡_};
 ghost use Prim.Native.Nat.{_+_, _*_, _≤_};
 ghost use mathlib.Core.Bool.{_&&_};
 ghost use lib.ListN.{length};
-ghost use Rattle.grammar.specs.Bytes.{pairAt};
 ghost use Rattle.grammar.specs.Tokens.{endAt, endBefore, recordCount, listsFit, recordFits, recordsFit, tokenPart, tokenText};
 ghost use Rattle.grammar.specs.Read.{settingsFit};
 ghost use Rattle.parser.specs.Checks.{settings, standsAt, Lies};
@@ -35,14 +35,6 @@ pub fn settings_fit(text: &[u8], toks: &[u8], depth: u64, mode: u64) -> bool
         return false;
     }
     lists_fit(text, toks)
-}
-
-// The number in two bytes.
-fn pair(b: &[u8], i: usize) -> u16
-    requires { ⌜ i + 2 ≤ length (now b) ⌝ }
-    ensures { λ r. ⌜ r ≡ pairAt (now (b .entry)) i ⌝ }
-{
-    (b[i] as u16) + 256 * (b[i + 1] as u16)
 }
 
 // Where the record `i` ends in the text, in a type that its start and its length cannot wrap.

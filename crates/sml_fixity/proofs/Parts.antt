@@ -14,7 +14,7 @@ use Rattle.sml_fixity.specs.Table.{part}
 pub part-length : (a : List ℕ) (i m : ℕ) → i + m ≤ length a → length (part a i m) ≡ m
 part-length a i m h = simp (length-take, length-drop) (omega arith)
 
-part-cons : (a : List ℕ) (i m k : ℕ) → k < m → i + m ≤ length a → part a (i + k) (m - k) ≡ getD a (i + k) 0 ∷ part a (i + (k + 1)) (m - (k + 1))
+pub part-cons : (a : List ℕ) (i m k : ℕ) → k < m → i + m ≤ length a → part a (i + k) (m - k) ≡ getD a (i + k) 0 ∷ part a (i + (k + 1)) (m - (k + 1))
 part-cons a i m k p h =
     let e : m - k ≡ suc (m - (k + 1)) = omega arith in
     let f : i + (k + 1) ≡ suc (i + k) = omega arith in

@@ -48,7 +48,7 @@ pub fn leave(old: Table, now: Table) -> Table
 }
 
 // Whether `m` bytes of `a` from `i` on are the `n` bytes of `b` from `j` on.
-fn same(a: &[u8], i: usize, m: usize, b: &[u8], j: usize, n: usize) -> bool
+pub fn same(a: &[u8], i: usize, m: usize, b: &[u8], j: usize, n: usize) -> bool
     requires { ⌜ (i + m ≤ length (now a)) × (j + n ≤ length (now b)) ⌝ }
     ensures { λ r. ⌜ r ≡ bytes.same (part (now (a .entry)) i m) (part (now (b .entry)) j n) ⌝ }
 {
@@ -66,7 +66,7 @@ fn same(a: &[u8], i: usize, m: usize, b: &[u8], j: usize, n: usize) -> bool
 }
 
 // The number in two bytes.
-fn pair(b: &[u8], i: usize) -> u16
+pub fn pair(b: &[u8], i: usize) -> u16
     requires { ⌜ i + 2 ≤ length (now b) ⌝ }
     ensures { λ r. ⌜ r ≡ bytes.pairAt (now (b .entry)) i ⌝ }
 {
