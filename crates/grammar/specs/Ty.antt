@@ -84,15 +84,19 @@ tyHead k =
       done SK.TyVarTy)
     (tyInner k)))
 
--- ty.rs, `ty_prec`: the inner loop at `*`, one factor of a tuple type
+-- ty.rs, `ty_prec`: one factor of a tuple type
+unfoldable pub starFactor : Prog Rule true
+starFactor = marked (from (do
+  bump
+  tyMust App
+  close SK.StarTy))
+
+-- ty.rs, `ty_prec`: one turn of the inner loop at `*`
 unfoldable pub starTurn : Prog Rule true
 starTurn = do
   k ← peek 0
   ifKind k SK.Star (do
-    marked (from (do
-      bump
-      tyMust App
-      close SK.StarTy))
+    starFactor
     ret 1) (ret 0)
 
 -- ty.rs, `ty_prec`: the arms of its loop, each behind `precede`: an arrow,
@@ -139,9 +143,9 @@ tyScope min = do
       loop (tyStep min)
       ret 1))
 
--- ty.rs, `ty_var_seq`
-unfoldable pub tyVarSeq : {g : Bool} → Prog Rule g
-tyVarSeq = marked (from (do
+-- ty.rs, `ty_var_seq`: one type variable, or several in parentheses, in the node's scope
+unfoldable pub tyVars : Prog Rule true
+tyVars = do
   k ← peek 0
   k1 ← peek 1
   ifKind k SK.TyVar (do
@@ -153,7 +157,11 @@ tyVarSeq = marked (from (do
         bump
         commaSep SK.TyVarArg SK.RRound (eat SK.TyVar)
         done SK.TyVarSeq)
-      (ret 0))))
+      (ret 0))
+
+-- ty.rs, `ty_var_seq`
+unfoldable pub tyVarSeq : {g : Bool} → Prog Rule g
+tyVarSeq = marked (from tyVars)
 
 -- ty.rs, `of_ty`
 unfoldable pub ofTy : {g : Bool} → Prog Rule g

@@ -59,7 +59,7 @@ unfolding T.tyMust
 ty-still min = search stills depth 40
 
 ty-scope-still : (min : ℕ) → Still Kind false (T.tyScope min)
-unfolding T.tyScope T.tyHead T.tySeq T.tyStep T.starTurn T.tyRow U.lab T.tyArg U.bumpAscription T.tyInner T.tyRound T.tyArrow T.tyTuple T.tyCon
+unfolding T.tyScope T.tyHead T.tySeq T.tyStep T.starTurn T.tyRow U.lab T.tyArg U.bumpAscription T.tyInner T.tyRound T.tyArrow T.tyTuple T.tyCon T.starFactor
 ty-scope-still min = search (stills, eat-still, must-still, end-still, ty-still) depth 60 fits 10000
 
 pat-still : (min : PatPrec) (e : InfixErr) → Still Kind true (P.patMust min e)
@@ -121,7 +121,7 @@ unfolding D.strScope D.strHead D.appArg D.strStep D.ascriptionTail D.sigMust
 str-scope-still = search (stills, eat-still, must-still) depth 60 fits 10000
 
 var-seq-still : {g : Bool} → Still Kind g T.tyVarSeq
-unfolding T.tyVarSeq
+unfolding T.tyVarSeq T.tyVars
 var-seq-still = search (stills, end-still, eat-still) depth 40
 
 sig-scope-still : Still Kind false D.sigScope

@@ -54,11 +54,11 @@ module _ (ρ : ℕ → ℕ → Rule → World → Out) (grows : Growing ρ) (adv
   many-turn n sep wrap f k = search (moving, opaque f) depth 16
 
   star-turn : (n : ℕ) (k : ℕ) → Moves ρ n T.starTurn k Idle
-  unfolding T.starTurn T.tyMust
+  unfolding T.starTurn T.tyMust T.starFactor
   star-turn n k = search moving depth 14
 
   star-takes : (n k : ℕ) (K : ℕ → Type 0) → U.is k SK.Star ≡ true → Moves ρ n T.starTurn k K
-  unfolding T.starTurn T.tyMust
+  unfolding T.starTurn T.tyMust T.starFactor
   star-takes n k K z = search moving depth 14
 
   ty-step : (n : ℕ) (k min : ℕ) → Moves ρ n (T.tyStep min) k Idle
