@@ -19,7 +19,7 @@ use Rattle.laws.specs.Choice.{if-both}
 use Rattle.laws.specs.Grows.{Grew, Longer, eval-grows, rule-grows}
 use Rattle.sml_fixity.specs.Table.{Stands, changeSize, entriesIn, inForce}
 use Rattle.sml_fixity.specs.Names.{by-test}
-use Rattle.sml_fixity.proofs.Journals.{force-kept}
+use Rattle.sml_fixity.proofs.Journals.{force-kept, journal-kept}
 use Rattle.parser.specs.View.{Mem, mem, Sound, seenIn, nowOf, chunks, recOf, findOf, Kept, outState, outVal, sinceOf, backOf, tableIn, restOf}
 use Rattle.parser.specs.Runs.{RunsIn, Runs, Left, Nth, Steps, then-steps, ran, runs-in, shut, length-chunks}
 use Rattle.parser.specs.Runs.Left.{done, then}
@@ -84,14 +84,7 @@ module _ {x t e j l f j' l' f' : List ℕ} {s s' : State} (k : Kept (mem x t e j
       → Stands x e j' (record { len = s .fixes; entries = s .entries; changes = n })
   stands-back n p q h m = record {
     form = p .form;
-    records = record {
-      fits = let y = p .records .few in let z = q .room in omega arith;
-      few = p .records .few;
-      inside = λ i h.
-          rw (k .bytes (changeSize * i) (omega arith), k .bytes (changeSize * i + 1) (omega arith), k .bytes (changeSize * i + 2) (omega arith), k .bytes (changeSize * i + 2 + 1) (omega arith))
-          (p .records .inside i h);
-      kinds = λ i h. rw (k .bytes (changeSize * i + 4 + 2) (omega arith)) (p .records .kinds i h);
-    };
+    records = journal-kept x j j' (s .fixes) (k .bytes) (let y = p .records .few in let z = q .room in omega arith) (p .records);
     counted = p .counted ∙ ap length (sym same-force);
     few = p .few;
     begun = h;

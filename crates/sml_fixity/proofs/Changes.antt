@@ -20,7 +20,7 @@ use Rattle.sml_fixity.specs.declared.table.Table.{Table}
 use Rattle.sml_fixity.specs.Entries.{Sorted, count, length-remove, length-changed}
 use Rattle.sml_fixity.specs.EnvBytes.{both, sorted-env}
 use Rattle.sml_fixity.specs.Fix.{assocOf, fixityOf}
-use Rattle.sml_fixity.specs.Table.{changeSize, nonfix, part, startAt, lengthAt, whatAt, fixBy, inForce, Journal, entriesIn, tableOf, Stands, fitsIn, whatOf, precOf, putAt, allowed, Made, Refused}
+use Rattle.sml_fixity.specs.Table.{changeSize, nonfix, part, startAt, lengthAt, whatAt, nameAt, fixBy, fixAt, inForce, Short, Journal, entriesIn, tableOf, Stands, fitsIn, whatOf, precOf, putAt, allowed, Made, Refused}
 use Rattle.sml_fixity.proofs.Parts.{part-length}
 use Rattle.sml_fixity.proofs.Journals.{sorted-force, force-kept, journal-kept}
 use Rattle.sml_fixity.proofs.Stores.{put-length, put-below, put-start, put-len, put-prec, put-what}
@@ -54,6 +54,11 @@ few : (c : Option Infix) (x : List ℕ) (es : List Entry) (n k : ℕ) → length
 few none x es n k h e f = omega (arith, length-remove x es)
 few (some i) x es n k h e f = leb-true k maxEntries (both (leb n maxName) (leb k maxEntries) f .1)
 
+-- and its name is short
+short : (c : Option Infix) (x : List ℕ) (n k : ℕ) → length x ≡ n → fitsIn c n k ≡ true → Short x c
+short none x n k e f = tt
+short (some i) x n k e f = rw e (leb-true n maxName (both (leb n maxName) (leb k maxEntries) f .0))
+
 module _ (text env journal : List ℕ) (t : Table) (start len : ℕ) (f : Fixity) (st : Stands text env journal t) (inside : start + len ≤ length text) where
   sorted : Sorted (tableOf text env journal t)
   sorted = sorted-force text (entriesIn env) journal (sorted-env env (entriesIn env) (st .form)) (t .len)
@@ -77,18 +82,27 @@ module _ (text env journal : List ℕ) (t : Table) (start len : ℕ) (f : Fixity
     room : changeSize * t .len + 8 ≤ length journal
     room = omega arith
 
-    records : Journal text (putAt journal (t .len) start len (fixityOf f)) (t .len + 1)
-    records =
+    -- the new record's name and fixity
+    name-is : nameAt text (putAt journal (t .len) start len (fixityOf f)) (t .len) ≡ part text start len
+    name-is = cc (put-start journal (t .len) start len (fixityOf f) room (omega arith), put-len journal (t .len) start len (fixityOf f) room (omega arith))
+
+    fix-is : precOf (fixityOf f) ≤ 65535 → fixAt (putAt journal (t .len) start len (fixityOf f)) (t .len) ≡ fixityOf f
+    fix-is p = cc (put-prec journal (t .len) start len (fixityOf f) room p, put-what journal (t .len) start len (fixityOf f) room, fix-back f)
+
+    records : fitsIn (fixityOf f) len k ≡ true → precOf (fixityOf f) ≤ 65535 → Journal text (putAt journal (t .len) start len (fixityOf f)) (t .len + 1)
+    records e p =
         let n = t .len in
         let j = putAt journal n start len (fixityOf f) in
         let l = put-length journal n start len (fixityOf f) in
-        let r = journal-kept text journal j n (put-below journal n start len (fixityOf f)) l (st .records) in
+        let r = journal-kept text journal j n (put-below journal n start len (fixityOf f)) (let f = st .records .fits in omega arith) (st .records) in
         record {
           fits = omega (arith, l, room);
           few = omega (arith, st .begun);
           inside = below-more (λ i. startAt j i + lengthAt j i ≤ length text) n (r .inside)
               (rw (put-start journal n start len (fixityOf f) room (omega arith), put-len journal n start len (fixityOf f) room (omega arith)) inside);
           kinds = below-more (λ i. whatAt j i ≤ nonfix) n (r .kinds) (rw (put-what journal n start len (fixityOf f) room) (what-small f));
+          named = below-more (λ i. Short (nameAt text j i) (fixAt j i)) n (r .named)
+              (rw (name-is, fix-is p) (short (fixityOf f) (part text start len) len k (part-length text start len inside) e));
         }
 
     means : precOf (fixityOf f) ≤ 65535 → inForce text (entriesIn env) (putAt journal (t .len) start len (fixityOf f)) (t .len + 1) ≡ changed (fixityOf f) (part text start len) (tableOf text env journal t)
@@ -97,7 +111,7 @@ module _ (text env journal : List ℕ) (t : Table) (start len : ℕ) (f : Fixity
         let n = t .len in
         let j = putAt journal n start len (fixityOf f) in
         rw (add-one n)
-        (cc (put-start journal n start len (fixityOf f) room (omega arith), put-len journal n start len (fixityOf f) room (omega arith), put-prec journal n start len (fixityOf f) room p, put-what journal n start len (fixityOf f) room, fix-back f, force-kept text journal j n (put-below journal n start len (fixityOf f)) (entriesIn env) n (omega arith)))
+        (cc (name-is, fix-is p, force-kept text journal j n (put-below journal n start len (fixityOf f)) (entriesIn env) n (omega arith)))
 
     pub made : {j : List ℕ} → fitsIn (fixityOf f) len k ≡ true → precOf (fixityOf f) ≤ 65535 → j ≡ putAt journal (t .len) start len (fixityOf f) → Made text env journal t (part text start len) (fixityOf f) j (record { len = t .len + 1; entries = k; changes = t .changes + 1 })
     made h p e =
@@ -106,7 +120,7 @@ module _ (text env journal : List ℕ) (t : Table) (start len : ℕ) (f : Fixity
           may = may-is ∙ h;
           stands = record {
             form = st .form;
-            records = records;
+            records = records h p;
             counted = sym k-is ∙ rw (means p);
             few = few (fixityOf f) (part text start len) (tableOf text env journal t) len k (omega (arith, st .counted, st .few)) k-is h;
             begun = omega (arith, st .begun);

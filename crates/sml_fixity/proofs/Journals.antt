@@ -1,15 +1,15 @@
 -- The environment in force after a number of changes: its order, and what it says of a name.
 use Prim.Native.Nat.{ℕ, zero, suc, _+_, _*_, _≤_, _<_}
 use native.Mathlib.Omega.{arith}
-use mathlib.Core.Path.{_≡_, refl}
+use mathlib.Core.Path.{_≡_, refl, _∙_}
 use mathlib.Core.List.{List}
 use mathlib.Core.Bool.{true, false}
 use lib.ListN.{length, getD}
 use Rattle.grammar.specs.Bytes.{same, pairAt}
 use Rattle.grammar.specs.Env.{Entry, find}
-use Rattle.sml_fixity.specs.Names.{same-eq}
+use Rattle.sml_fixity.specs.Names.{by-test, same-eq}
 use Rattle.sml_fixity.specs.Entries.{Sorted, sorted-changed, changed-same, changed-other}
-use Rattle.sml_fixity.specs.Table.{changeSize, startAt, lengthAt, whatAt, nameAt, fixAt, inForce, Journal}
+use Rattle.sml_fixity.specs.Table.{changeSize, startAt, lengthAt, whatAt, nameAt, fixAt, inForce, Short, Journal}
 
 module _ (text : List ℕ) (es : List Entry) (journal : List ℕ) (sorted : Sorted es) where
   pub sorted-force : (n : ℕ) → Sorted (inForce text es journal n)
@@ -25,6 +25,20 @@ module _ (text : List ℕ) (es : List Entry) (journal : List ℕ) (sorted : Sort
   pub passed : (x : List ℕ) (i n : ℕ) → n ≡ suc i → same x (nameAt text journal i) ≡ false → find x (inForce text es journal n) ≡ find x (inForce text es journal i)
   unfolding inForce
   passed x i n e s = rw e (changed-other (fixAt journal i) x (nameAt text journal i) (inForce text es journal i) s)
+
+  -- a name that is no change's
+  pub untouched : (x : List ℕ) (n : ℕ) → ((i : ℕ) → i < n → same x (nameAt text journal i) ≡ false) → find x (inForce text es journal n) ≡ find x es
+  unfolding inForce
+  untouched x zero f = refl
+  untouched x (suc n) f = passed x n (suc n) refl (f n (omega arith)) ∙ untouched x n (λ i h. f i (omega arith))
+
+  -- a name in force has a length of one byte
+  pub short-force : ((x : List ℕ) → Short x (find x es)) → (n : ℕ) → ((i : ℕ) → i < n → Short (nameAt text journal i) (fixAt journal i)) → (x : List ℕ) → Short x (find x (inForce text es journal n))
+  unfolding inForce
+  short-force e zero f x = e x
+  short-force e (suc n) f x =
+      by-test (same x (nameAt text journal n)) (λ s. rw (found x n (suc n) refl s, same-eq x (nameAt text journal n) s) (f n (omega arith)))
+      (λ s. rw (passed x n (suc n) refl s) (short-force e n (λ i h. f i (omega arith)) x))
 
 -- ---- two journals with the same first n records
 
@@ -47,10 +61,11 @@ module _ (text j j' : List ℕ) (n : ℕ) (agree : (i : ℕ) → i < changeSize 
   force-kept es (suc k) h =
       cc (force-kept es k (omega arith), start-kept k (omega arith), length-kept k (omega arith), what-kept k (omega arith), prec-kept k (omega arith))
 
-  pub journal-kept : length j' ≡ length j → Journal text j n → Journal text j' n
+  pub journal-kept : changeSize * n ≤ length j' → Journal text j n → Journal text j' n
   journal-kept l r = record {
-    fits = omega (arith, r .fits);
+    fits = l;
     few = r .few;
     inside = λ i h. rw (start-kept i h, length-kept i h) (r .inside i h);
     kinds = λ i h. rw (what-kept i h) (r .kinds i h);
+    named = λ i h. rw (start-kept i h, length-kept i h, prec-kept i h, what-kept i h) (r .named i h);
   }

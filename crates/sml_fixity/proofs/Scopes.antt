@@ -13,7 +13,7 @@ unfolding inForce
 begins k = record {
   stands = λ text env journal form e short room. record {
     form = form;
-    records = record { fits = omega arith; few = omega arith; inside = λ i h. absurd (omega arith); kinds = λ i h. absurd (omega arith) };
+    records = record { fits = omega arith; few = omega arith; inside = λ i h. absurd (omega arith); kinds = λ i h. absurd (omega arith); named = λ i h. absurd (omega arith) };
     counted = sym e;
     few = omega (arith, env-few env (entriesIn env) form);
     begun = omega arith;
@@ -28,7 +28,7 @@ pub leaves : (old now : Table) → Leaves old now (record { len = old .len; entr
 leaves old now = record {
   stands = λ text env j j' st more few long agree. record {
     form = st .form;
-    records = journal-kept text j j' (old .len) agree long (st .records);
+    records = journal-kept text j j' (old .len) agree (let f = st .records .fits in omega arith) (st .records);
     counted = st .counted ∙ rw (force-kept text j j' (old .len) agree (entriesIn env) (old .len) (le-refl (old .len)));
     few = st .few;
     begun = omega (arith, st .begun);

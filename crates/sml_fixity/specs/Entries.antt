@@ -1,7 +1,7 @@
 -- Lists of entries in the order of their names: what `put` and `remove` do to a look, to the order and to the length.
 use Prim.Native.Nat.{ℕ, _+_, _≤_}
 use native.Mathlib.Omega.{arith}
-use mathlib.Core.Path.{_≡_, refl, sym, _∙_}
+use mathlib.Core.Path.{_≡_, refl}
 use mathlib.Core.List.{List, [], _∷_}
 use mathlib.Core.Option.{Option, none, some}
 use mathlib.Core.Bool.{true, false}
@@ -40,7 +40,7 @@ chain-from y h end = end
 chain-from y {x} h (link {e = e} p c) = link (before-trans y x (e .name) h p) c
 
 -- the name that all others are behind is not among them
-chain-none : (x : List ℕ) (es : List Entry) → Chain x es → find x es ≡ none
+pub chain-none : (x : List ℕ) (es : List Entry) → Chain x es → find x es ≡ none
 unfolding find
 chain-none x [] c = refl
 chain-none x (e ∷ es) (link p c) =
@@ -140,41 +140,12 @@ pub length-changed : (c : Option Infix) (x : List ℕ) (es : List Entry) → Sor
 length-changed none x es h = omega (arith, length-remove x es)
 length-changed (some i) x es h = length-put x i es h
 
--- ---- a sorted list is what its looks find
+-- ---- the first entry, and those behind it
 
-abbrev entry : List ℕ → Infix → Entry
-entry x i = record { name = x; fixity = i }
-
-absent : {A : Type 0} (x : List ℕ) (i : Infix) (es : List Entry) → some i ≡ find x es → Chain x es → A
-absent x i es h c = let z : _≡_ {A = ℕ} 0 1 = cc (chain-none x es c) in absurd (omega arith)
-
-first : (e : Entry) (es : List Entry) → find (e .name) (e ∷ es) ≡ some (e .fixity)
+pub first : (e : Entry) (es : List Entry) → find (e .name) (e ∷ es) ≡ some (e .fixity)
 unfolding find
 first e es = rw (same-refl (e .name), find)
 
-behind : (x : List ℕ) (e : Entry) (es : List Entry) → same x (e .name) ≡ false → find x (e ∷ es) ≡ find x es
+pub behind : (x : List ℕ) (e : Entry) (es : List Entry) → same x (e .name) ≡ false → find x (e ∷ es) ≡ find x es
 unfolding find
 behind x e es h = rw (h, find)
-
-pub sorted-ext : (es fs : List Entry) → Sorted es → Sorted fs → ((x : List ℕ) → find x es ≡ find x fs) → es ≡ fs
-unfolding find
-sorted-ext [] [] p q h = refl
-sorted-ext [] (f ∷ fs) p q h = cc (h (f .name), first f fs)
-sorted-ext (e ∷ es) [] p q h = cc (h (e .name), first e es)
-sorted-ext (e ∷ es) (f ∷ fs) p q h =
-    by-test (same (e .name) (f .name))
-    (λ s.
-    let n : e .name ≡ f .name = same-eq (e .name) (f .name) s in
-    let i : e .fixity ≡ f .fixity = cc (h (e .name), first e es, first f fs) in
-    let t : es ≡ fs =
-    sorted-ext es fs (chain-sorted p) (chain-sorted q)
-    (λ x.
-    by-test (same x (e .name))
-    (λ o. let m : x ≡ e .name = same-eq x (e .name) o in cc (chain-none (e .name) es p, chain-none (f .name) fs q))
-    (λ o. cc (h x, behind x e es o, behind x f fs (rw n at o))))
-    in
-    let g : entry (e .name) (e .fixity) ≡ entry (f .name) (f .fixity) = cc in
-    let d : e ≡ f = g in
-    cc)
-    (λ s. by-test (before (e .name) (f .name)) (λ o. absent (e .name) (e .fixity) (f ∷ fs) (sym (first e es) ∙ h (e .name)) (link o q))
-    (λ o. absent (f .name) (f .fixity) (e ∷ es) (sym (first f fs) ∙ sym (h (f .name))) (link (before-total (e .name) (f .name) s o) p)))

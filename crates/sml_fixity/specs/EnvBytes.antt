@@ -7,15 +7,17 @@ use mathlib.Core.Option.{Option, none, some}
 use mathlib.Core.Bool.{Bool, true, false, _&&_}
 use lib.Dec.{leb}
 use borrow.Author.Tests.{leb-true}
-use lib.ListN.{length, getD, take, drop}
-use Rattle.grammar.specs.Bytes.{before}
-use Rattle.grammar.specs.Env.{Entry, entryIn, entryFits, entriesOf, envOf, Right, maxName, maxEntries}
-use Rattle.sml_fixity.specs.Names.{by-test}
+use lib.ListN.{length, getD, take, drop, length-take}
+use Rattle.grammar.specs.Bytes.{same, before}
+use Rattle.grammar.specs.Env.{Entry, find, entryIn, entryFits, entriesOf, envOf, Right, maxName, maxEntries}
+use Rattle.sml_fixity.specs.Names.{by-test, same-eq}
 use Rattle.sml_fixity.specs.Entries.{Chain, Sorted, chain-sorted}
 use Rattle.sml_fixity.specs.Entries.Chain.{end, link}
+use Rattle.sml_fixity.specs.Table.{Short}
 
 -- an entry whose name is n bytes long and comes behind `last` is whole at the front of the bytes
 pub record Whole (last : List ℕ) (n : ℕ) (bytes : List ℕ) : Type 0 where
+  pub sized : n ≤ maxName
   pub room : n + 3 ≤ length bytes
   pub order : before last (take n bytes) ≡ true
   pub kind : getD bytes (n + 2) 0 ≤ Right
@@ -34,6 +36,7 @@ whole last n bytes h =
     let p = both (sized && room && order) kind h in
     let q = both (sized && room) order (p .0) in
     record {
+      sized = leb-true n maxName (both (leb 1 n) (leb n maxName) (both sized room (q .0) .0) .1);
       room = leb-true (n + 3) (length bytes) (both sized room (q .0) .1);
       order = q .1;
       kind = leb-true (getD bytes (n + 2) 0) Right (p .1);
@@ -90,3 +93,20 @@ entries-few (suc k) last (n ∷ bytes) es h =
 pub env-few : (env : List ℕ) (es : List Entry) → envOf env ≡ some es → length es ≤ maxEntries
 unfolding envOf
 env-few env es h = entries-few maxEntries [] env es h
+
+-- a name that has a fixity in them has a length of one byte
+entries-short : (k : ℕ) (last bytes : List ℕ) (es : List Entry) → entriesOf k last bytes ≡ some es → (x : List ℕ) → Short x (find x es)
+unfolding entriesOf find
+entries-short zero last [] es h x = rw (no-entries zero last es h) tt
+entries-short zero last (n ∷ bytes) es h x = let z : _≡_ {A = ℕ} 0 1 = cc in absurd (omega arith)
+entries-short (suc k) last [] es h x = rw (no-entries (suc k) last es h) tt
+entries-short (suc k) last (n ∷ bytes) es h x =
+    let s = entered k last n bytes es h in
+    rw (s .is)
+    (by-test (same x (take n bytes))
+    (λ e. rw (e, find) (rw (same-eq x (take n bytes) e) (omega (arith, length-take n bytes, s .whole .sized))))
+    (λ e. rw (e, find) (entries-short k (take n bytes) (drop (n + 3) bytes) (s .rest) (s .others) x)))
+
+pub env-short : (env : List ℕ) (es : List Entry) → envOf env ≡ some es → (x : List ℕ) → Short x (find x es)
+unfolding envOf
+env-short env es h x = entries-short maxEntries [] env es h x

@@ -4,4 +4,5 @@ pub mod EnvBytes
 pub mod Fix
 pub mod Form
 pub mod Names
+pub mod Out
 pub mod Table

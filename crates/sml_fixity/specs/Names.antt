@@ -62,6 +62,9 @@ before-trans (a ∷ x) (b ∷ y) (c ∷ z) p q =
     (λ m. let e : a ≡ c = l .0 ∙ m .0 in rw e (behind c x z ∙ before-trans x y z (l .1) (m .1)))
     (order b c y z q)) (order a b x y p)
 
+pub before-asym : (x y : List ℕ) → before x y ≡ true → before y x ≡ false
+before-asym x y p = by-test (before y x) (λ q. cc (before-trans x y x p q, before-irrefl x)) (λ q. q)
+
 pub before-total : (x y : List ℕ) → same x y ≡ false → before x y ≡ false → before y x ≡ true
 unfolding same before
 before-total [] [] p q = cc

@@ -53,12 +53,18 @@ unfoldable pub inForce : List ℕ → List Entry → List ℕ → ℕ → List E
 inForce text es journal zero = es
 inForce text es journal (suc n) = changed (fixAt journal n) (nameAt text journal n) (inForce text es journal n)
 
+-- a name that has a fixity has a length of one byte
+abbrev pub Short : List ℕ → Option Infix → Type 0
+Short x none = Unit
+Short x (some i) = length x ≤ maxName
+
 -- the journal's first n records are whole: each name is within the text
 pub record Journal (text journal : List ℕ) (n : ℕ) : Type 0 where
   pub fits : changeSize * n ≤ length journal
   pub few : n ≤ maxChanges
   pub inside : (i : ℕ) → i < n → startAt journal i + lengthAt journal i ≤ length text
   pub kinds : (i : ℕ) → i < n → whatAt journal i ≤ nonfix
+  pub named : (i : ℕ) → i < n → Short (nameAt text journal i) (fixAt journal i)
 
 -- the entries of an environment's bytes
 abbrev pub entriesIn : List ℕ → List Entry

@@ -76,7 +76,7 @@ fn copy(out: &mut [u8], at: usize, name: &[u8])
 }
 
 // Writes the byte form of an entry.
-fn put_entry(out: &mut [u8], at: usize, name: &[u8], i: Infix)
+pub fn put_entry(out: &mut [u8], at: usize, name: &[u8], i: Infix)
     requires { ⌜ (length (now name) < 256) × (at + length (now name) + 4 ≤ length (now out)) ⌝ }
     ensures { λ _. ⌜ now (out .exit) ≡ sets (now (out .entry)) at (entryBytes (now (name .entry)) (infixOf i)) ⌝ }
 {

@@ -13,7 +13,7 @@ pub enum Form {
 }
 
 // Whether a name comes before another, by bytes; a prefix comes first.
-fn before(a: &[u8], b: &[u8]) -> bool
+pub fn before(a: &[u8], b: &[u8]) -> bool
     ensures { λ r. ⌜ r ≡ before (now (a .entry)) (now (b .entry)) ⌝ }
 {
     let mut i = 0;

@@ -5,6 +5,7 @@ ghost use Rattle.sml_fixity.specs.Fix.{infixOf};
 
 pub mod basis;
 pub mod form;
+pub mod out;
 pub mod table;
 
 // The associativity of an infix name.

@@ -105,10 +105,18 @@ fn look(text: &[u8], env: &[u8], start: usize, len: usize) -> Fixity
     Fixity::Nonfix
 }
 
-// What the table says of a name. From the last change back, since a later change of a name hides the earlier ones; then the starting environment.
-pub fn find(text: &[u8], env: &[u8], journal: &[u8], t: Table, start: usize, len: usize) -> Fixity
-    requires { ⌜ Stands (now text) (now env) (now journal) t × (start + len ≤ length (now text)) ⌝ }
-    ensures { λ r. ⌜ fixityOf r ≡ env_laws.find (part (now (text .entry)) start len) (tableOf (now (text .entry)) (now (env .entry)) (now (journal .entry)) t) ⌝ }
+// What the table says of a name of any text. From the last change back, since a later change of a name hides the earlier ones; then the starting environment.
+pub fn find_name(
+    text: &[u8],
+    env: &[u8],
+    journal: &[u8],
+    t: Table,
+    name: &[u8],
+    start: usize,
+    len: usize,
+) -> Fixity
+    requires { ⌜ Stands (now text) (now env) (now journal) t × (start + len ≤ length (now name)) ⌝ }
+    ensures { λ r. ⌜ fixityOf r ≡ env_laws.find (part (now (name .entry)) start len) (tableOf (now (text .entry)) (now (env .entry)) (now (journal .entry)) t) ⌝ }
 {
     let n = t.len;
     let mut k = 0;
@@ -117,11 +125,19 @@ pub fn find(text: &[u8], env: &[u8], journal: &[u8], t: Table, start: usize, len
         let i = n - k;
         let s = pair(journal, 8 * i) as usize;
         let l = pair(journal, 8 * i + 2) as usize;
-        if same(text, start, len, text, s, l) {
+        if same(name, start, len, text, s, l) {
             return read(journal, 8 * i + 4);
         }
     }
-    look(text, env, start, len)
+    look(name, env, start, len)
+}
+
+// What the table says of a name of the text.
+pub fn find(text: &[u8], env: &[u8], journal: &[u8], t: Table, start: usize, len: usize) -> Fixity
+    requires { ⌜ Stands (now text) (now env) (now journal) t × (start + len ≤ length (now text)) ⌝ }
+    ensures { λ r. ⌜ fixityOf r ≡ env_laws.find (part (now (text .entry)) start len) (tableOf (now (text .entry)) (now (env .entry)) (now (journal .entry)) t) ⌝ }
+{
+    find_name(text, env, journal, t, text, start, len)
 }
 
 // How many entries a fixity takes.

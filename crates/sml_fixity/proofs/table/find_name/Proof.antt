@@ -1,4 +1,4 @@
--- `table::find` meets its contract. The loop's invariant: the name has the fixity that it has without the last `k` changes.
+-- `table::find_name` meets its contract. The loop's invariant: the name has the fixity that it has without the last `k` changes.
 use Prim.Native.Nat.{_+_, _-_, _≤_}
 use native.Mathlib.Nat.{sub-zero}
 use mathlib.Core.Path.{_≡_, sym, _∙_}
@@ -9,20 +9,20 @@ use Rattle.grammar.specs.Env.{find}
 use Rattle.sml_fixity.specs.EnvBytes.{sorted-env}
 use Rattle.sml_fixity.specs.Table.{part, nameAt, inForce, entriesIn}
 use Rattle.sml_fixity.proofs.Journals.{found, passed}
-use Rattle.sml_fixity.proofs.table.find.Statement.{statement}
-use Rattle.sml_fixity.proofs.table.find.Tie as tie
+use Rattle.sml_fixity.proofs.table.find_name.Statement.{statement}
+use Rattle.sml_fixity.proofs.table.find_name.Tie as tie
 
 abbrev Inv-loop : tie.InvT-loop
-Inv-loop text env journal start len n k₀ k =
-    let x = part text start len in
+Inv-loop text env journal name start len n k₀ k =
+    let x = part name start len in
     (k ≤ n) × (find x (inForce text (entriesIn env) journal (n - k)) ≡ find x (inForce text (entriesIn env) journal n))
 
 abbrev μ-loop : tie.MeasureT-loop
-μ-loop text env journal start len n k₀ k = n - k
+μ-loop text env journal name start len n k₀ k = n - k
 
 -- the start, from the loop's head
 abbrev start : tie.At-loop Inv-loop μ-loop → tie.Start Inv-loop μ-loop
-start l = l .before .before .before .before
+start l = l .before .before .before .before .before
 
 loop-holds : tie.Need-loop-holds Inv-loop μ-loop
 loop-holds c = (search needs, simp sub-zero)
@@ -61,7 +61,7 @@ same-requires c κs =
     (search needs, omega (arith, c .pair2 .ensures, c .before .pair .ensures, b .pre .0 .records .inside (b .args .t .len - (l .loop .k + 1)) (omega arith)))
 
 -- what the comparison says of the change's name
-compared : (c : tie.After-same Inv-loop μ-loop) → let l = c .before .before .before .before in let a = start l .args in c .same .result ≡ same (part (a .text .now) (a .start) (a .len)) (nameAt (a .text .now) (a .journal .now) (a .t .len - (l .loop .k + 1)))
+compared : (c : tie.After-same Inv-loop μ-loop) → let l = c .before .before .before .before in let a = start l .args in c .same .result ≡ same (part (a .name .now) (a .start) (a .len)) (nameAt (a .text .now) (a .journal .now) (a .t .len - (l .loop .k + 1)))
 compared c = cc (c .same .ensures, c .before .pair2 .ensures, c .before .before .pair .ensures)
 
 mul-read : tie.Need-mul-read Inv-loop μ-loop
@@ -82,7 +82,7 @@ returns c =
     let b = start l in
     let a = b .args in
     let sorted = sorted-env (a .env .now) (entriesIn (a .env .now)) (b .pre .0 .form) in
-    let f = found (a .text .now) (entriesIn (a .env .now)) (a .journal .now) sorted (part (a .text .now) (a .start) (a .len)) (a .t .len - (l .loop .k + 1)) (a .t .len - l .loop .k) (omega arith)
+    let f = found (a .text .now) (entriesIn (a .env .now)) (a .journal .now) sorted (part (a .name .now) (a .start) (a .len)) (a .t .len - (l .loop .k + 1)) (a .t .len - l .loop .k) (omega arith)
     (sym (compared (c .before .before)) ∙ c .before .if1 .taken) in
     c .read .ensures ∙ sym f ∙ l .loop .inv .1
 
@@ -95,7 +95,7 @@ loop-again c =
     let b = start l in
     let a = b .args in
     let sorted = sorted-env (a .env .now) (entriesIn (a .env .now)) (b .pre .0 .form) in
-    let p = passed (a .text .now) (entriesIn (a .env .now)) (a .journal .now) sorted (part (a .text .now) (a .start) (a .len)) (a .t .len - (l .loop .k + 1)) (a .t .len - l .loop .k) (omega arith)
+    let p = passed (a .text .now) (entriesIn (a .env .now)) (a .journal .now) sorted (part (a .name .now) (a .start) (a .len)) (a .t .len - (l .loop .k + 1)) (a .t .len - l .loop .k) (omega arith)
     (sym (compared (c .before)) ∙ c .if1 .left) in
     (search needs, sym p ∙ l .loop .inv .1)
 
@@ -109,8 +109,8 @@ returns-2 c =
     let z : start l .args .t .len - l .loop .k ≡ 0 = omega arith in
     c .look .ensures ∙ (rw z at (l .loop .inv .1))
 
-pub find-spec : {M : Type 1} → statement M
-find-spec =
+pub find-name-spec : {M : Type 1} → statement M
+find-name-spec =
     tie.close
     (tie.spec
     Inv-loop

@@ -1,0 +1,5932 @@
+use Rattle.grammar.specs.Util as util
+use Rattle.grammar.specs.Ty as types
+use Rattle.grammar.specs.Root as root
+use Rattle.grammar.specs.SyntaxKind as SK
+use Rattle.laws.specs.Progress.{end-turn-advances, star-advances, ty-step-advances}
+use Rattle.parser.specs.View.{mem}
+use Rattle.parser.specs.Runs.{rules, asks, nth, in-steps, by-steps, always, ok-bumps, ok-adds, ok-tells, ok-marks, ok-refused, ok-state, runs-in, Loops, turns, loop-starts, loop-goes, loop-falls, loop-ends}
+use borrow.Author.Needs.{needs}
+use mathlib.Core.Path.{_≡_, refl, _∙_}
+use lib.ListN.{length}
+use Prim.Native.Nat.{_+_, _-_, _*_}
+use mathlib.Core.Bool.{true}
+use Prim.Native.Nat.{ℕ, _<_}
+use borrow.Fn.Kinds.{In}
+use borrow.Fn.PlainCycle.{Measures, is, falls, and}
+use Rattle.ty.proofs.arg_item.Reads as arg-item
+use Rattle.ty.proofs.arg_item.Kinds as arg-item-kinds
+use Rattle.ty.proofs.+arg_item+arg_turn+row_item+row_turn+star_factor+star_tail+star_turn+ty_arg+ty_args+ty_arrow+ty_head+ty_inner+ty_must+ty_prec+ty_round+ty_row+ty_rows+ty_seq+ty_step+ty_tail+ty_tuple.Lts-arg_item as arg-item-lts
+use Rattle.ty.proofs.arg_turn.Reads as arg-turn
+use Rattle.ty.proofs.arg_turn.Kinds as arg-turn-kinds
+use Rattle.ty.proofs.+arg_item+arg_turn+row_item+row_turn+star_factor+star_tail+star_turn+ty_arg+ty_args+ty_arrow+ty_head+ty_inner+ty_must+ty_prec+ty_round+ty_row+ty_rows+ty_seq+ty_step+ty_tail+ty_tuple.Lts-arg_turn as arg-turn-lts
+use Rattle.ty.proofs.row_item.Reads as row-item
+use Rattle.ty.proofs.row_item.Kinds as row-item-kinds
+use Rattle.ty.proofs.+arg_item+arg_turn+row_item+row_turn+star_factor+star_tail+star_turn+ty_arg+ty_args+ty_arrow+ty_head+ty_inner+ty_must+ty_prec+ty_round+ty_row+ty_rows+ty_seq+ty_step+ty_tail+ty_tuple.Lts-row_item as row-item-lts
+use Rattle.ty.proofs.row_turn.Reads as row-turn
+use Rattle.ty.proofs.row_turn.Kinds as row-turn-kinds
+use Rattle.ty.proofs.+arg_item+arg_turn+row_item+row_turn+star_factor+star_tail+star_turn+ty_arg+ty_args+ty_arrow+ty_head+ty_inner+ty_must+ty_prec+ty_round+ty_row+ty_rows+ty_seq+ty_step+ty_tail+ty_tuple.Lts-row_turn as row-turn-lts
+use Rattle.ty.proofs.star_factor.Reads as star-factor
+use Rattle.ty.proofs.star_factor.Kinds as star-factor-kinds
+use Rattle.ty.proofs.+arg_item+arg_turn+row_item+row_turn+star_factor+star_tail+star_turn+ty_arg+ty_args+ty_arrow+ty_head+ty_inner+ty_must+ty_prec+ty_round+ty_row+ty_rows+ty_seq+ty_step+ty_tail+ty_tuple.Lts-star_factor as star-factor-lts
+use Rattle.ty.proofs.star_tail.Reads as star-tail
+use Rattle.ty.proofs.star_tail.Kinds as star-tail-kinds
+use Rattle.ty.proofs.+arg_item+arg_turn+row_item+row_turn+star_factor+star_tail+star_turn+ty_arg+ty_args+ty_arrow+ty_head+ty_inner+ty_must+ty_prec+ty_round+ty_row+ty_rows+ty_seq+ty_step+ty_tail+ty_tuple.Lts-star_tail as star-tail-lts
+use Rattle.ty.proofs.star_turn.Reads as star-turn
+use Rattle.ty.proofs.star_turn.Kinds as star-turn-kinds
+use Rattle.ty.proofs.+arg_item+arg_turn+row_item+row_turn+star_factor+star_tail+star_turn+ty_arg+ty_args+ty_arrow+ty_head+ty_inner+ty_must+ty_prec+ty_round+ty_row+ty_rows+ty_seq+ty_step+ty_tail+ty_tuple.Lts-star_turn as star-turn-lts
+use Rattle.ty.proofs.ty_arg.Reads as ty-arg
+use Rattle.ty.proofs.ty_arg.Kinds as ty-arg-kinds
+use Rattle.ty.proofs.+arg_item+arg_turn+row_item+row_turn+star_factor+star_tail+star_turn+ty_arg+ty_args+ty_arrow+ty_head+ty_inner+ty_must+ty_prec+ty_round+ty_row+ty_rows+ty_seq+ty_step+ty_tail+ty_tuple.Lts-ty_arg as ty-arg-lts
+use Rattle.ty.proofs.ty_args.Reads as ty-args
+use Rattle.ty.proofs.ty_args.Kinds as ty-args-kinds
+use Rattle.ty.proofs.+arg_item+arg_turn+row_item+row_turn+star_factor+star_tail+star_turn+ty_arg+ty_args+ty_arrow+ty_head+ty_inner+ty_must+ty_prec+ty_round+ty_row+ty_rows+ty_seq+ty_step+ty_tail+ty_tuple.Lts-ty_args as ty-args-lts
+use Rattle.ty.proofs.ty_arrow.Reads as ty-arrow
+use Rattle.ty.proofs.ty_arrow.Kinds as ty-arrow-kinds
+use Rattle.ty.proofs.+arg_item+arg_turn+row_item+row_turn+star_factor+star_tail+star_turn+ty_arg+ty_args+ty_arrow+ty_head+ty_inner+ty_must+ty_prec+ty_round+ty_row+ty_rows+ty_seq+ty_step+ty_tail+ty_tuple.Lts-ty_arrow as ty-arrow-lts
+use Rattle.ty.proofs.ty_head.Reads as ty-head
+use Rattle.ty.proofs.ty_head.Kinds as ty-head-kinds
+use Rattle.ty.proofs.+arg_item+arg_turn+row_item+row_turn+star_factor+star_tail+star_turn+ty_arg+ty_args+ty_arrow+ty_head+ty_inner+ty_must+ty_prec+ty_round+ty_row+ty_rows+ty_seq+ty_step+ty_tail+ty_tuple.Lts-ty_head as ty-head-lts
+use Rattle.ty.proofs.ty_inner.Reads as ty-inner
+use Rattle.ty.proofs.ty_inner.Kinds as ty-inner-kinds
+use Rattle.ty.proofs.+arg_item+arg_turn+row_item+row_turn+star_factor+star_tail+star_turn+ty_arg+ty_args+ty_arrow+ty_head+ty_inner+ty_must+ty_prec+ty_round+ty_row+ty_rows+ty_seq+ty_step+ty_tail+ty_tuple.Lts-ty_inner as ty-inner-lts
+use Rattle.ty.proofs.ty_must.Reads as ty-must
+use Rattle.ty.proofs.ty_must.Kinds as ty-must-kinds
+use Rattle.ty.proofs.+arg_item+arg_turn+row_item+row_turn+star_factor+star_tail+star_turn+ty_arg+ty_args+ty_arrow+ty_head+ty_inner+ty_must+ty_prec+ty_round+ty_row+ty_rows+ty_seq+ty_step+ty_tail+ty_tuple.Lts-ty_must as ty-must-lts
+use Rattle.ty.proofs.ty_prec.Reads as ty-prec
+use Rattle.ty.proofs.ty_prec.Kinds as ty-prec-kinds
+use Rattle.ty.proofs.+arg_item+arg_turn+row_item+row_turn+star_factor+star_tail+star_turn+ty_arg+ty_args+ty_arrow+ty_head+ty_inner+ty_must+ty_prec+ty_round+ty_row+ty_rows+ty_seq+ty_step+ty_tail+ty_tuple.Lts-ty_prec as ty-prec-lts
+use Rattle.ty.proofs.ty_round.Reads as ty-round
+use Rattle.ty.proofs.ty_round.Kinds as ty-round-kinds
+use Rattle.ty.proofs.+arg_item+arg_turn+row_item+row_turn+star_factor+star_tail+star_turn+ty_arg+ty_args+ty_arrow+ty_head+ty_inner+ty_must+ty_prec+ty_round+ty_row+ty_rows+ty_seq+ty_step+ty_tail+ty_tuple.Lts-ty_round as ty-round-lts
+use Rattle.ty.proofs.ty_row.Reads as ty-row
+use Rattle.ty.proofs.ty_row.Kinds as ty-row-kinds
+use Rattle.ty.proofs.+arg_item+arg_turn+row_item+row_turn+star_factor+star_tail+star_turn+ty_arg+ty_args+ty_arrow+ty_head+ty_inner+ty_must+ty_prec+ty_round+ty_row+ty_rows+ty_seq+ty_step+ty_tail+ty_tuple.Lts-ty_row as ty-row-lts
+use Rattle.ty.proofs.ty_rows.Reads as ty-rows
+use Rattle.ty.proofs.ty_rows.Kinds as ty-rows-kinds
+use Rattle.ty.proofs.+arg_item+arg_turn+row_item+row_turn+star_factor+star_tail+star_turn+ty_arg+ty_args+ty_arrow+ty_head+ty_inner+ty_must+ty_prec+ty_round+ty_row+ty_rows+ty_seq+ty_step+ty_tail+ty_tuple.Lts-ty_rows as ty-rows-lts
+use Rattle.ty.proofs.ty_seq.Reads as ty-seq
+use Rattle.ty.proofs.ty_seq.Kinds as ty-seq-kinds
+use Rattle.ty.proofs.+arg_item+arg_turn+row_item+row_turn+star_factor+star_tail+star_turn+ty_arg+ty_args+ty_arrow+ty_head+ty_inner+ty_must+ty_prec+ty_round+ty_row+ty_rows+ty_seq+ty_step+ty_tail+ty_tuple.Lts-ty_seq as ty-seq-lts
+use Rattle.ty.proofs.ty_step.Reads as ty-step
+use Rattle.ty.proofs.ty_step.Kinds as ty-step-kinds
+use Rattle.ty.proofs.+arg_item+arg_turn+row_item+row_turn+star_factor+star_tail+star_turn+ty_arg+ty_args+ty_arrow+ty_head+ty_inner+ty_must+ty_prec+ty_round+ty_row+ty_rows+ty_seq+ty_step+ty_tail+ty_tuple.Lts-ty_step as ty-step-lts
+use Rattle.ty.proofs.ty_tail.Reads as ty-tail
+use Rattle.ty.proofs.ty_tail.Kinds as ty-tail-kinds
+use Rattle.ty.proofs.+arg_item+arg_turn+row_item+row_turn+star_factor+star_tail+star_turn+ty_arg+ty_args+ty_arrow+ty_head+ty_inner+ty_must+ty_prec+ty_round+ty_row+ty_rows+ty_seq+ty_step+ty_tail+ty_tuple.Lts-ty_tail as ty-tail-lts
+use Rattle.ty.proofs.ty_tuple.Reads as ty-tuple
+use Rattle.ty.proofs.ty_tuple.Kinds as ty-tuple-kinds
+use Rattle.ty.proofs.+arg_item+arg_turn+row_item+row_turn+star_factor+star_tail+star_turn+ty_arg+ty_args+ty_arrow+ty_head+ty_inner+ty_must+ty_prec+ty_round+ty_row+ty_rows+ty_seq+ty_step+ty_tail+ty_tuple.Lts-ty_tuple as ty-tuple-lts
+use Rattle.parser.proofs.Found.state.Reads as state-reads
+use Rattle.parser.proofs.State.mark.Reads as mark-reads
+use Rattle.parser.proofs.State.refuse.Reads as refuse-reads
+use Rattle.parser.proofs.at.Reads as at-reads
+use Rattle.parser.proofs.bump.Reads as bump-reads
+use Rattle.parser.proofs.close.Reads as close-reads
+use Rattle.parser.proofs.peek.Reads as peek-reads
+use Rattle.parser.proofs.report.Reads as report-reads
+use Rattle.parser.proofs.util.bump_ascription.Reads as bump-ascription-reads
+use Rattle.parser.proofs.util.eat.Reads as eat-reads
+use Rattle.parser.proofs.util.lab.Reads as lab-reads
+use Rattle.parser.proofs.util.path_must.Reads as path-must-reads
+use Rattle.ty.proofs.ty_con.Reads as ty-con-reads
+use Rattle.ty.proofs.+arg_item+arg_turn+row_item+row_turn+star_factor+star_tail+star_turn+ty_arg+ty_args+ty_arrow+ty_head+ty_inner+ty_must+ty_prec+ty_round+ty_row+ty_rows+ty_seq+ty_step+ty_tail+ty_tuple.{
+  statement,
+}
+use Rattle.ty.proofs.+arg_item+arg_turn+row_item+row_turn+star_factor+star_tail+star_turn+ty_arg+ty_args+ty_arrow+ty_head+ty_inner+ty_must+ty_prec+ty_round+ty_row+ty_rows+ty_seq+ty_step+ty_tail+ty_tuple.Tie.{
+  close,
+}
+
+abbrev μ-arg-item : Measures 6 arg-item-kinds.ps ℕ
+μ-arg-item κs a = 32 * a .1 .1 .1 .1 .1 .1 .0 + 5
+
+abbrev μ-arg-turn : Measures 6 arg-turn-kinds.ps ℕ
+μ-arg-turn κs a = 32 * a .1 .1 .1 .1 .1 .1 .0 + 6
+
+abbrev μ-row-item : Measures 6 row-item-kinds.ps ℕ
+μ-row-item κs a = 32 * a .1 .1 .1 .1 .1 .1 .0 + 5
+
+abbrev μ-row-turn : Measures 6 row-turn-kinds.ps ℕ
+μ-row-turn κs a = 32 * a .1 .1 .1 .1 .1 .1 .0 + 6
+
+abbrev μ-star-factor : Measures 6 star-factor-kinds.ps ℕ
+μ-star-factor κs a = 32 * a .1 .1 .1 .1 .1 .1 .0 + 4
+
+abbrev μ-star-tail : Measures 6 star-tail-kinds.ps ℕ
+μ-star-tail κs a = 32 * a .1 .1 .1 .1 .1 .1 .0 + 6
+
+abbrev μ-star-turn : Measures 6 star-turn-kinds.ps ℕ
+μ-star-turn κs a = 32 * a .1 .1 .1 .1 .1 .1 .0 + 5
+
+abbrev μ-ty-arg : Measures 6 ty-arg-kinds.ps ℕ
+μ-ty-arg κs a = 32 * a .1 .1 .1 .1 .1 .1 .0 + 8
+
+abbrev μ-ty-args : Measures 6 ty-args-kinds.ps ℕ
+μ-ty-args κs a = 32 * a .1 .1 .1 .1 .1 .1 .0 + 7
+
+abbrev μ-ty-arrow : Measures 6 ty-arrow-kinds.ps ℕ
+μ-ty-arrow κs a = 32 * a .1 .1 .1 .1 .1 .1 .0
+
+abbrev μ-ty-head : Measures 6 ty-head-kinds.ps ℕ
+μ-ty-head κs a = 32 * a .1 .1 .1 .1 .1 .1 .0 + 12
+
+abbrev μ-ty-inner : Measures 6 ty-inner-kinds.ps ℕ
+μ-ty-inner κs a = 32 * a .1 .1 .1 .1 .1 .1 .0 + 11
+
+abbrev μ-ty-must : Measures 6 ty-must-kinds.ps ℕ
+μ-ty-must κs a = 32 * a .1 .1 .1 .1 .1 .1 .0 + 4
+
+abbrev μ-ty-prec : Measures 6 ty-prec-kinds.ps ℕ
+μ-ty-prec κs a = 32 * a .1 .1 .1 .1 .1 .1 .0 + 3
+
+abbrev μ-ty-round : Measures 6 ty-round-kinds.ps ℕ
+μ-ty-round κs a = 32 * a .1 .1 .1 .1 .1 .1 .0 + 10
+
+abbrev μ-ty-row : Measures 6 ty-row-kinds.ps ℕ
+μ-ty-row κs a = 32 * a .1 .1 .1 .1 .1 .1 .0 + 5
+
+abbrev μ-ty-rows : Measures 6 ty-rows-kinds.ps ℕ
+μ-ty-rows κs a = 32 * a .1 .1 .1 .1 .1 .1 .0 + 7
+
+abbrev μ-ty-seq : Measures 6 ty-seq-kinds.ps ℕ
+μ-ty-seq κs a = 32 * a .1 .1 .1 .1 .1 .1 .0 + 9
+
+abbrev μ-ty-step : Measures 6 ty-step-kinds.ps ℕ
+μ-ty-step κs a = 32 * a .1 .1 .1 .1 .1 .1 .0 + 1
+
+abbrev μ-ty-tail : Measures 6 ty-tail-kinds.ps ℕ
+μ-ty-tail κs a = 32 * a .1 .1 .1 .1 .1 .1 .0 + 2
+
+abbrev μ-ty-tuple : Measures 6 ty-tuple-kinds.ps ℕ
+μ-ty-tuple κs a = 32 * a .1 .1 .1 .1 .1 .1 .0
+
+abbrev arg-item-at : ℕ → In 6 arg-item-kinds.ps
+arg-item-at t = and 6 arg-item-kinds.ps (is 6 arg-item-kinds.ps μ-arg-item t) arg-item.Pre
+
+abbrev arg-item-below : ℕ → In 6 arg-item-kinds.ps
+arg-item-below t =
+    and 6 arg-item-kinds.ps (falls 6 arg-item-kinds.ps _<_ μ-arg-item t) arg-item.Pre
+
+abbrev arg-turn-at : ℕ → In 6 arg-turn-kinds.ps
+arg-turn-at t = and 6 arg-turn-kinds.ps (is 6 arg-turn-kinds.ps μ-arg-turn t) arg-turn.Pre
+
+abbrev arg-turn-below : ℕ → In 6 arg-turn-kinds.ps
+arg-turn-below t =
+    and 6 arg-turn-kinds.ps (falls 6 arg-turn-kinds.ps _<_ μ-arg-turn t) arg-turn.Pre
+
+abbrev row-item-at : ℕ → In 6 row-item-kinds.ps
+row-item-at t = and 6 row-item-kinds.ps (is 6 row-item-kinds.ps μ-row-item t) row-item.Pre
+
+abbrev row-item-below : ℕ → In 6 row-item-kinds.ps
+row-item-below t =
+    and 6 row-item-kinds.ps (falls 6 row-item-kinds.ps _<_ μ-row-item t) row-item.Pre
+
+abbrev row-turn-at : ℕ → In 6 row-turn-kinds.ps
+row-turn-at t = and 6 row-turn-kinds.ps (is 6 row-turn-kinds.ps μ-row-turn t) row-turn.Pre
+
+abbrev row-turn-below : ℕ → In 6 row-turn-kinds.ps
+row-turn-below t =
+    and 6 row-turn-kinds.ps (falls 6 row-turn-kinds.ps _<_ μ-row-turn t) row-turn.Pre
+
+abbrev star-factor-at : ℕ → In 6 star-factor-kinds.ps
+star-factor-at t =
+    and 6 star-factor-kinds.ps (is 6 star-factor-kinds.ps μ-star-factor t) star-factor.Pre
+
+abbrev star-factor-below : ℕ → In 6 star-factor-kinds.ps
+star-factor-below t =
+    and 6 star-factor-kinds.ps (falls 6 star-factor-kinds.ps _<_ μ-star-factor t) star-factor.Pre
+
+abbrev star-tail-at : ℕ → In 6 star-tail-kinds.ps
+star-tail-at t = and 6 star-tail-kinds.ps (is 6 star-tail-kinds.ps μ-star-tail t) star-tail.Pre
+
+abbrev star-tail-below : ℕ → In 6 star-tail-kinds.ps
+star-tail-below t =
+    and 6 star-tail-kinds.ps (falls 6 star-tail-kinds.ps _<_ μ-star-tail t) star-tail.Pre
+
+abbrev star-turn-at : ℕ → In 6 star-turn-kinds.ps
+star-turn-at t = and 6 star-turn-kinds.ps (is 6 star-turn-kinds.ps μ-star-turn t) star-turn.Pre
+
+abbrev star-turn-below : ℕ → In 6 star-turn-kinds.ps
+star-turn-below t =
+    and 6 star-turn-kinds.ps (falls 6 star-turn-kinds.ps _<_ μ-star-turn t) star-turn.Pre
+
+abbrev ty-arg-at : ℕ → In 6 ty-arg-kinds.ps
+ty-arg-at t = and 6 ty-arg-kinds.ps (is 6 ty-arg-kinds.ps μ-ty-arg t) ty-arg.Pre
+
+abbrev ty-arg-below : ℕ → In 6 ty-arg-kinds.ps
+ty-arg-below t = and 6 ty-arg-kinds.ps (falls 6 ty-arg-kinds.ps _<_ μ-ty-arg t) ty-arg.Pre
+
+abbrev ty-args-at : ℕ → In 6 ty-args-kinds.ps
+ty-args-at t = and 6 ty-args-kinds.ps (is 6 ty-args-kinds.ps μ-ty-args t) ty-args.Pre
+
+abbrev ty-args-below : ℕ → In 6 ty-args-kinds.ps
+ty-args-below t = and 6 ty-args-kinds.ps (falls 6 ty-args-kinds.ps _<_ μ-ty-args t) ty-args.Pre
+
+abbrev ty-arrow-at : ℕ → In 6 ty-arrow-kinds.ps
+ty-arrow-at t = and 6 ty-arrow-kinds.ps (is 6 ty-arrow-kinds.ps μ-ty-arrow t) ty-arrow.Pre
+
+abbrev ty-arrow-below : ℕ → In 6 ty-arrow-kinds.ps
+ty-arrow-below t =
+    and 6 ty-arrow-kinds.ps (falls 6 ty-arrow-kinds.ps _<_ μ-ty-arrow t) ty-arrow.Pre
+
+abbrev ty-head-at : ℕ → In 6 ty-head-kinds.ps
+ty-head-at t = and 6 ty-head-kinds.ps (is 6 ty-head-kinds.ps μ-ty-head t) ty-head.Pre
+
+abbrev ty-head-below : ℕ → In 6 ty-head-kinds.ps
+ty-head-below t = and 6 ty-head-kinds.ps (falls 6 ty-head-kinds.ps _<_ μ-ty-head t) ty-head.Pre
+
+abbrev ty-inner-at : ℕ → In 6 ty-inner-kinds.ps
+ty-inner-at t = and 6 ty-inner-kinds.ps (is 6 ty-inner-kinds.ps μ-ty-inner t) ty-inner.Pre
+
+abbrev ty-inner-below : ℕ → In 6 ty-inner-kinds.ps
+ty-inner-below t =
+    and 6 ty-inner-kinds.ps (falls 6 ty-inner-kinds.ps _<_ μ-ty-inner t) ty-inner.Pre
+
+abbrev ty-must-at : ℕ → In 6 ty-must-kinds.ps
+ty-must-at t = and 6 ty-must-kinds.ps (is 6 ty-must-kinds.ps μ-ty-must t) ty-must.Pre
+
+abbrev ty-must-below : ℕ → In 6 ty-must-kinds.ps
+ty-must-below t = and 6 ty-must-kinds.ps (falls 6 ty-must-kinds.ps _<_ μ-ty-must t) ty-must.Pre
+
+abbrev ty-prec-at : ℕ → In 6 ty-prec-kinds.ps
+ty-prec-at t = and 6 ty-prec-kinds.ps (is 6 ty-prec-kinds.ps μ-ty-prec t) ty-prec.Pre
+
+abbrev ty-prec-below : ℕ → In 6 ty-prec-kinds.ps
+ty-prec-below t = and 6 ty-prec-kinds.ps (falls 6 ty-prec-kinds.ps _<_ μ-ty-prec t) ty-prec.Pre
+
+abbrev ty-round-at : ℕ → In 6 ty-round-kinds.ps
+ty-round-at t = and 6 ty-round-kinds.ps (is 6 ty-round-kinds.ps μ-ty-round t) ty-round.Pre
+
+abbrev ty-round-below : ℕ → In 6 ty-round-kinds.ps
+ty-round-below t =
+    and 6 ty-round-kinds.ps (falls 6 ty-round-kinds.ps _<_ μ-ty-round t) ty-round.Pre
+
+abbrev ty-row-at : ℕ → In 6 ty-row-kinds.ps
+ty-row-at t = and 6 ty-row-kinds.ps (is 6 ty-row-kinds.ps μ-ty-row t) ty-row.Pre
+
+abbrev ty-row-below : ℕ → In 6 ty-row-kinds.ps
+ty-row-below t = and 6 ty-row-kinds.ps (falls 6 ty-row-kinds.ps _<_ μ-ty-row t) ty-row.Pre
+
+abbrev ty-rows-at : ℕ → In 6 ty-rows-kinds.ps
+ty-rows-at t = and 6 ty-rows-kinds.ps (is 6 ty-rows-kinds.ps μ-ty-rows t) ty-rows.Pre
+
+abbrev ty-rows-below : ℕ → In 6 ty-rows-kinds.ps
+ty-rows-below t = and 6 ty-rows-kinds.ps (falls 6 ty-rows-kinds.ps _<_ μ-ty-rows t) ty-rows.Pre
+
+abbrev ty-seq-at : ℕ → In 6 ty-seq-kinds.ps
+ty-seq-at t = and 6 ty-seq-kinds.ps (is 6 ty-seq-kinds.ps μ-ty-seq t) ty-seq.Pre
+
+abbrev ty-seq-below : ℕ → In 6 ty-seq-kinds.ps
+ty-seq-below t = and 6 ty-seq-kinds.ps (falls 6 ty-seq-kinds.ps _<_ μ-ty-seq t) ty-seq.Pre
+
+abbrev ty-step-at : ℕ → In 6 ty-step-kinds.ps
+ty-step-at t = and 6 ty-step-kinds.ps (is 6 ty-step-kinds.ps μ-ty-step t) ty-step.Pre
+
+abbrev ty-step-below : ℕ → In 6 ty-step-kinds.ps
+ty-step-below t = and 6 ty-step-kinds.ps (falls 6 ty-step-kinds.ps _<_ μ-ty-step t) ty-step.Pre
+
+abbrev ty-tail-at : ℕ → In 6 ty-tail-kinds.ps
+ty-tail-at t = and 6 ty-tail-kinds.ps (is 6 ty-tail-kinds.ps μ-ty-tail t) ty-tail.Pre
+
+abbrev ty-tail-below : ℕ → In 6 ty-tail-kinds.ps
+ty-tail-below t = and 6 ty-tail-kinds.ps (falls 6 ty-tail-kinds.ps _<_ μ-ty-tail t) ty-tail.Pre
+
+abbrev ty-tuple-at : ℕ → In 6 ty-tuple-kinds.ps
+ty-tuple-at t = and 6 ty-tuple-kinds.ps (is 6 ty-tuple-kinds.ps μ-ty-tuple t) ty-tuple.Pre
+
+abbrev ty-tuple-below : ℕ → In 6 ty-tuple-kinds.ps
+ty-tuple-below t =
+    and 6 ty-tuple-kinds.ps (falls 6 ty-tuple-kinds.ps _<_ μ-ty-tuple t) ty-tuple.Pre
+
+-- src/lib.rt:418:31
+arg-item-refuse-requires : (t : ℕ) → arg-item-lts.Need-refuse-requires (
+  refuse-reads.Asked,
+  refuse-reads.Learnt,
+  mark-reads.Asked,
+  mark-reads.Learnt,
+  ty-must-below t,
+  ty-must.Post,
+  at-reads.Asked,
+  at-reads.Learnt,
+  bump-reads.Asked,
+  bump-reads.Learnt,
+  close-reads.Asked,
+  close-reads.Learnt,
+) (arg-item-at t) arg-item.Post
+arg-item-refuse-requires t c κs =
+    let falls = c .before .before .before .before .before .before .before .pre .0 in
+    let pre0 = c .before .before .before .before .before .before .before .pre .1 in
+    let if1 = c .if1 .taken in
+    search asks depth 8
+
+-- src/lib.rt:418:9
+arg-item-returns : (t : ℕ) → arg-item-lts.Need-returns (
+  refuse-reads.Asked,
+  refuse-reads.Learnt,
+  mark-reads.Asked,
+  mark-reads.Learnt,
+  ty-must-below t,
+  ty-must.Post,
+  at-reads.Asked,
+  at-reads.Learnt,
+  bump-reads.Asked,
+  bump-reads.Learnt,
+  close-reads.Asked,
+  close-reads.Learnt,
+) (arg-item-at t) arg-item.Post
+unfolding util.endItem types.tyMust
+arg-item-returns t c =
+    let falls = c .before .before .before .before .before .before .before .before .pre .0 in
+    let pre0 = c .before .before .before .before .before .before .before .before .pre .1 in
+    let if1 = c .before .if1 .taken in
+    let refuse-is = c .refuse .ensures in
+    let refuse = nth 0 refuse-is in
+    by-steps pre0 (λ b. search rules depth 60 fits 4000)
+
+-- src/lib.rt:420:9
+arg-item-mark-requires : (t : ℕ) → arg-item-lts.Need-mark-requires (
+  refuse-reads.Asked,
+  refuse-reads.Learnt,
+  mark-reads.Asked,
+  mark-reads.Learnt,
+  ty-must-below t,
+  ty-must.Post,
+  at-reads.Asked,
+  at-reads.Learnt,
+  bump-reads.Asked,
+  bump-reads.Learnt,
+  close-reads.Asked,
+  close-reads.Learnt,
+) (arg-item-at t) arg-item.Post
+arg-item-mark-requires t c κs =
+    let falls = c .before .before .before .before .before .before .before .pre .0 in
+    let pre0 = c .before .before .before .before .before .before .before .pre .1 in
+    let if1 = c .if1 .left in
+    search asks depth 8
+
+-- src/lib.rt:422:62
+arg-item-sub-ty-must : (t : ℕ) → arg-item-lts.Need-sub-ty-must (
+  refuse-reads.Asked,
+  refuse-reads.Learnt,
+  mark-reads.Asked,
+  mark-reads.Learnt,
+  ty-must-below t,
+  ty-must.Post,
+  at-reads.Asked,
+  at-reads.Learnt,
+  bump-reads.Asked,
+  bump-reads.Learnt,
+  close-reads.Asked,
+  close-reads.Learnt,
+) (arg-item-at t) arg-item.Post
+arg-item-sub-ty-must t c =
+    let falls = c .before .before .before .before .before .before .before .before .before .before .pre .0 in
+    let pre0 = c .before .before .before .before .before .before .before .before .before .before .pre .1 in
+    let if1 = c .before .before .before .if1 .left in
+    search needs
+
+-- src/lib.rt:422:9
+arg-item-ty-must-requires : (t : ℕ) → arg-item-lts.Need-ty-must-requires (
+  refuse-reads.Asked,
+  refuse-reads.Learnt,
+  mark-reads.Asked,
+  mark-reads.Learnt,
+  ty-must-below t,
+  ty-must.Post,
+  at-reads.Asked,
+  at-reads.Learnt,
+  bump-reads.Asked,
+  bump-reads.Learnt,
+  close-reads.Asked,
+  close-reads.Learnt,
+) (arg-item-at t) arg-item.Post
+arg-item-ty-must-requires t c κs =
+    let falls = c .before .before .before .before .before .before .before .before .before .before .pre .0 in
+    let pre0 = c .before .before .before .before .before .before .before .before .before .before .pre .1 in
+    let if1 = c .before .before .before .if1 .left in
+    let mark = c .before .before .mark .ensures in
+    let mark-ok = ok-marks mark pre0 in
+    search asks depth 8
+
+-- src/lib.rt:423:8
+arg-item-at-requires : (t : ℕ) → arg-item-lts.Need-at-requires (
+  refuse-reads.Asked,
+  refuse-reads.Learnt,
+  mark-reads.Asked,
+  mark-reads.Learnt,
+  ty-must-below t,
+  ty-must.Post,
+  at-reads.Asked,
+  at-reads.Learnt,
+  bump-reads.Asked,
+  bump-reads.Learnt,
+  close-reads.Asked,
+  close-reads.Learnt,
+) (arg-item-at t) arg-item.Post
+arg-item-at-requires t c κs =
+    let falls = c .before .before .before .before .before .before .before .before .before .before .before .before .before .before .before .pre .0 in
+    let pre0 = c .before .before .before .before .before .before .before .before .before .before .before .before .before .before .before .pre .1 in
+    let if1 = c .before .before .before .before .before .before .before .before .if1 .left in
+    let mark = c .before .before .before .before .before .before .before .mark .ensures in
+    let mark-ok = ok-marks mark pre0 in
+    let ty-must = c .before .before .before .before .ty-must .ensures in
+    let ty-must-ok = ty-must .ok in
+    search asks depth 8
+
+-- src/lib.rt:424:13
+arg-item-bump-requires : (t : ℕ) → arg-item-lts.Need-bump-requires (
+  refuse-reads.Asked,
+  refuse-reads.Learnt,
+  mark-reads.Asked,
+  mark-reads.Learnt,
+  ty-must-below t,
+  ty-must.Post,
+  at-reads.Asked,
+  at-reads.Learnt,
+  bump-reads.Asked,
+  bump-reads.Learnt,
+  close-reads.Asked,
+  close-reads.Learnt,
+) (arg-item-at t) arg-item.Post
+arg-item-bump-requires t c κs =
+    let falls = c .before .before .before .before .before .before .before .before .before .before .before .before .before .before .before .before .before .before .pre .0 in
+    let pre0 = c .before .before .before .before .before .before .before .before .before .before .before .before .before .before .before .before .before .before .pre .1 in
+    let if1 = c .before .before .before .before .before .before .before .before .before .before .before .if1 .left in
+    let mark = c .before .before .before .before .before .before .before .before .before .before .mark .ensures in
+    let mark-ok = ok-marks mark pre0 in
+    let ty-must = c .before .before .before .before .before .before .before .ty-must .ensures in
+    let ty-must-ok = ty-must .ok in
+    let at = c .before .before .at .ensures in
+    let if2 = c .before .if2 .taken in
+    search asks depth 8
+
+-- src/lib.rt:425:26
+arg-item-close-requires : (t : ℕ) → arg-item-lts.Need-close-requires (
+  refuse-reads.Asked,
+  refuse-reads.Learnt,
+  mark-reads.Asked,
+  mark-reads.Learnt,
+  ty-must-below t,
+  ty-must.Post,
+  at-reads.Asked,
+  at-reads.Learnt,
+  bump-reads.Asked,
+  bump-reads.Learnt,
+  close-reads.Asked,
+  close-reads.Learnt,
+) (arg-item-at t) arg-item.Post
+arg-item-close-requires t c κs =
+    let falls = c .before .before .before .before .before .before .before .before .before .before .before .before .before .before .before .before .before .before .before .before .before .before .pre .0 in
+    let pre0 = c .before .before .before .before .before .before .before .before .before .before .before .before .before .before .before .before .before .before .before .before .before .before .pre .1 in
+    let if1 = c .before .before .before .before .before .before .before .before .before .before .before .before .before .before .before .if1 .left in
+    let mark = c .before .before .before .before .before .before .before .before .before .before .before .before .before .before .mark .ensures in
+    let mark-ok = ok-marks mark pre0 in
+    let ty-must = c .before .before .before .before .before .before .before .before .before .before .before .ty-must .ensures in
+    let ty-must-ok = ty-must .ok in
+    let at = c .before .before .before .before .before .before .at .ensures in
+    let if2 = c .before .before .before .before .before .if2 .taken in
+    let bump = c .before .before .before .bump .ensures in
+    let bump-ok = ok-bumps bump ty-must-ok in
+    search asks depth 8
+
+-- src/lib.rt:425:9
+arg-item-same-length : (t : ℕ) → arg-item-lts.Need-same-length (
+  refuse-reads.Asked,
+  refuse-reads.Learnt,
+  mark-reads.Asked,
+  mark-reads.Learnt,
+  ty-must-below t,
+  ty-must.Post,
+  at-reads.Asked,
+  at-reads.Learnt,
+  bump-reads.Asked,
+  bump-reads.Learnt,
+  close-reads.Asked,
+  close-reads.Learnt,
+) (arg-item-at t) arg-item.Post
+arg-item-same-length t c =
+    c .before .before .close .kept .0 ∙ c .before .before .before .before .before .before .bump .kept .1 .0 ∙ c .before .before .before .before .before .before .before .before .before .before .before .before .before .before .ty-must .kept .1 .1 .1 .1 .0
+
+-- src/lib.rt:425:9
+arg-item-same-length-2 : (t : ℕ) → arg-item-lts.Need-same-length-2 (
+  refuse-reads.Asked,
+  refuse-reads.Learnt,
+  mark-reads.Asked,
+  mark-reads.Learnt,
+  ty-must-below t,
+  ty-must.Post,
+  at-reads.Asked,
+  at-reads.Learnt,
+  bump-reads.Asked,
+  bump-reads.Learnt,
+  close-reads.Asked,
+  close-reads.Learnt,
+) (arg-item-at t) arg-item.Post
+arg-item-same-length-2 t c =
+    c .before .before .before .before .before .before .before .before .before .before .before .before .before .before .ty-must .kept .1 .1 .1 .1 .1 .0
+
+-- src/lib.rt:425:9
+arg-item-returns-2 : (t : ℕ) → arg-item-lts.Need-returns-2 (
+  refuse-reads.Asked,
+  refuse-reads.Learnt,
+  mark-reads.Asked,
+  mark-reads.Learnt,
+  ty-must-below t,
+  ty-must.Post,
+  at-reads.Asked,
+  at-reads.Learnt,
+  bump-reads.Asked,
+  bump-reads.Learnt,
+  close-reads.Asked,
+  close-reads.Learnt,
+) (arg-item-at t) arg-item.Post
+unfolding util.endItem types.tyMust
+arg-item-returns-2 t c =
+    let falls = c .before .before .before .before .before .before .before .before .before .before .before .before .before .before .before .before .before .before .before .before .before .before .before .before .before .pre .0 in
+    let pre0 = c .before .before .before .before .before .before .before .before .before .before .before .before .before .before .before .before .before .before .before .before .before .before .before .before .before .pre .1 in
+    let if1 = c .before .before .before .before .before .before .before .before .before .before .before .before .before .before .before .before .before .before .if1 .left in
+    let mark-is = c .before .before .before .before .before .before .before .before .before .before .before .before .before .before .before .before .before .mark .ensures in
+    let mark = nth 0 mark-is in
+    let ty-must-is = c .before .before .before .before .before .before .before .before .before .before .before .before .before .before .ty-must .ensures in
+    let ty-must = nth 1 ty-must-is in
+    let at-is = c .before .before .before .before .before .before .before .before .before .at .ensures in
+    let at = nth 2 at-is in
+    let if2 = c .before .before .before .before .before .before .before .before .if2 .taken in
+    let bump-is = c .before .before .before .before .before .before .bump .ensures in
+    let bump = nth 3 bump-is in
+    let close-is = c .before .before .close .ensures in
+    let close = nth 4 close-is in
+    by-steps pre0 (λ b. search rules depth 60 fits 4000)
+
+-- src/lib.rt:427:20
+arg-item-close-requires-2 : (t : ℕ) → arg-item-lts.Need-close-requires-2 (
+  refuse-reads.Asked,
+  refuse-reads.Learnt,
+  mark-reads.Asked,
+  mark-reads.Learnt,
+  ty-must-below t,
+  ty-must.Post,
+  at-reads.Asked,
+  at-reads.Learnt,
+  bump-reads.Asked,
+  bump-reads.Learnt,
+  close-reads.Asked,
+  close-reads.Learnt,
+) (arg-item-at t) arg-item.Post
+arg-item-close-requires-2 t c κs =
+    let falls = c .before .before .before .before .before .before .before .before .before .before .before .before .before .before .before .before .before .before .pre .0 in
+    let pre0 = c .before .before .before .before .before .before .before .before .before .before .before .before .before .before .before .before .before .before .pre .1 in
+    let if1 = c .before .before .before .before .before .before .before .before .before .before .before .if1 .left in
+    let mark = c .before .before .before .before .before .before .before .before .before .before .mark .ensures in
+    let mark-ok = ok-marks mark pre0 in
+    let ty-must = c .before .before .before .before .before .before .before .ty-must .ensures in
+    let ty-must-ok = ty-must .ok in
+    let at = c .before .before .at .ensures in
+    let if2 = c .before .if2 .left in
+    search asks depth 8
+
+-- src/lib.rt:413:1
+arg-item-same-length-3 : (t : ℕ) → arg-item-lts.Need-same-length-3 (
+  refuse-reads.Asked,
+  refuse-reads.Learnt,
+  mark-reads.Asked,
+  mark-reads.Learnt,
+  ty-must-below t,
+  ty-must.Post,
+  at-reads.Asked,
+  at-reads.Learnt,
+  bump-reads.Asked,
+  bump-reads.Learnt,
+  close-reads.Asked,
+  close-reads.Learnt,
+) (arg-item-at t) arg-item.Post
+arg-item-same-length-3 t c =
+    c .before .before .close2 .kept .0 ∙ c .before .before .before .before .before .before .before .before .before .before .ty-must .kept .1 .1 .1 .1 .0
+
+-- src/lib.rt:413:1
+arg-item-same-length-4 : (t : ℕ) → arg-item-lts.Need-same-length-4 (
+  refuse-reads.Asked,
+  refuse-reads.Learnt,
+  mark-reads.Asked,
+  mark-reads.Learnt,
+  ty-must-below t,
+  ty-must.Post,
+  at-reads.Asked,
+  at-reads.Learnt,
+  bump-reads.Asked,
+  bump-reads.Learnt,
+  close-reads.Asked,
+  close-reads.Learnt,
+) (arg-item-at t) arg-item.Post
+arg-item-same-length-4 t c =
+    c .before .before .before .before .before .before .before .before .before .before .ty-must .kept .1 .1 .1 .1 .1 .0
+
+-- src/lib.rt:413:1
+arg-item-returns-3 : (t : ℕ) → arg-item-lts.Need-returns-3 (
+  refuse-reads.Asked,
+  refuse-reads.Learnt,
+  mark-reads.Asked,
+  mark-reads.Learnt,
+  ty-must-below t,
+  ty-must.Post,
+  at-reads.Asked,
+  at-reads.Learnt,
+  bump-reads.Asked,
+  bump-reads.Learnt,
+  close-reads.Asked,
+  close-reads.Learnt,
+) (arg-item-at t) arg-item.Post
+unfolding util.endItem types.tyMust
+arg-item-returns-3 t c =
+    let falls = c .before .before .before .before .before .before .before .before .before .before .before .before .before .before .before .before .before .before .before .before .before .pre .0 in
+    let pre0 = c .before .before .before .before .before .before .before .before .before .before .before .before .before .before .before .before .before .before .before .before .before .pre .1 in
+    let if1 = c .before .before .before .before .before .before .before .before .before .before .before .before .before .before .if1 .left in
+    let mark-is = c .before .before .before .before .before .before .before .before .before .before .before .before .before .mark .ensures in
+    let mark = nth 0 mark-is in
+    let ty-must-is = c .before .before .before .before .before .before .before .before .before .before .ty-must .ensures in
+    let ty-must = nth 1 ty-must-is in
+    let at-is = c .before .before .before .before .before .at .ensures in
+    let at = nth 2 at-is in
+    let if2 = c .before .before .before .before .if2 .left in
+    let close2-is = c .before .before .close2 .ensures in
+    let close2 = nth 3 close2-is in
+    by-steps pre0 (λ b. search rules depth 60 fits 4000)
+
+-- src/lib.rt:397:8
+arg-turn-at-requires : (t : ℕ) → arg-turn-lts.Need-at-requires (
+  at-reads.Asked,
+  at-reads.Learnt,
+  bump-reads.Asked,
+  bump-reads.Learnt,
+  arg-item-below t,
+  arg-item.Post,
+  eat-reads.Asked,
+  eat-reads.Learnt,
+  state-reads.Asked,
+  state-reads.Learnt,
+) (arg-turn-at t) arg-turn.Post
+arg-turn-at-requires t c κs =
+    let falls = c .before .before .before .before .before .before .pre .0 in
+    let pre0 = c .before .before .before .before .before .before .pre .1 in
+    search asks depth 8
+
+-- src/lib.rt:398:31
+arg-turn-bump-requires : (t : ℕ) → arg-turn-lts.Need-bump-requires (
+  at-reads.Asked,
+  at-reads.Learnt,
+  bump-reads.Asked,
+  bump-reads.Learnt,
+  arg-item-below t,
+  arg-item.Post,
+  eat-reads.Asked,
+  eat-reads.Learnt,
+  state-reads.Asked,
+  state-reads.Learnt,
+) (arg-turn-at t) arg-turn.Post
+arg-turn-bump-requires t c κs =
+    let falls = c .before .before .before .before .before .before .before .before .before .pre .0 in
+    let pre0 = c .before .before .before .before .before .before .before .before .before .pre .1 in
+    let at = c .before .before .at .ensures in
+    let if1 = c .before .if1 .taken in
+    search asks depth 8
+
+-- src/lib.rt:398:9
+arg-turn-same-length : (t : ℕ) → arg-turn-lts.Need-same-length (
+  at-reads.Asked,
+  at-reads.Learnt,
+  bump-reads.Asked,
+  bump-reads.Learnt,
+  arg-item-below t,
+  arg-item.Post,
+  eat-reads.Asked,
+  eat-reads.Learnt,
+  state-reads.Asked,
+  state-reads.Learnt,
+) (arg-turn-at t) arg-turn.Post
+arg-turn-same-length t c =
+    c .before .before .bump .kept .1 .0
+
+-- src/lib.rt:398:9
+arg-turn-returns : (t : ℕ) → arg-turn-lts.Need-returns (
+  at-reads.Asked,
+  at-reads.Learnt,
+  bump-reads.Asked,
+  bump-reads.Learnt,
+  arg-item-below t,
+  arg-item.Post,
+  eat-reads.Asked,
+  eat-reads.Learnt,
+  state-reads.Asked,
+  state-reads.Learnt,
+) (arg-turn-at t) arg-turn.Post
+unfolding util.endTurn types.tyMust
+arg-turn-returns t c =
+    let falls = c .before .before .before .before .before .before .before .before .before .before .before .before .pre .0 in
+    let pre0 = c .before .before .before .before .before .before .before .before .before .before .before .before .pre .1 in
+    let at-is = c .before .before .before .before .before .at .ensures in
+    let at = nth 0 at-is in
+    let if1 = c .before .before .before .before .if1 .taken in
+    let bump-is = c .before .before .bump .ensures in
+    let bump = nth 1 bump-is in
+    by-steps pre0 (λ b. search rules depth 60 fits 4000)
+
+-- src/lib.rt:400:9
+arg-turn-arg-item-requires : (t : ℕ) → arg-turn-lts.Need-arg-item-requires (
+  at-reads.Asked,
+  at-reads.Learnt,
+  bump-reads.Asked,
+  bump-reads.Learnt,
+  arg-item-below t,
+  arg-item.Post,
+  eat-reads.Asked,
+  eat-reads.Learnt,
+  state-reads.Asked,
+  state-reads.Learnt,
+) (arg-turn-at t) arg-turn.Post
+arg-turn-arg-item-requires t c κs =
+    let falls = c .before .before .before .before .before .before .before .before .before .before .pre .0 in
+    let pre0 = c .before .before .before .before .before .before .before .before .before .before .pre .1 in
+    let at = c .before .before .before .at .ensures in
+    let if1 = c .before .before .if1 .left in
+    search asks depth 8
+
+-- src/lib.rt:402:19
+arg-turn-enum-known-item : (t : ℕ) → arg-turn-lts.Need-enum-known-item (
+  at-reads.Asked,
+  at-reads.Learnt,
+  bump-reads.Asked,
+  bump-reads.Learnt,
+  arg-item-below t,
+  arg-item.Post,
+  eat-reads.Asked,
+  eat-reads.Learnt,
+  state-reads.Asked,
+  state-reads.Learnt,
+) (arg-turn-at t) arg-turn.Post
+arg-turn-enum-known-item t c =
+    let falls = c .before .before .before .before .before .before .before .before .before .before .before .before .before .before .before .before .pre .0 in
+    let pre0 = c .before .before .before .before .before .before .before .before .before .before .before .before .before .before .before .before .pre .1 in
+    let if1 = c .before .before .before .before .before .before .before .before .if1 .left in
+    search needs
+
+-- src/lib.rt:403:24
+arg-turn-enum-known-item-2 : (t : ℕ) → arg-turn-lts.Need-enum-known-item-2 (
+  at-reads.Asked,
+  at-reads.Learnt,
+  bump-reads.Asked,
+  bump-reads.Learnt,
+  arg-item-below t,
+  arg-item.Post,
+  eat-reads.Asked,
+  eat-reads.Learnt,
+  state-reads.Asked,
+  state-reads.Learnt,
+) (arg-turn-at t) arg-turn.Post
+arg-turn-enum-known-item-2 t c =
+    let falls = c .before .before .before .before .before .before .before .before .before .before .before .before .before .before .before .before .pre .0 in
+    let pre0 = c .before .before .before .before .before .before .before .before .before .before .before .before .before .before .before .before .pre .1 in
+    let if1 = c .before .before .before .before .before .before .before .before .if1 .left in
+    search needs
+
+-- src/lib.rt:404:17
+arg-turn-eat-requires : (t : ℕ) → arg-turn-lts.Need-eat-requires (
+  at-reads.Asked,
+  at-reads.Learnt,
+  bump-reads.Asked,
+  bump-reads.Learnt,
+  arg-item-below t,
+  arg-item.Post,
+  eat-reads.Asked,
+  eat-reads.Learnt,
+  state-reads.Asked,
+  state-reads.Learnt,
+) (arg-turn-at t) arg-turn.Post
+arg-turn-eat-requires t c κs =
+    let falls = c .before .before .before .before .before .before .before .before .before .before .before .before .before .before .before .before .before .before .before .before .pre .0 in
+    let pre0 = c .before .before .before .before .before .before .before .before .before .before .before .before .before .before .before .before .before .before .before .before .pre .1 in
+    let at = c .before .before .before .before .before .before .before .before .before .before .before .before .before .at .ensures in
+    let if1 = c .before .before .before .before .before .before .before .before .before .before .before .before .if1 .left in
+    let arg-item = rw (c .before .before .before .item2 .given .1) at (c .before .before .before .before .before .before .before .before .before .arg-item .ensures) in
+    let arg-item-ok = arg-item .ok in
+    search asks depth 8
+
+-- src/lib.rt:405:17
+arg-turn-state-requires : (t : ℕ) → arg-turn-lts.Need-state-requires (
+  at-reads.Asked,
+  at-reads.Learnt,
+  bump-reads.Asked,
+  bump-reads.Learnt,
+  arg-item-below t,
+  arg-item.Post,
+  eat-reads.Asked,
+  eat-reads.Learnt,
+  state-reads.Asked,
+  state-reads.Learnt,
+) (arg-turn-at t) arg-turn.Post
+arg-turn-state-requires t c κs =
+    let falls = c .before .before .before .before .before .before .before .before .before .before .before .before .before .before .before .before .before .before .before .before .before .before .before .before .before .pre .0 in
+    let pre0 = c .before .before .before .before .before .before .before .before .before .before .before .before .before .before .before .before .before .before .before .before .before .before .before .before .before .pre .1 in
+    let at = c .before .before .before .before .before .before .before .before .before .before .before .before .before .before .before .before .before .before .at .ensures in
+    let if1 = c .before .before .before .before .before .before .before .before .before .before .before .before .before .before .before .before .before .if1 .left in
+    let arg-item = rw (c .before .before .before .before .before .before .before .before .item2 .given .1) at (c .before .before .before .before .before .before .before .before .before .before .before .before .before .before .arg-item .ensures) in
+    let arg-item-ok = arg-item .ok in
+    let eat = c .before .before .before .before .eat .ensures in
+    let eat-ok = eat .ok in
+    search asks depth 8
+
+-- src/lib.rt:393:1
+arg-turn-same-length-2 : (t : ℕ) → arg-turn-lts.Need-same-length-2 (
+  at-reads.Asked,
+  at-reads.Learnt,
+  bump-reads.Asked,
+  bump-reads.Learnt,
+  arg-item-below t,
+  arg-item.Post,
+  eat-reads.Asked,
+  eat-reads.Learnt,
+  state-reads.Asked,
+  state-reads.Learnt,
+) (arg-turn-at t) arg-turn.Post
+arg-turn-same-length-2 t c =
+    c .before .before .before .before .before .before .before .arg-item .kept .1 .1 .1 .1 .0
+
+-- src/lib.rt:393:1
+arg-turn-same-length-3 : (t : ℕ) → arg-turn-lts.Need-same-length-3 (
+  at-reads.Asked,
+  at-reads.Learnt,
+  bump-reads.Asked,
+  bump-reads.Learnt,
+  arg-item-below t,
+  arg-item.Post,
+  eat-reads.Asked,
+  eat-reads.Learnt,
+  state-reads.Asked,
+  state-reads.Learnt,
+) (arg-turn-at t) arg-turn.Post
+arg-turn-same-length-3 t c =
+    c .before .before .before .before .before .before .before .arg-item .kept .1 .1 .1 .1 .1 .0
+
+-- src/lib.rt:393:1
+arg-turn-returns-2 : (t : ℕ) → arg-turn-lts.Need-returns-2 (
+  at-reads.Asked,
+  at-reads.Learnt,
+  bump-reads.Asked,
+  bump-reads.Learnt,
+  arg-item-below t,
+  arg-item.Post,
+  eat-reads.Asked,
+  eat-reads.Learnt,
+  state-reads.Asked,
+  state-reads.Learnt,
+) (arg-turn-at t) arg-turn.Post
+unfolding util.endTurn types.tyMust
+arg-turn-returns-2 t c =
+    let falls = c .before .before .before .before .before .before .before .before .before .before .before .before .before .before .before .before .before .before .pre .0 in
+    let pre0 = c .before .before .before .before .before .before .before .before .before .before .before .before .before .before .before .before .before .before .pre .1 in
+    let at-is = c .before .before .before .before .before .before .before .before .before .before .before .at .ensures in
+    let at = nth 0 at-is in
+    let if1 = c .before .before .before .before .before .before .before .before .before .before .if1 .left in
+    let arg-item-is = rw (c .before .item .given .1) at (c .before .before .before .before .before .before .before .arg-item .ensures) in
+    let arg-item = nth 1 arg-item-is in
+    by-steps pre0 (λ b. search rules depth 60 fits 4000)
+
+-- src/lib.rt:393:1
+arg-turn-same-length-4 : (t : ℕ) → arg-turn-lts.Need-same-length-4 (
+  at-reads.Asked,
+  at-reads.Learnt,
+  bump-reads.Asked,
+  bump-reads.Learnt,
+  arg-item-below t,
+  arg-item.Post,
+  eat-reads.Asked,
+  eat-reads.Learnt,
+  state-reads.Asked,
+  state-reads.Learnt,
+) (arg-turn-at t) arg-turn.Post
+arg-turn-same-length-4 t c =
+    c .before .before .before .before .before .eat .kept .1 .1 .1 .1 .0 ∙ c .before .before .before .before .before .before .before .before .before .before .before .before .before .before .before .arg-item .kept .1 .1 .1 .1 .0
+
+-- src/lib.rt:393:1
+arg-turn-same-length-5 : (t : ℕ) → arg-turn-lts.Need-same-length-5 (
+  at-reads.Asked,
+  at-reads.Learnt,
+  bump-reads.Asked,
+  bump-reads.Learnt,
+  arg-item-below t,
+  arg-item.Post,
+  eat-reads.Asked,
+  eat-reads.Learnt,
+  state-reads.Asked,
+  state-reads.Learnt,
+) (arg-turn-at t) arg-turn.Post
+arg-turn-same-length-5 t c =
+    c .before .before .before .before .before .eat .kept .1 .1 .1 .1 .1 .0 ∙ c .before .before .before .before .before .before .before .before .before .before .before .before .before .before .before .arg-item .kept .1 .1 .1 .1 .1 .0
+
+-- src/lib.rt:393:1
+arg-turn-returns-3 : (t : ℕ) → arg-turn-lts.Need-returns-3 (
+  at-reads.Asked,
+  at-reads.Learnt,
+  bump-reads.Asked,
+  bump-reads.Learnt,
+  arg-item-below t,
+  arg-item.Post,
+  eat-reads.Asked,
+  eat-reads.Learnt,
+  state-reads.Asked,
+  state-reads.Learnt,
+) (arg-turn-at t) arg-turn.Post
+unfolding util.endTurn types.tyMust
+arg-turn-returns-3 t c =
+    let falls = c .before .before .before .before .before .before .before .before .before .before .before .before .before .before .before .before .before .before .before .before .before .before .before .before .before .before .pre .0 in
+    let pre0 = c .before .before .before .before .before .before .before .before .before .before .before .before .before .before .before .before .before .before .before .before .before .before .before .before .before .before .pre .1 in
+    let at-is = c .before .before .before .before .before .before .before .before .before .before .before .before .before .before .before .before .before .before .before .at .ensures in
+    let at = nth 0 at-is in
+    let if1 = c .before .before .before .before .before .before .before .before .before .before .before .before .before .before .before .before .before .before .if1 .left in
+    let arg-item-is = rw (c .before .before .before .before .before .before .before .before .before .item2 .given .1) at (c .before .before .before .before .before .before .before .before .before .before .before .before .before .before .before .arg-item .ensures) in
+    let arg-item = nth 1 arg-item-is in
+    let eat-is = c .before .before .before .before .before .eat .ensures in
+    let eat = nth 2 eat-is in
+    let state-is = c .state .ensures in
+    let state = nth 3 state-is in
+    by-steps pre0 (λ b. search rules depth 60 fits 4000)
+
+-- src/lib.rt:351:31
+row-item-refuse-requires : (t : ℕ) → row-item-lts.Need-refuse-requires (
+  refuse-reads.Asked,
+  refuse-reads.Learnt,
+  mark-reads.Asked,
+  mark-reads.Learnt,
+  ty-row-below t,
+  ty-row.Post,
+  at-reads.Asked,
+  at-reads.Learnt,
+  bump-reads.Asked,
+  bump-reads.Learnt,
+  close-reads.Asked,
+  close-reads.Learnt,
+) (row-item-at t) row-item.Post
+row-item-refuse-requires t c κs =
+    let falls = c .before .before .before .before .before .before .before .pre .0 in
+    let pre0 = c .before .before .before .before .before .before .before .pre .1 in
+    let if1 = c .if1 .taken in
+    search asks depth 8
+
+-- src/lib.rt:351:9
+row-item-returns : (t : ℕ) → row-item-lts.Need-returns (
+  refuse-reads.Asked,
+  refuse-reads.Learnt,
+  mark-reads.Asked,
+  mark-reads.Learnt,
+  ty-row-below t,
+  ty-row.Post,
+  at-reads.Asked,
+  at-reads.Learnt,
+  bump-reads.Asked,
+  bump-reads.Learnt,
+  close-reads.Asked,
+  close-reads.Learnt,
+) (row-item-at t) row-item.Post
+unfolding util.endItem types.tyRow
+row-item-returns t c =
+    let falls = c .before .before .before .before .before .before .before .before .pre .0 in
+    let pre0 = c .before .before .before .before .before .before .before .before .pre .1 in
+    let if1 = c .before .if1 .taken in
+    let refuse-is = c .refuse .ensures in
+    let refuse = nth 0 refuse-is in
+    by-steps pre0 (λ b. search rules depth 60 fits 4000)
+
+-- src/lib.rt:353:9
+row-item-mark-requires : (t : ℕ) → row-item-lts.Need-mark-requires (
+  refuse-reads.Asked,
+  refuse-reads.Learnt,
+  mark-reads.Asked,
+  mark-reads.Learnt,
+  ty-row-below t,
+  ty-row.Post,
+  at-reads.Asked,
+  at-reads.Learnt,
+  bump-reads.Asked,
+  bump-reads.Learnt,
+  close-reads.Asked,
+  close-reads.Learnt,
+) (row-item-at t) row-item.Post
+row-item-mark-requires t c κs =
+    let falls = c .before .before .before .before .before .before .before .pre .0 in
+    let pre0 = c .before .before .before .before .before .before .before .pre .1 in
+    let if1 = c .if1 .left in
+    search asks depth 8
+
+-- src/lib.rt:355:61
+row-item-sub-ty-row : (t : ℕ) → row-item-lts.Need-sub-ty-row (
+  refuse-reads.Asked,
+  refuse-reads.Learnt,
+  mark-reads.Asked,
+  mark-reads.Learnt,
+  ty-row-below t,
+  ty-row.Post,
+  at-reads.Asked,
+  at-reads.Learnt,
+  bump-reads.Asked,
+  bump-reads.Learnt,
+  close-reads.Asked,
+  close-reads.Learnt,
+) (row-item-at t) row-item.Post
+row-item-sub-ty-row t c =
+    let falls = c .before .before .before .before .before .before .before .before .before .before .pre .0 in
+    let pre0 = c .before .before .before .before .before .before .before .before .before .before .pre .1 in
+    let if1 = c .before .before .before .if1 .left in
+    search needs
+
+-- src/lib.rt:355:9
+row-item-ty-row-requires : (t : ℕ) → row-item-lts.Need-ty-row-requires (
+  refuse-reads.Asked,
+  refuse-reads.Learnt,
+  mark-reads.Asked,
+  mark-reads.Learnt,
+  ty-row-below t,
+  ty-row.Post,
+  at-reads.Asked,
+  at-reads.Learnt,
+  bump-reads.Asked,
+  bump-reads.Learnt,
+  close-reads.Asked,
+  close-reads.Learnt,
+) (row-item-at t) row-item.Post
+row-item-ty-row-requires t c κs =
+    let falls = c .before .before .before .before .before .before .before .before .before .before .pre .0 in
+    let pre0 = c .before .before .before .before .before .before .before .before .before .before .pre .1 in
+    let if1 = c .before .before .before .if1 .left in
+    let mark = c .before .before .mark .ensures in
+    let mark-ok = ok-marks mark pre0 in
+    search asks depth 8
+
+-- src/lib.rt:356:8
+row-item-at-requires : (t : ℕ) → row-item-lts.Need-at-requires (
+  refuse-reads.Asked,
+  refuse-reads.Learnt,
+  mark-reads.Asked,
+  mark-reads.Learnt,
+  ty-row-below t,
+  ty-row.Post,
+  at-reads.Asked,
+  at-reads.Learnt,
+  bump-reads.Asked,
+  bump-reads.Learnt,
+  close-reads.Asked,
+  close-reads.Learnt,
+) (row-item-at t) row-item.Post
+row-item-at-requires t c κs =
+    let falls = c .before .before .before .before .before .before .before .before .before .before .before .before .before .before .before .pre .0 in
+    let pre0 = c .before .before .before .before .before .before .before .before .before .before .before .before .before .before .before .pre .1 in
+    let if1 = c .before .before .before .before .before .before .before .before .if1 .left in
+    let mark = c .before .before .before .before .before .before .before .mark .ensures in
+    let mark-ok = ok-marks mark pre0 in
+    let ty-row = c .before .before .before .before .ty-row .ensures in
+    let ty-row-ok = ty-row .ok in
+    search asks depth 8
+
+-- src/lib.rt:357:13
+row-item-bump-requires : (t : ℕ) → row-item-lts.Need-bump-requires (
+  refuse-reads.Asked,
+  refuse-reads.Learnt,
+  mark-reads.Asked,
+  mark-reads.Learnt,
+  ty-row-below t,
+  ty-row.Post,
+  at-reads.Asked,
+  at-reads.Learnt,
+  bump-reads.Asked,
+  bump-reads.Learnt,
+  close-reads.Asked,
+  close-reads.Learnt,
+) (row-item-at t) row-item.Post
+row-item-bump-requires t c κs =
+    let falls = c .before .before .before .before .before .before .before .before .before .before .before .before .before .before .before .before .before .before .pre .0 in
+    let pre0 = c .before .before .before .before .before .before .before .before .before .before .before .before .before .before .before .before .before .before .pre .1 in
+    let if1 = c .before .before .before .before .before .before .before .before .before .before .before .if1 .left in
+    let mark = c .before .before .before .before .before .before .before .before .before .before .mark .ensures in
+    let mark-ok = ok-marks mark pre0 in
+    let ty-row = c .before .before .before .before .before .before .before .ty-row .ensures in
+    let ty-row-ok = ty-row .ok in
+    let at = c .before .before .at .ensures in
+    let if2 = c .before .if2 .taken in
+    search asks depth 8
+
+-- src/lib.rt:358:26
+row-item-close-requires : (t : ℕ) → row-item-lts.Need-close-requires (
+  refuse-reads.Asked,
+  refuse-reads.Learnt,
+  mark-reads.Asked,
+  mark-reads.Learnt,
+  ty-row-below t,
+  ty-row.Post,
+  at-reads.Asked,
+  at-reads.Learnt,
+  bump-reads.Asked,
+  bump-reads.Learnt,
+  close-reads.Asked,
+  close-reads.Learnt,
+) (row-item-at t) row-item.Post
+row-item-close-requires t c κs =
+    let falls = c .before .before .before .before .before .before .before .before .before .before .before .before .before .before .before .before .before .before .before .before .before .before .pre .0 in
+    let pre0 = c .before .before .before .before .before .before .before .before .before .before .before .before .before .before .before .before .before .before .before .before .before .before .pre .1 in
+    let if1 = c .before .before .before .before .before .before .before .before .before .before .before .before .before .before .before .if1 .left in
+    let mark = c .before .before .before .before .before .before .before .before .before .before .before .before .before .before .mark .ensures in
+    let mark-ok = ok-marks mark pre0 in
+    let ty-row = c .before .before .before .before .before .before .before .before .before .before .before .ty-row .ensures in
+    let ty-row-ok = ty-row .ok in
+    let at = c .before .before .before .before .before .before .at .ensures in
+    let if2 = c .before .before .before .before .before .if2 .taken in
+    let bump = c .before .before .before .bump .ensures in
+    let bump-ok = ok-bumps bump ty-row-ok in
+    search asks depth 8
+
+-- src/lib.rt:358:9
+row-item-same-length : (t : ℕ) → row-item-lts.Need-same-length (
+  refuse-reads.Asked,
+  refuse-reads.Learnt,
+  mark-reads.Asked,
+  mark-reads.Learnt,
+  ty-row-below t,
+  ty-row.Post,
+  at-reads.Asked,
+  at-reads.Learnt,
+  bump-reads.Asked,
+  bump-reads.Learnt,
+  close-reads.Asked,
+  close-reads.Learnt,
+) (row-item-at t) row-item.Post
+row-item-same-length t c =
+    c .before .before .close .kept .0 ∙ c .before .before .before .before .before .before .bump .kept .1 .0 ∙ c .before .before .before .before .before .before .before .before .before .before .before .before .before .before .ty-row .kept .1 .1 .1 .1 .0
+
+-- src/lib.rt:358:9
+row-item-same-length-2 : (t : ℕ) → row-item-lts.Need-same-length-2 (
+  refuse-reads.Asked,
+  refuse-reads.Learnt,
+  mark-reads.Asked,
+  mark-reads.Learnt,
+  ty-row-below t,
+  ty-row.Post,
+  at-reads.Asked,
+  at-reads.Learnt,
+  bump-reads.Asked,
+  bump-reads.Learnt,
+  close-reads.Asked,
+  close-reads.Learnt,
+) (row-item-at t) row-item.Post
+row-item-same-length-2 t c =
+    c .before .before .before .before .before .before .before .before .before .before .before .before .before .before .ty-row .kept .1 .1 .1 .1 .1 .0
+
+-- src/lib.rt:358:9
+row-item-returns-2 : (t : ℕ) → row-item-lts.Need-returns-2 (
+  refuse-reads.Asked,
+  refuse-reads.Learnt,
+  mark-reads.Asked,
+  mark-reads.Learnt,
+  ty-row-below t,
+  ty-row.Post,
+  at-reads.Asked,
+  at-reads.Learnt,
+  bump-reads.Asked,
+  bump-reads.Learnt,
+  close-reads.Asked,
+  close-reads.Learnt,
+) (row-item-at t) row-item.Post
+unfolding util.endItem types.tyRow
+row-item-returns-2 t c =
+    let falls = c .before .before .before .before .before .before .before .before .before .before .before .before .before .before .before .before .before .before .before .before .before .before .before .before .before .pre .0 in
+    let pre0 = c .before .before .before .before .before .before .before .before .before .before .before .before .before .before .before .before .before .before .before .before .before .before .before .before .before .pre .1 in
+    let if1 = c .before .before .before .before .before .before .before .before .before .before .before .before .before .before .before .before .before .before .if1 .left in
+    let mark-is = c .before .before .before .before .before .before .before .before .before .before .before .before .before .before .before .before .before .mark .ensures in
+    let mark = nth 0 mark-is in
+    let ty-row-is = c .before .before .before .before .before .before .before .before .before .before .before .before .before .before .ty-row .ensures in
+    let ty-row = nth 1 ty-row-is in
+    let at-is = c .before .before .before .before .before .before .before .before .before .at .ensures in
+    let at = nth 2 at-is in
+    let if2 = c .before .before .before .before .before .before .before .before .if2 .taken in
+    let bump-is = c .before .before .before .before .before .before .bump .ensures in
+    let bump = nth 3 bump-is in
+    let close-is = c .before .before .close .ensures in
+    let close = nth 4 close-is in
+    by-steps pre0 (λ b. search rules depth 60 fits 4000)
+
+-- src/lib.rt:360:20
+row-item-close-requires-2 : (t : ℕ) → row-item-lts.Need-close-requires-2 (
+  refuse-reads.Asked,
+  refuse-reads.Learnt,
+  mark-reads.Asked,
+  mark-reads.Learnt,
+  ty-row-below t,
+  ty-row.Post,
+  at-reads.Asked,
+  at-reads.Learnt,
+  bump-reads.Asked,
+  bump-reads.Learnt,
+  close-reads.Asked,
+  close-reads.Learnt,
+) (row-item-at t) row-item.Post
+row-item-close-requires-2 t c κs =
+    let falls = c .before .before .before .before .before .before .before .before .before .before .before .before .before .before .before .before .before .before .pre .0 in
+    let pre0 = c .before .before .before .before .before .before .before .before .before .before .before .before .before .before .before .before .before .before .pre .1 in
+    let if1 = c .before .before .before .before .before .before .before .before .before .before .before .if1 .left in
+    let mark = c .before .before .before .before .before .before .before .before .before .before .mark .ensures in
+    let mark-ok = ok-marks mark pre0 in
+    let ty-row = c .before .before .before .before .before .before .before .ty-row .ensures in
+    let ty-row-ok = ty-row .ok in
+    let at = c .before .before .at .ensures in
+    let if2 = c .before .if2 .left in
+    search asks depth 8
+
+-- src/lib.rt:346:1
+row-item-same-length-3 : (t : ℕ) → row-item-lts.Need-same-length-3 (
+  refuse-reads.Asked,
+  refuse-reads.Learnt,
+  mark-reads.Asked,
+  mark-reads.Learnt,
+  ty-row-below t,
+  ty-row.Post,
+  at-reads.Asked,
+  at-reads.Learnt,
+  bump-reads.Asked,
+  bump-reads.Learnt,
+  close-reads.Asked,
+  close-reads.Learnt,
+) (row-item-at t) row-item.Post
+row-item-same-length-3 t c =
+    c .before .before .close2 .kept .0 ∙ c .before .before .before .before .before .before .before .before .before .before .ty-row .kept .1 .1 .1 .1 .0
+
+-- src/lib.rt:346:1
+row-item-same-length-4 : (t : ℕ) → row-item-lts.Need-same-length-4 (
+  refuse-reads.Asked,
+  refuse-reads.Learnt,
+  mark-reads.Asked,
+  mark-reads.Learnt,
+  ty-row-below t,
+  ty-row.Post,
+  at-reads.Asked,
+  at-reads.Learnt,
+  bump-reads.Asked,
+  bump-reads.Learnt,
+  close-reads.Asked,
+  close-reads.Learnt,
+) (row-item-at t) row-item.Post
+row-item-same-length-4 t c =
+    c .before .before .before .before .before .before .before .before .before .before .ty-row .kept .1 .1 .1 .1 .1 .0
+
+-- src/lib.rt:346:1
+row-item-returns-3 : (t : ℕ) → row-item-lts.Need-returns-3 (
+  refuse-reads.Asked,
+  refuse-reads.Learnt,
+  mark-reads.Asked,
+  mark-reads.Learnt,
+  ty-row-below t,
+  ty-row.Post,
+  at-reads.Asked,
+  at-reads.Learnt,
+  bump-reads.Asked,
+  bump-reads.Learnt,
+  close-reads.Asked,
+  close-reads.Learnt,
+) (row-item-at t) row-item.Post
+unfolding util.endItem types.tyRow
+row-item-returns-3 t c =
+    let falls = c .before .before .before .before .before .before .before .before .before .before .before .before .before .before .before .before .before .before .before .before .before .pre .0 in
+    let pre0 = c .before .before .before .before .before .before .before .before .before .before .before .before .before .before .before .before .before .before .before .before .before .pre .1 in
+    let if1 = c .before .before .before .before .before .before .before .before .before .before .before .before .before .before .if1 .left in
+    let mark-is = c .before .before .before .before .before .before .before .before .before .before .before .before .before .mark .ensures in
+    let mark = nth 0 mark-is in
+    let ty-row-is = c .before .before .before .before .before .before .before .before .before .before .ty-row .ensures in
+    let ty-row = nth 1 ty-row-is in
+    let at-is = c .before .before .before .before .before .at .ensures in
+    let at = nth 2 at-is in
+    let if2 = c .before .before .before .before .if2 .left in
+    let close2-is = c .before .before .close2 .ensures in
+    let close2 = nth 3 close2-is in
+    by-steps pre0 (λ b. search rules depth 60 fits 4000)
+
+-- src/lib.rt:330:8
+row-turn-at-requires : (t : ℕ) → row-turn-lts.Need-at-requires (
+  at-reads.Asked,
+  at-reads.Learnt,
+  bump-reads.Asked,
+  bump-reads.Learnt,
+  row-item-below t,
+  row-item.Post,
+  eat-reads.Asked,
+  eat-reads.Learnt,
+  state-reads.Asked,
+  state-reads.Learnt,
+) (row-turn-at t) row-turn.Post
+row-turn-at-requires t c κs =
+    let falls = c .before .before .before .before .before .before .pre .0 in
+    let pre0 = c .before .before .before .before .before .before .pre .1 in
+    search asks depth 8
+
+-- src/lib.rt:331:31
+row-turn-bump-requires : (t : ℕ) → row-turn-lts.Need-bump-requires (
+  at-reads.Asked,
+  at-reads.Learnt,
+  bump-reads.Asked,
+  bump-reads.Learnt,
+  row-item-below t,
+  row-item.Post,
+  eat-reads.Asked,
+  eat-reads.Learnt,
+  state-reads.Asked,
+  state-reads.Learnt,
+) (row-turn-at t) row-turn.Post
+row-turn-bump-requires t c κs =
+    let falls = c .before .before .before .before .before .before .before .before .before .pre .0 in
+    let pre0 = c .before .before .before .before .before .before .before .before .before .pre .1 in
+    let at = c .before .before .at .ensures in
+    let if1 = c .before .if1 .taken in
+    search asks depth 8
+
+-- src/lib.rt:331:9
+row-turn-same-length : (t : ℕ) → row-turn-lts.Need-same-length (
+  at-reads.Asked,
+  at-reads.Learnt,
+  bump-reads.Asked,
+  bump-reads.Learnt,
+  row-item-below t,
+  row-item.Post,
+  eat-reads.Asked,
+  eat-reads.Learnt,
+  state-reads.Asked,
+  state-reads.Learnt,
+) (row-turn-at t) row-turn.Post
+row-turn-same-length t c =
+    c .before .before .bump .kept .1 .0
+
+-- src/lib.rt:331:9
+row-turn-returns : (t : ℕ) → row-turn-lts.Need-returns (
+  at-reads.Asked,
+  at-reads.Learnt,
+  bump-reads.Asked,
+  bump-reads.Learnt,
+  row-item-below t,
+  row-item.Post,
+  eat-reads.Asked,
+  eat-reads.Learnt,
+  state-reads.Asked,
+  state-reads.Learnt,
+) (row-turn-at t) row-turn.Post
+unfolding util.endTurn types.tyRow
+row-turn-returns t c =
+    let falls = c .before .before .before .before .before .before .before .before .before .before .before .before .pre .0 in
+    let pre0 = c .before .before .before .before .before .before .before .before .before .before .before .before .pre .1 in
+    let at-is = c .before .before .before .before .before .at .ensures in
+    let at = nth 0 at-is in
+    let if1 = c .before .before .before .before .if1 .taken in
+    let bump-is = c .before .before .bump .ensures in
+    let bump = nth 1 bump-is in
+    by-steps pre0 (λ b. search rules depth 60 fits 4000)
+
+-- src/lib.rt:333:9
+row-turn-row-item-requires : (t : ℕ) → row-turn-lts.Need-row-item-requires (
+  at-reads.Asked,
+  at-reads.Learnt,
+  bump-reads.Asked,
+  bump-reads.Learnt,
+  row-item-below t,
+  row-item.Post,
+  eat-reads.Asked,
+  eat-reads.Learnt,
+  state-reads.Asked,
+  state-reads.Learnt,
+) (row-turn-at t) row-turn.Post
+row-turn-row-item-requires t c κs =
+    let falls = c .before .before .before .before .before .before .before .before .before .before .pre .0 in
+    let pre0 = c .before .before .before .before .before .before .before .before .before .before .pre .1 in
+    let at = c .before .before .before .at .ensures in
+    let if1 = c .before .before .if1 .left in
+    search asks depth 8
+
+-- src/lib.rt:335:19
+row-turn-enum-known-item : (t : ℕ) → row-turn-lts.Need-enum-known-item (
+  at-reads.Asked,
+  at-reads.Learnt,
+  bump-reads.Asked,
+  bump-reads.Learnt,
+  row-item-below t,
+  row-item.Post,
+  eat-reads.Asked,
+  eat-reads.Learnt,
+  state-reads.Asked,
+  state-reads.Learnt,
+) (row-turn-at t) row-turn.Post
+row-turn-enum-known-item t c =
+    let falls = c .before .before .before .before .before .before .before .before .before .before .before .before .before .before .before .before .pre .0 in
+    let pre0 = c .before .before .before .before .before .before .before .before .before .before .before .before .before .before .before .before .pre .1 in
+    let if1 = c .before .before .before .before .before .before .before .before .if1 .left in
+    search needs
+
+-- src/lib.rt:336:24
+row-turn-enum-known-item-2 : (t : ℕ) → row-turn-lts.Need-enum-known-item-2 (
+  at-reads.Asked,
+  at-reads.Learnt,
+  bump-reads.Asked,
+  bump-reads.Learnt,
+  row-item-below t,
+  row-item.Post,
+  eat-reads.Asked,
+  eat-reads.Learnt,
+  state-reads.Asked,
+  state-reads.Learnt,
+) (row-turn-at t) row-turn.Post
+row-turn-enum-known-item-2 t c =
+    let falls = c .before .before .before .before .before .before .before .before .before .before .before .before .before .before .before .before .pre .0 in
+    let pre0 = c .before .before .before .before .before .before .before .before .before .before .before .before .before .before .before .before .pre .1 in
+    let if1 = c .before .before .before .before .before .before .before .before .if1 .left in
+    search needs
+
+-- src/lib.rt:337:17
+row-turn-eat-requires : (t : ℕ) → row-turn-lts.Need-eat-requires (
+  at-reads.Asked,
+  at-reads.Learnt,
+  bump-reads.Asked,
+  bump-reads.Learnt,
+  row-item-below t,
+  row-item.Post,
+  eat-reads.Asked,
+  eat-reads.Learnt,
+  state-reads.Asked,
+  state-reads.Learnt,
+) (row-turn-at t) row-turn.Post
+row-turn-eat-requires t c κs =
+    let falls = c .before .before .before .before .before .before .before .before .before .before .before .before .before .before .before .before .before .before .before .before .pre .0 in
+    let pre0 = c .before .before .before .before .before .before .before .before .before .before .before .before .before .before .before .before .before .before .before .before .pre .1 in
+    let at = c .before .before .before .before .before .before .before .before .before .before .before .before .before .at .ensures in
+    let if1 = c .before .before .before .before .before .before .before .before .before .before .before .before .if1 .left in
+    let row-item = rw (c .before .before .before .item2 .given .1) at (c .before .before .before .before .before .before .before .before .before .row-item .ensures) in
+    let row-item-ok = row-item .ok in
+    search asks depth 8
+
+-- src/lib.rt:338:17
+row-turn-state-requires : (t : ℕ) → row-turn-lts.Need-state-requires (
+  at-reads.Asked,
+  at-reads.Learnt,
+  bump-reads.Asked,
+  bump-reads.Learnt,
+  row-item-below t,
+  row-item.Post,
+  eat-reads.Asked,
+  eat-reads.Learnt,
+  state-reads.Asked,
+  state-reads.Learnt,
+) (row-turn-at t) row-turn.Post
+row-turn-state-requires t c κs =
+    let falls = c .before .before .before .before .before .before .before .before .before .before .before .before .before .before .before .before .before .before .before .before .before .before .before .before .before .pre .0 in
+    let pre0 = c .before .before .before .before .before .before .before .before .before .before .before .before .before .before .before .before .before .before .before .before .before .before .before .before .before .pre .1 in
+    let at = c .before .before .before .before .before .before .before .before .before .before .before .before .before .before .before .before .before .before .at .ensures in
+    let if1 = c .before .before .before .before .before .before .before .before .before .before .before .before .before .before .before .before .before .if1 .left in
+    let row-item = rw (c .before .before .before .before .before .before .before .before .item2 .given .1) at (c .before .before .before .before .before .before .before .before .before .before .before .before .before .before .row-item .ensures) in
+    let row-item-ok = row-item .ok in
+    let eat = c .before .before .before .before .eat .ensures in
+    let eat-ok = eat .ok in
+    search asks depth 8
+
+-- src/lib.rt:326:1
+row-turn-same-length-2 : (t : ℕ) → row-turn-lts.Need-same-length-2 (
+  at-reads.Asked,
+  at-reads.Learnt,
+  bump-reads.Asked,
+  bump-reads.Learnt,
+  row-item-below t,
+  row-item.Post,
+  eat-reads.Asked,
+  eat-reads.Learnt,
+  state-reads.Asked,
+  state-reads.Learnt,
+) (row-turn-at t) row-turn.Post
+row-turn-same-length-2 t c =
+    c .before .before .before .before .before .before .before .row-item .kept .1 .1 .1 .1 .0
+
+-- src/lib.rt:326:1
+row-turn-same-length-3 : (t : ℕ) → row-turn-lts.Need-same-length-3 (
+  at-reads.Asked,
+  at-reads.Learnt,
+  bump-reads.Asked,
+  bump-reads.Learnt,
+  row-item-below t,
+  row-item.Post,
+  eat-reads.Asked,
+  eat-reads.Learnt,
+  state-reads.Asked,
+  state-reads.Learnt,
+) (row-turn-at t) row-turn.Post
+row-turn-same-length-3 t c =
+    c .before .before .before .before .before .before .before .row-item .kept .1 .1 .1 .1 .1 .0
+
+-- src/lib.rt:326:1
+row-turn-returns-2 : (t : ℕ) → row-turn-lts.Need-returns-2 (
+  at-reads.Asked,
+  at-reads.Learnt,
+  bump-reads.Asked,
+  bump-reads.Learnt,
+  row-item-below t,
+  row-item.Post,
+  eat-reads.Asked,
+  eat-reads.Learnt,
+  state-reads.Asked,
+  state-reads.Learnt,
+) (row-turn-at t) row-turn.Post
+unfolding util.endTurn types.tyRow
+row-turn-returns-2 t c =
+    let falls = c .before .before .before .before .before .before .before .before .before .before .before .before .before .before .before .before .before .before .pre .0 in
+    let pre0 = c .before .before .before .before .before .before .before .before .before .before .before .before .before .before .before .before .before .before .pre .1 in
+    let at-is = c .before .before .before .before .before .before .before .before .before .before .before .at .ensures in
+    let at = nth 0 at-is in
+    let if1 = c .before .before .before .before .before .before .before .before .before .before .if1 .left in
+    let row-item-is = rw (c .before .item .given .1) at (c .before .before .before .before .before .before .before .row-item .ensures) in
+    let row-item = nth 1 row-item-is in
+    by-steps pre0 (λ b. search rules depth 60 fits 4000)
+
+-- src/lib.rt:326:1
+row-turn-same-length-4 : (t : ℕ) → row-turn-lts.Need-same-length-4 (
+  at-reads.Asked,
+  at-reads.Learnt,
+  bump-reads.Asked,
+  bump-reads.Learnt,
+  row-item-below t,
+  row-item.Post,
+  eat-reads.Asked,
+  eat-reads.Learnt,
+  state-reads.Asked,
+  state-reads.Learnt,
+) (row-turn-at t) row-turn.Post
+row-turn-same-length-4 t c =
+    c .before .before .before .before .before .eat .kept .1 .1 .1 .1 .0 ∙ c .before .before .before .before .before .before .before .before .before .before .before .before .before .before .before .row-item .kept .1 .1 .1 .1 .0
+
+-- src/lib.rt:326:1
+row-turn-same-length-5 : (t : ℕ) → row-turn-lts.Need-same-length-5 (
+  at-reads.Asked,
+  at-reads.Learnt,
+  bump-reads.Asked,
+  bump-reads.Learnt,
+  row-item-below t,
+  row-item.Post,
+  eat-reads.Asked,
+  eat-reads.Learnt,
+  state-reads.Asked,
+  state-reads.Learnt,
+) (row-turn-at t) row-turn.Post
+row-turn-same-length-5 t c =
+    c .before .before .before .before .before .eat .kept .1 .1 .1 .1 .1 .0 ∙ c .before .before .before .before .before .before .before .before .before .before .before .before .before .before .before .row-item .kept .1 .1 .1 .1 .1 .0
+
+-- src/lib.rt:326:1
+row-turn-returns-3 : (t : ℕ) → row-turn-lts.Need-returns-3 (
+  at-reads.Asked,
+  at-reads.Learnt,
+  bump-reads.Asked,
+  bump-reads.Learnt,
+  row-item-below t,
+  row-item.Post,
+  eat-reads.Asked,
+  eat-reads.Learnt,
+  state-reads.Asked,
+  state-reads.Learnt,
+) (row-turn-at t) row-turn.Post
+unfolding util.endTurn types.tyRow
+row-turn-returns-3 t c =
+    let falls = c .before .before .before .before .before .before .before .before .before .before .before .before .before .before .before .before .before .before .before .before .before .before .before .before .before .before .pre .0 in
+    let pre0 = c .before .before .before .before .before .before .before .before .before .before .before .before .before .before .before .before .before .before .before .before .before .before .before .before .before .before .pre .1 in
+    let at-is = c .before .before .before .before .before .before .before .before .before .before .before .before .before .before .before .before .before .before .before .at .ensures in
+    let at = nth 0 at-is in
+    let if1 = c .before .before .before .before .before .before .before .before .before .before .before .before .before .before .before .before .before .before .if1 .left in
+    let row-item-is = rw (c .before .before .before .before .before .before .before .before .before .item2 .given .1) at (c .before .before .before .before .before .before .before .before .before .before .before .before .before .before .before .row-item .ensures) in
+    let row-item = nth 1 row-item-is in
+    let eat-is = c .before .before .before .before .before .eat .ensures in
+    let eat = nth 2 eat-is in
+    let state-is = c .state .ensures in
+    let state = nth 3 state-is in
+    by-steps pre0 (λ b. search rules depth 60 fits 4000)
+
+-- src/lib.rt:298:9
+star-factor-refuse-requires : (t : ℕ) → star-factor-lts.Need-refuse-requires (
+  refuse-reads.Asked,
+  refuse-reads.Learnt,
+  mark-reads.Asked,
+  mark-reads.Learnt,
+  bump-reads.Asked,
+  bump-reads.Learnt,
+  ty-must-below t,
+  ty-must.Post,
+  close-reads.Asked,
+  close-reads.Learnt,
+) (star-factor-at t) star-factor.Post
+star-factor-refuse-requires t c κs =
+    let falls = c .before .before .before .before .before .before .before .pre .0 in
+    let pre0 = c .before .before .before .before .before .before .before .pre .1 in
+    let if1 = c .if1 .taken in
+    search asks depth 8
+
+-- src/lib.rt:298:9
+star-factor-returns : (t : ℕ) → star-factor-lts.Need-returns (
+  refuse-reads.Asked,
+  refuse-reads.Learnt,
+  mark-reads.Asked,
+  mark-reads.Learnt,
+  bump-reads.Asked,
+  bump-reads.Learnt,
+  ty-must-below t,
+  ty-must.Post,
+  close-reads.Asked,
+  close-reads.Learnt,
+) (star-factor-at t) star-factor.Post
+unfolding types.starFactor
+star-factor-returns t c =
+    let falls = c .before .before .before .before .before .before .before .before .pre .0 in
+    let pre0 = c .before .before .before .before .before .before .before .before .pre .1 in
+    let if1 = c .before .if1 .taken in
+    let refuse-is = c .refuse .ensures in
+    let refuse = nth 0 refuse-is in
+    by-steps pre0 (λ b. search rules depth 60 fits 4000)
+
+-- src/lib.rt:300:9
+star-factor-mark-requires : (t : ℕ) → star-factor-lts.Need-mark-requires (
+  refuse-reads.Asked,
+  refuse-reads.Learnt,
+  mark-reads.Asked,
+  mark-reads.Learnt,
+  bump-reads.Asked,
+  bump-reads.Learnt,
+  ty-must-below t,
+  ty-must.Post,
+  close-reads.Asked,
+  close-reads.Learnt,
+) (star-factor-at t) star-factor.Post
+star-factor-mark-requires t c κs =
+    let falls = c .before .before .before .before .before .before .before .pre .0 in
+    let pre0 = c .before .before .before .before .before .before .before .pre .1 in
+    let if1 = c .if1 .left in
+    search asks depth 8
+
+-- src/lib.rt:302:9
+star-factor-bump-requires : (t : ℕ) → star-factor-lts.Need-bump-requires (
+  refuse-reads.Asked,
+  refuse-reads.Learnt,
+  mark-reads.Asked,
+  mark-reads.Learnt,
+  bump-reads.Asked,
+  bump-reads.Learnt,
+  ty-must-below t,
+  ty-must.Post,
+  close-reads.Asked,
+  close-reads.Learnt,
+) (star-factor-at t) star-factor.Post
+star-factor-bump-requires t c κs =
+    let falls = c .before .before .before .before .before .before .before .before .before .pre .0 in
+    let pre0 = c .before .before .before .before .before .before .before .before .before .pre .1 in
+    let if1 = c .before .before .if1 .left in
+    let mark = c .before .mark .ensures in
+    let mark-ok = ok-marks mark pre0 in
+    search asks depth 8
+
+-- src/lib.rt:303:62
+star-factor-sub-ty-must : (t : ℕ) → star-factor-lts.Need-sub-ty-must (
+  refuse-reads.Asked,
+  refuse-reads.Learnt,
+  mark-reads.Asked,
+  mark-reads.Learnt,
+  bump-reads.Asked,
+  bump-reads.Learnt,
+  ty-must-below t,
+  ty-must.Post,
+  close-reads.Asked,
+  close-reads.Learnt,
+) (star-factor-at t) star-factor.Post
+star-factor-sub-ty-must t c =
+    let falls = c .before .before .before .before .before .before .before .before .before .before .before .before .before .before .pre .0 in
+    let pre0 = c .before .before .before .before .before .before .before .before .before .before .before .before .before .before .pre .1 in
+    let if1 = c .before .before .before .before .before .before .before .if1 .left in
+    search needs
+
+-- src/lib.rt:303:9
+star-factor-ty-must-requires : (t : ℕ) → star-factor-lts.Need-ty-must-requires (
+  refuse-reads.Asked,
+  refuse-reads.Learnt,
+  mark-reads.Asked,
+  mark-reads.Learnt,
+  bump-reads.Asked,
+  bump-reads.Learnt,
+  ty-must-below t,
+  ty-must.Post,
+  close-reads.Asked,
+  close-reads.Learnt,
+) (star-factor-at t) star-factor.Post
+star-factor-ty-must-requires t c κs =
+    let falls = c .before .before .before .before .before .before .before .before .before .before .before .before .before .before .pre .0 in
+    let pre0 = c .before .before .before .before .before .before .before .before .before .before .before .before .before .before .pre .1 in
+    let if1 = c .before .before .before .before .before .before .before .if1 .left in
+    let mark = c .before .before .before .before .before .before .mark .ensures in
+    let mark-ok = ok-marks mark pre0 in
+    let bump = c .before .before .before .before .bump .ensures in
+    let bump-ok = ok-bumps bump mark-ok in
+    search asks depth 8
+
+-- src/lib.rt:304:5
+star-factor-close-requires : (t : ℕ) → star-factor-lts.Need-close-requires (
+  refuse-reads.Asked,
+  refuse-reads.Learnt,
+  mark-reads.Asked,
+  mark-reads.Learnt,
+  bump-reads.Asked,
+  bump-reads.Learnt,
+  ty-must-below t,
+  ty-must.Post,
+  close-reads.Asked,
+  close-reads.Learnt,
+) (star-factor-at t) star-factor.Post
+star-factor-close-requires t c κs =
+    let falls = c .before .before .before .before .before .before .before .before .before .before .before .before .before .before .before .before .before .before .before .before .pre .0 in
+    let pre0 = c .before .before .before .before .before .before .before .before .before .before .before .before .before .before .before .before .before .before .before .before .pre .1 in
+    let if1 = c .before .before .before .before .before .before .before .before .before .before .before .before .before .if1 .left in
+    let mark = c .before .before .before .before .before .before .before .before .before .before .before .before .mark .ensures in
+    let mark-ok = ok-marks mark pre0 in
+    let bump = c .before .before .before .before .before .before .before .before .before .before .bump .ensures in
+    let bump-ok = ok-bumps bump mark-ok in
+    let ty-must = c .before .before .before .before .before .ty-must .ensures in
+    let ty-must-ok = ty-must .ok in
+    search asks depth 8
+
+-- src/lib.rt:293:1
+star-factor-same-length : (t : ℕ) → star-factor-lts.Need-same-length (
+  refuse-reads.Asked,
+  refuse-reads.Learnt,
+  mark-reads.Asked,
+  mark-reads.Learnt,
+  bump-reads.Asked,
+  bump-reads.Learnt,
+  ty-must-below t,
+  ty-must.Post,
+  close-reads.Asked,
+  close-reads.Learnt,
+) (star-factor-at t) star-factor.Post
+star-factor-same-length t c =
+    c .before .before .close .kept .0 ∙ c .before .before .before .before .before .before .before .before .ty-must .kept .1 .1 .1 .1 .0 ∙ c .before .before .before .before .before .before .before .before .before .before .before .before .before .bump .kept .1 .0
+
+-- src/lib.rt:293:1
+star-factor-same-length-2 : (t : ℕ) → star-factor-lts.Need-same-length-2 (
+  refuse-reads.Asked,
+  refuse-reads.Learnt,
+  mark-reads.Asked,
+  mark-reads.Learnt,
+  bump-reads.Asked,
+  bump-reads.Learnt,
+  ty-must-below t,
+  ty-must.Post,
+  close-reads.Asked,
+  close-reads.Learnt,
+) (star-factor-at t) star-factor.Post
+star-factor-same-length-2 t c =
+    c .before .before .before .before .before .before .before .before .ty-must .kept .1 .1 .1 .1 .1 .0
+
+-- src/lib.rt:293:1
+star-factor-returns-2 : (t : ℕ) → star-factor-lts.Need-returns-2 (
+  refuse-reads.Asked,
+  refuse-reads.Learnt,
+  mark-reads.Asked,
+  mark-reads.Learnt,
+  bump-reads.Asked,
+  bump-reads.Learnt,
+  ty-must-below t,
+  ty-must.Post,
+  close-reads.Asked,
+  close-reads.Learnt,
+) (star-factor-at t) star-factor.Post
+unfolding types.starFactor
+star-factor-returns-2 t c =
+    let falls = c .before .before .before .before .before .before .before .before .before .before .before .before .before .before .before .before .before .before .before .before .before .before .before .pre .0 in
+    let pre0 = c .before .before .before .before .before .before .before .before .before .before .before .before .before .before .before .before .before .before .before .before .before .before .before .pre .1 in
+    let if1 = c .before .before .before .before .before .before .before .before .before .before .before .before .before .before .before .before .if1 .left in
+    let mark-is = c .before .before .before .before .before .before .before .before .before .before .before .before .before .before .before .mark .ensures in
+    let mark = nth 0 mark-is in
+    let bump-is = c .before .before .before .before .before .before .before .before .before .before .before .before .before .bump .ensures in
+    let bump = nth 1 bump-is in
+    let ty-must-is = c .before .before .before .before .before .before .before .before .ty-must .ensures in
+    let ty-must = nth 2 ty-must-is in
+    let close-is = c .before .before .close .ensures in
+    let close = nth 3 close-is in
+    by-steps pre0 (λ b. search rules depth 60 fits 4000)
+
+abbrev star-tail-Inv-loop : star-tail-lts.InvT-loop
+star-tail-Inv-loop text toks env table scratch₀ finds₀ left b s1₀ scratch finds s1 =
+    Loops left b types.starTurn (mem text toks env table scratch₀ finds₀ s1₀) (mem text toks env table scratch finds s1) × (length scratch ≡ length scratch₀) × (length finds ≡ length finds₀)
+
+abbrev star-tail-μ-loop : star-tail-lts.MeasureT-loop
+star-tail-μ-loop text toks env table scratch₀ finds₀ left b s1₀ scratch finds s1 = turns (mem text toks env table scratch finds s1)
+
+-- src/lib.rt:269:5
+star-tail-loop-holds :
+    (t : ℕ) →
+    star-tail-lts.Need-loop-holds
+    (star-turn-below t, star-turn.Post)
+    (star-tail-at t)
+    star-tail.Post
+    star-tail-Inv-loop
+    star-tail-μ-loop
+star-tail-loop-holds t c =
+    let falls = c .before .before .before .before .before .before .pre .0 in
+    let pre0 = c .before .before .before .before .before .before .pre .1 in
+    (loop-starts pre0, refl, refl)
+
+-- src/lib.rt:270:13
+star-tail-star-turn-requires : (t : ℕ) → star-tail-lts.Need-star-turn-requires (
+  star-turn-below t,
+  star-turn.Post,
+) (star-tail-at t) star-tail.Post star-tail-Inv-loop star-tail-μ-loop
+star-tail-star-turn-requires t c κs =
+    let falls = c .before .before .before .before .before .before .before .before .before .pre .0 in
+    let pre0 = c .before .before .before .before .before .before .before .before .before .pre .1 in
+    let inv = c .before .before .loop .inv .0 .ok in
+    search asks depth 8
+
+-- src/lib.rt:272:23
+star-tail-enum-known-turn : (t : ℕ) → star-tail-lts.Need-enum-known-turn (
+  star-turn-below t,
+  star-turn.Post,
+) (star-tail-at t) star-tail.Post star-tail-Inv-loop star-tail-μ-loop
+star-tail-enum-known-turn t c =
+    let falls = c .before .before .before .before .before .before .before .before .before .before .before .before .before .before .before .pre .0 in
+    let pre0 = c .before .before .before .before .before .before .before .before .before .before .before .before .before .before .before .pre .1 in
+    search needs
+
+-- src/lib.rt:269:5
+star-tail-loop-less :
+    (t : ℕ) →
+    star-tail-lts.Need-loop-less
+    (star-turn-below t, star-turn.Post)
+    (star-tail-at t)
+    star-tail.Post
+    star-tail-Inv-loop
+    star-tail-μ-loop
+star-tail-loop-less t c =
+    let star-turn = runs-in {b = 0} (rw (c .before .turn .given .1) at (c .before .before .before .before .before .before .before .star-turn .ensures)) in
+    loop-falls (star-advances _ _) star-turn
+
+-- src/lib.rt:269:5
+star-tail-loop-again :
+    (t : ℕ) →
+    star-tail-lts.Need-loop-again
+    (star-turn-below t, star-turn.Post)
+    (star-tail-at t)
+    star-tail.Post
+    star-tail-Inv-loop
+    star-tail-μ-loop
+star-tail-loop-again t c =
+    let star-turn = runs-in (rw (c .before .turn .given .1) at (c .before .before .before .before .before .before .before .star-turn .ensures)) in
+    (loop-goes (star-advances _ _) (c .before .before .before .before .before .before .before .before .before .before .loop .inv .0) star-turn, c .before .before .before .before .before .before .before .star-turn .kept .1 .1 .1 .1 .0 ∙ c .before .before .before .before .before .before .before .before .before .before .loop .inv .1, c .before .before .before .before .before .before .before .star-turn .kept .1 .1 .1 .1 .1 .0 ∙ c .before .before .before .before .before .before .before .before .before .before .loop .inv .2)
+
+-- src/lib.rt:273:28
+star-tail-enum-known-turn-2 : (t : ℕ) → star-tail-lts.Need-enum-known-turn-2 (
+  star-turn-below t,
+  star-turn.Post,
+) (star-tail-at t) star-tail.Post star-tail-Inv-loop star-tail-μ-loop
+star-tail-enum-known-turn-2 t c =
+    let falls = c .before .before .before .before .before .before .before .before .before .before .before .before .before .before .before .pre .0 in
+    let pre0 = c .before .before .before .before .before .before .before .before .before .before .before .before .before .before .before .pre .1 in
+    search needs
+
+-- src/lib.rt:273:35
+star-tail-same-length : (t : ℕ) → star-tail-lts.Need-same-length (
+  star-turn-below t,
+  star-turn.Post,
+) (star-tail-at t) star-tail.Post star-tail-Inv-loop star-tail-μ-loop
+star-tail-same-length t c =
+    c .before .before .before .before .before .before .before .star-turn .kept .1 .1 .1 .1 .0 ∙ c .before .before .before .before .before .before .before .before .before .before .loop .inv .1
+
+-- src/lib.rt:273:35
+star-tail-same-length-2 : (t : ℕ) → star-tail-lts.Need-same-length-2 (
+  star-turn-below t,
+  star-turn.Post,
+) (star-tail-at t) star-tail.Post star-tail-Inv-loop star-tail-μ-loop
+star-tail-same-length-2 t c =
+    c .before .before .before .before .before .before .before .star-turn .kept .1 .1 .1 .1 .1 .0 ∙ c .before .before .before .before .before .before .before .before .before .before .loop .inv .2
+
+-- src/lib.rt:273:35
+star-tail-returns :
+    (t : ℕ) →
+    star-tail-lts.Need-returns
+    (star-turn-below t, star-turn.Post)
+    (star-tail-at t)
+    star-tail.Post
+    star-tail-Inv-loop
+    star-tail-μ-loop
+star-tail-returns t c =
+    let star-turn = runs-in (rw (c .before .turn2 .given .1) at (c .before .before .before .before .before .before .before .star-turn .ensures)) in
+    loop-ends (star-advances _ _) (c .before .before .before .before .before .before .before .before .before .before .loop .inv .0) star-turn
+
+-- src/lib.rt:284:8
+star-turn-at-requires : (t : ℕ) → star-turn-lts.Need-at-requires (
+  at-reads.Asked,
+  at-reads.Learnt,
+  star-factor-below t,
+  star-factor.Post,
+) (star-turn-at t) star-turn.Post
+star-turn-at-requires t c κs =
+    let falls = c .before .before .before .before .before .before .pre .0 in
+    let pre0 = c .before .before .before .before .before .before .pre .1 in
+    search asks depth 8
+
+-- src/lib.rt:285:19
+star-turn-star-factor-requires : (t : ℕ) → star-turn-lts.Need-star-factor-requires (
+  at-reads.Asked,
+  at-reads.Learnt,
+  star-factor-below t,
+  star-factor.Post,
+) (star-turn-at t) star-turn.Post
+star-turn-star-factor-requires t c κs =
+    let falls = c .before .before .before .before .before .before .before .before .before .before .pre .0 in
+    let pre0 = c .before .before .before .before .before .before .before .before .before .before .pre .1 in
+    let at = c .before .before .before .at .ensures in
+    let if1 = c .before .before .if1 .taken in
+    search asks depth 8
+
+-- src/lib.rt:280:1
+star-turn-same-length : (t : ℕ) → star-turn-lts.Need-same-length (
+  at-reads.Asked,
+  at-reads.Learnt,
+  star-factor-below t,
+  star-factor.Post,
+) (star-turn-at t) star-turn.Post
+star-turn-same-length t c =
+    c .before .before .before .before .star-factor .kept .1 .1 .1 .1 .0
+
+-- src/lib.rt:280:1
+star-turn-same-length-2 : (t : ℕ) → star-turn-lts.Need-same-length-2 (
+  at-reads.Asked,
+  at-reads.Learnt,
+  star-factor-below t,
+  star-factor.Post,
+) (star-turn-at t) star-turn.Post
+star-turn-same-length-2 t c =
+    c .before .before .before .before .star-factor .kept .1 .1 .1 .1 .1 .0
+
+-- src/lib.rt:280:1
+star-turn-returns : (t : ℕ) → star-turn-lts.Need-returns (
+  at-reads.Asked,
+  at-reads.Learnt,
+  star-factor-below t,
+  star-factor.Post,
+) (star-turn-at t) star-turn.Post
+unfolding types.starTurn
+star-turn-returns t c =
+    let falls = c .before .before .before .before .before .before .before .before .before .before .before .before .before .before .before .pre .0 in
+    let pre0 = c .before .before .before .before .before .before .before .before .before .before .before .before .before .before .before .pre .1 in
+    let at-is = c .before .before .before .before .before .before .before .before .at .ensures in
+    let at = nth 0 at-is in
+    let if1 = c .before .before .before .before .before .before .before .if1 .taken in
+    let star-factor-is = c .before .before .before .before .star-factor .ensures in
+    let star-factor = nth 1 star-factor-is in
+    by-steps pre0 (λ b. search rules depth 60 fits 4000)
+
+-- src/lib.rt:280:1
+star-turn-returns-2 : (t : ℕ) → star-turn-lts.Need-returns-2 (
+  at-reads.Asked,
+  at-reads.Learnt,
+  star-factor-below t,
+  star-factor.Post,
+) (star-turn-at t) star-turn.Post
+unfolding types.starTurn
+star-turn-returns-2 t c =
+    let falls = c .before .before .before .before .before .before .before .before .pre .0 in
+    let pre0 = c .before .before .before .before .before .before .before .before .pre .1 in
+    let at-is = c .before .at .ensures in
+    let at = nth 0 at-is in
+    let if1 = c .if1 .left in
+    by-steps pre0 (λ b. search rules depth 60 fits 4000)
+
+-- src/lib.rt:164:31
+ty-arg-refuse-requires : (t : ℕ) → ty-arg-lts.Need-refuse-requires (
+  refuse-reads.Asked,
+  refuse-reads.Learnt,
+  mark-reads.Asked,
+  mark-reads.Learnt,
+  ty-must-below t,
+  ty-must.Post,
+  at-reads.Asked,
+  at-reads.Learnt,
+  eat-reads.Asked,
+  eat-reads.Learnt,
+  state-reads.Asked,
+  state-reads.Learnt,
+  close-reads.Asked,
+  close-reads.Learnt,
+) (ty-arg-at t) ty-arg.Post
+ty-arg-refuse-requires t c κs =
+    let falls = c .before .before .before .before .before .before .before .pre .0 in
+    let pre0 = c .before .before .before .before .before .before .before .pre .1 in
+    let if1 = c .if1 .taken in
+    search asks depth 8
+
+-- src/lib.rt:164:9
+ty-arg-returns : (t : ℕ) → ty-arg-lts.Need-returns (
+  refuse-reads.Asked,
+  refuse-reads.Learnt,
+  mark-reads.Asked,
+  mark-reads.Learnt,
+  ty-must-below t,
+  ty-must.Post,
+  at-reads.Asked,
+  at-reads.Learnt,
+  eat-reads.Asked,
+  eat-reads.Learnt,
+  state-reads.Asked,
+  state-reads.Learnt,
+  close-reads.Asked,
+  close-reads.Learnt,
+) (ty-arg-at t) ty-arg.Post
+unfolding types.tyArg
+ty-arg-returns t c =
+    let falls = c .before .before .before .before .before .before .before .before .pre .0 in
+    let pre0 = c .before .before .before .before .before .before .before .before .pre .1 in
+    let if1 = c .before .if1 .taken in
+    let refuse-is = c .refuse .ensures in
+    let refuse = nth 0 refuse-is in
+    by-steps pre0 (λ b. search rules depth 60 fits 4000)
+
+-- src/lib.rt:166:9
+ty-arg-mark-requires : (t : ℕ) → ty-arg-lts.Need-mark-requires (
+  refuse-reads.Asked,
+  refuse-reads.Learnt,
+  mark-reads.Asked,
+  mark-reads.Learnt,
+  ty-must-below t,
+  ty-must.Post,
+  at-reads.Asked,
+  at-reads.Learnt,
+  eat-reads.Asked,
+  eat-reads.Learnt,
+  state-reads.Asked,
+  state-reads.Learnt,
+  close-reads.Asked,
+  close-reads.Learnt,
+) (ty-arg-at t) ty-arg.Post
+ty-arg-mark-requires t c κs =
+    let falls = c .before .before .before .before .before .before .before .pre .0 in
+    let pre0 = c .before .before .before .before .before .before .before .pre .1 in
+    let if1 = c .if1 .left in
+    search asks depth 8
+
+-- src/lib.rt:168:62
+ty-arg-sub-ty-must : (t : ℕ) → ty-arg-lts.Need-sub-ty-must (
+  refuse-reads.Asked,
+  refuse-reads.Learnt,
+  mark-reads.Asked,
+  mark-reads.Learnt,
+  ty-must-below t,
+  ty-must.Post,
+  at-reads.Asked,
+  at-reads.Learnt,
+  eat-reads.Asked,
+  eat-reads.Learnt,
+  state-reads.Asked,
+  state-reads.Learnt,
+  close-reads.Asked,
+  close-reads.Learnt,
+) (ty-arg-at t) ty-arg.Post
+ty-arg-sub-ty-must t c =
+    let falls = c .before .before .before .before .before .before .before .before .before .before .pre .0 in
+    let pre0 = c .before .before .before .before .before .before .before .before .before .before .pre .1 in
+    let if1 = c .before .before .before .if1 .left in
+    search needs
+
+-- src/lib.rt:168:9
+ty-arg-ty-must-requires : (t : ℕ) → ty-arg-lts.Need-ty-must-requires (
+  refuse-reads.Asked,
+  refuse-reads.Learnt,
+  mark-reads.Asked,
+  mark-reads.Learnt,
+  ty-must-below t,
+  ty-must.Post,
+  at-reads.Asked,
+  at-reads.Learnt,
+  eat-reads.Asked,
+  eat-reads.Learnt,
+  state-reads.Asked,
+  state-reads.Learnt,
+  close-reads.Asked,
+  close-reads.Learnt,
+) (ty-arg-at t) ty-arg.Post
+ty-arg-ty-must-requires t c κs =
+    let falls = c .before .before .before .before .before .before .before .before .before .before .pre .0 in
+    let pre0 = c .before .before .before .before .before .before .before .before .before .before .pre .1 in
+    let if1 = c .before .before .before .if1 .left in
+    let mark = c .before .before .mark .ensures in
+    let mark-ok = ok-marks mark pre0 in
+    search asks depth 8
+
+-- src/lib.rt:169:8
+ty-arg-at-requires : (t : ℕ) → ty-arg-lts.Need-at-requires (
+  refuse-reads.Asked,
+  refuse-reads.Learnt,
+  mark-reads.Asked,
+  mark-reads.Learnt,
+  ty-must-below t,
+  ty-must.Post,
+  at-reads.Asked,
+  at-reads.Learnt,
+  eat-reads.Asked,
+  eat-reads.Learnt,
+  state-reads.Asked,
+  state-reads.Learnt,
+  close-reads.Asked,
+  close-reads.Learnt,
+) (ty-arg-at t) ty-arg.Post
+ty-arg-at-requires t c κs =
+    let falls = c .before .before .before .before .before .before .before .before .before .before .before .before .before .before .before .pre .0 in
+    let pre0 = c .before .before .before .before .before .before .before .before .before .before .before .before .before .before .before .pre .1 in
+    let if1 = c .before .before .before .before .before .before .before .before .if1 .left in
+    let mark = c .before .before .before .before .before .before .before .mark .ensures in
+    let mark-ok = ok-marks mark pre0 in
+    let ty-must = c .before .before .before .before .ty-must .ensures in
+    let ty-must-ok = ty-must .ok in
+    search asks depth 8
+
+-- src/lib.rt:170:9
+ty-arg-same-length : (t : ℕ) → ty-arg-lts.Need-same-length (
+  refuse-reads.Asked,
+  refuse-reads.Learnt,
+  mark-reads.Asked,
+  mark-reads.Learnt,
+  ty-must-below t,
+  ty-must.Post,
+  at-reads.Asked,
+  at-reads.Learnt,
+  eat-reads.Asked,
+  eat-reads.Learnt,
+  state-reads.Asked,
+  state-reads.Learnt,
+  close-reads.Asked,
+  close-reads.Learnt,
+) (ty-arg-at t) ty-arg.Post
+ty-arg-same-length t c =
+    c .before .before .before .before .before .before .ty-must .kept .1 .1 .1 .1 .0
+
+-- src/lib.rt:170:9
+ty-arg-same-length-2 : (t : ℕ) → ty-arg-lts.Need-same-length-2 (
+  refuse-reads.Asked,
+  refuse-reads.Learnt,
+  mark-reads.Asked,
+  mark-reads.Learnt,
+  ty-must-below t,
+  ty-must.Post,
+  at-reads.Asked,
+  at-reads.Learnt,
+  eat-reads.Asked,
+  eat-reads.Learnt,
+  state-reads.Asked,
+  state-reads.Learnt,
+  close-reads.Asked,
+  close-reads.Learnt,
+) (ty-arg-at t) ty-arg.Post
+ty-arg-same-length-2 t c =
+    c .before .before .before .before .before .before .ty-must .kept .1 .1 .1 .1 .1 .0
+
+-- src/lib.rt:170:9
+ty-arg-returns-2 : (t : ℕ) → ty-arg-lts.Need-returns-2 (
+  refuse-reads.Asked,
+  refuse-reads.Learnt,
+  mark-reads.Asked,
+  mark-reads.Learnt,
+  ty-must-below t,
+  ty-must.Post,
+  at-reads.Asked,
+  at-reads.Learnt,
+  eat-reads.Asked,
+  eat-reads.Learnt,
+  state-reads.Asked,
+  state-reads.Learnt,
+  close-reads.Asked,
+  close-reads.Learnt,
+) (ty-arg-at t) ty-arg.Post
+unfolding types.tyArg
+ty-arg-returns-2 t c =
+    let falls = c .before .before .before .before .before .before .before .before .before .before .before .before .before .before .before .before .before .pre .0 in
+    let pre0 = c .before .before .before .before .before .before .before .before .before .before .before .before .before .before .before .before .before .pre .1 in
+    let if1 = c .before .before .before .before .before .before .before .before .before .before .if1 .left in
+    let mark-is = c .before .before .before .before .before .before .before .before .before .mark .ensures in
+    let mark = nth 0 mark-is in
+    let ty-must-is = c .before .before .before .before .before .before .ty-must .ensures in
+    let ty-must = nth 1 ty-must-is in
+    let at-is = c .before .at .ensures in
+    let at = nth 2 at-is in
+    let if2 = c .if2 .taken in
+    by-steps pre0 (λ b. search rules depth 60 fits 4000)
+
+-- src/lib.rt:172:9
+ty-arg-eat-requires : (t : ℕ) → ty-arg-lts.Need-eat-requires (
+  refuse-reads.Asked,
+  refuse-reads.Learnt,
+  mark-reads.Asked,
+  mark-reads.Learnt,
+  ty-must-below t,
+  ty-must.Post,
+  at-reads.Asked,
+  at-reads.Learnt,
+  eat-reads.Asked,
+  eat-reads.Learnt,
+  state-reads.Asked,
+  state-reads.Learnt,
+  close-reads.Asked,
+  close-reads.Learnt,
+) (ty-arg-at t) ty-arg.Post
+ty-arg-eat-requires t c κs =
+    let falls = c .before .before .before .before .before .before .before .before .before .before .before .before .before .before .before .before .before .before .before .pre .0 in
+    let pre0 = c .before .before .before .before .before .before .before .before .before .before .before .before .before .before .before .before .before .before .before .pre .1 in
+    let if1 = c .before .before .before .before .before .before .before .before .before .before .before .before .if1 .left in
+    let mark = c .before .before .before .before .before .before .before .before .before .before .before .mark .ensures in
+    let mark-ok = ok-marks mark pre0 in
+    let ty-must = c .before .before .before .before .before .before .before .before .ty-must .ensures in
+    let ty-must-ok = ty-must .ok in
+    let at = c .before .before .before .at .ensures in
+    let if2 = c .before .before .if2 .left in
+    search asks depth 8
+
+-- src/lib.rt:173:9
+ty-arg-state-requires : (t : ℕ) → ty-arg-lts.Need-state-requires (
+  refuse-reads.Asked,
+  refuse-reads.Learnt,
+  mark-reads.Asked,
+  mark-reads.Learnt,
+  ty-must-below t,
+  ty-must.Post,
+  at-reads.Asked,
+  at-reads.Learnt,
+  eat-reads.Asked,
+  eat-reads.Learnt,
+  state-reads.Asked,
+  state-reads.Learnt,
+  close-reads.Asked,
+  close-reads.Learnt,
+) (ty-arg-at t) ty-arg.Post
+ty-arg-state-requires t c κs =
+    let falls = c .before .before .before .before .before .before .before .before .before .before .before .before .before .before .before .before .before .before .before .before .before .before .before .before .pre .0 in
+    let pre0 = c .before .before .before .before .before .before .before .before .before .before .before .before .before .before .before .before .before .before .before .before .before .before .before .before .pre .1 in
+    let if1 = c .before .before .before .before .before .before .before .before .before .before .before .before .before .before .before .before .before .if1 .left in
+    let mark = c .before .before .before .before .before .before .before .before .before .before .before .before .before .before .before .before .mark .ensures in
+    let mark-ok = ok-marks mark pre0 in
+    let ty-must = c .before .before .before .before .before .before .before .before .before .before .before .before .before .ty-must .ensures in
+    let ty-must-ok = ty-must .ok in
+    let at = c .before .before .before .before .before .before .before .before .at .ensures in
+    let if2 = c .before .before .before .before .before .before .before .if2 .left in
+    let eat = c .before .before .before .before .eat .ensures in
+    let eat-ok = eat .ok in
+    search asks depth 8
+
+-- src/lib.rt:174:20
+ty-arg-close-requires : (t : ℕ) → ty-arg-lts.Need-close-requires (
+  refuse-reads.Asked,
+  refuse-reads.Learnt,
+  mark-reads.Asked,
+  mark-reads.Learnt,
+  ty-must-below t,
+  ty-must.Post,
+  at-reads.Asked,
+  at-reads.Learnt,
+  eat-reads.Asked,
+  eat-reads.Learnt,
+  state-reads.Asked,
+  state-reads.Learnt,
+  close-reads.Asked,
+  close-reads.Learnt,
+) (ty-arg-at t) ty-arg.Post
+ty-arg-close-requires t c κs =
+    let falls = c .before .before .before .before .before .before .before .before .before .before .before .before .before .before .before .before .before .before .before .before .before .before .before .before .before .before .pre .0 in
+    let pre0 = c .before .before .before .before .before .before .before .before .before .before .before .before .before .before .before .before .before .before .before .before .before .before .before .before .before .before .pre .1 in
+    let if1 = c .before .before .before .before .before .before .before .before .before .before .before .before .before .before .before .before .before .before .before .if1 .left in
+    let mark = c .before .before .before .before .before .before .before .before .before .before .before .before .before .before .before .before .before .before .mark .ensures in
+    let mark-ok = ok-marks mark pre0 in
+    let ty-must = c .before .before .before .before .before .before .before .before .before .before .before .before .before .before .before .ty-must .ensures in
+    let ty-must-ok = ty-must .ok in
+    let at = c .before .before .before .before .before .before .before .before .before .before .at .ensures in
+    let if2 = c .before .before .before .before .before .before .before .before .before .if2 .left in
+    let eat = c .before .before .before .before .before .before .eat .ensures in
+    let eat-ok = eat .ok in
+    let state = c .before .state .ensures in
+    let state-ok = ok-state state eat-ok in
+    search asks depth 8
+
+-- src/lib.rt:159:1
+ty-arg-same-length-3 : (t : ℕ) → ty-arg-lts.Need-same-length-3 (
+  refuse-reads.Asked,
+  refuse-reads.Learnt,
+  mark-reads.Asked,
+  mark-reads.Learnt,
+  ty-must-below t,
+  ty-must.Post,
+  at-reads.Asked,
+  at-reads.Learnt,
+  eat-reads.Asked,
+  eat-reads.Learnt,
+  state-reads.Asked,
+  state-reads.Learnt,
+  close-reads.Asked,
+  close-reads.Learnt,
+) (ty-arg-at t) ty-arg.Post
+ty-arg-same-length-3 t c =
+    c .before .before .close .kept .0 ∙ c .before .before .before .before .before .before .before .before .before .eat .kept .1 .1 .1 .1 .0 ∙ c .before .before .before .before .before .before .before .before .before .before .before .before .before .before .before .before .before .before .ty-must .kept .1 .1 .1 .1 .0
+
+-- src/lib.rt:159:1
+ty-arg-same-length-4 : (t : ℕ) → ty-arg-lts.Need-same-length-4 (
+  refuse-reads.Asked,
+  refuse-reads.Learnt,
+  mark-reads.Asked,
+  mark-reads.Learnt,
+  ty-must-below t,
+  ty-must.Post,
+  at-reads.Asked,
+  at-reads.Learnt,
+  eat-reads.Asked,
+  eat-reads.Learnt,
+  state-reads.Asked,
+  state-reads.Learnt,
+  close-reads.Asked,
+  close-reads.Learnt,
+) (ty-arg-at t) ty-arg.Post
+ty-arg-same-length-4 t c =
+    c .before .before .before .before .before .before .before .before .before .eat .kept .1 .1 .1 .1 .1 .0 ∙ c .before .before .before .before .before .before .before .before .before .before .before .before .before .before .before .before .before .before .ty-must .kept .1 .1 .1 .1 .1 .0
+
+-- src/lib.rt:159:1
+ty-arg-returns-3 : (t : ℕ) → ty-arg-lts.Need-returns-3 (
+  refuse-reads.Asked,
+  refuse-reads.Learnt,
+  mark-reads.Asked,
+  mark-reads.Learnt,
+  ty-must-below t,
+  ty-must.Post,
+  at-reads.Asked,
+  at-reads.Learnt,
+  eat-reads.Asked,
+  eat-reads.Learnt,
+  state-reads.Asked,
+  state-reads.Learnt,
+  close-reads.Asked,
+  close-reads.Learnt,
+) (ty-arg-at t) ty-arg.Post
+unfolding types.tyArg
+ty-arg-returns-3 t c =
+    let falls = c .before .before .before .before .before .before .before .before .before .before .before .before .before .before .before .before .before .before .before .before .before .before .before .before .before .before .before .before .before .pre .0 in
+    let pre0 = c .before .before .before .before .before .before .before .before .before .before .before .before .before .before .before .before .before .before .before .before .before .before .before .before .before .before .before .before .before .pre .1 in
+    let if1 = c .before .before .before .before .before .before .before .before .before .before .before .before .before .before .before .before .before .before .before .before .before .before .if1 .left in
+    let mark-is = c .before .before .before .before .before .before .before .before .before .before .before .before .before .before .before .before .before .before .before .before .before .mark .ensures in
+    let mark = nth 0 mark-is in
+    let ty-must-is = c .before .before .before .before .before .before .before .before .before .before .before .before .before .before .before .before .before .before .ty-must .ensures in
+    let ty-must = nth 1 ty-must-is in
+    let at-is = c .before .before .before .before .before .before .before .before .before .before .before .before .before .at .ensures in
+    let at = nth 2 at-is in
+    let if2 = c .before .before .before .before .before .before .before .before .before .before .before .before .if2 .left in
+    let eat-is = c .before .before .before .before .before .before .before .before .before .eat .ensures in
+    let eat = nth 3 eat-is in
+    let state-is = c .before .before .before .before .state .ensures in
+    let state = nth 4 state-is in
+    let close-is = c .before .before .close .ensures in
+    let close = nth 5 close-is in
+    by-steps pre0 (λ b. search rules depth 60 fits 4000)
+
+abbrev ty-args-Inv-loop : ty-args-lts.InvT-loop
+ty-args-Inv-loop text toks env table scratch₀ finds₀ left b s1₀ scratch finds s1 =
+    Loops left b (util.endTurn {g = true} SK.TyArg SK.Comma SK.RRound (types.tyMust 0)) (mem text toks env table scratch₀ finds₀ s1₀) (mem text toks env table scratch finds s1) × (length scratch ≡ length scratch₀) × (length finds ≡ length finds₀)
+
+abbrev ty-args-μ-loop : ty-args-lts.MeasureT-loop
+ty-args-μ-loop text toks env table scratch₀ finds₀ left b s1₀ scratch finds s1 = turns (mem text toks env table scratch finds s1)
+
+-- src/lib.rt:382:5
+ty-args-loop-holds :
+    (t : ℕ) →
+    ty-args-lts.Need-loop-holds
+    (arg-turn-below t, arg-turn.Post)
+    (ty-args-at t)
+    ty-args.Post
+    ty-args-Inv-loop
+    ty-args-μ-loop
+ty-args-loop-holds t c =
+    let falls = c .before .before .before .before .before .before .pre .0 in
+    let pre0 = c .before .before .before .before .before .before .pre .1 in
+    (loop-starts pre0, refl, refl)
+
+-- src/lib.rt:383:13
+ty-args-arg-turn-requires : (t : ℕ) → ty-args-lts.Need-arg-turn-requires (
+  arg-turn-below t,
+  arg-turn.Post,
+) (ty-args-at t) ty-args.Post ty-args-Inv-loop ty-args-μ-loop
+ty-args-arg-turn-requires t c κs =
+    let falls = c .before .before .before .before .before .before .before .before .before .pre .0 in
+    let pre0 = c .before .before .before .before .before .before .before .before .before .pre .1 in
+    let inv = c .before .before .loop .inv .0 .ok in
+    search asks depth 8
+
+-- src/lib.rt:385:23
+ty-args-enum-known-turn : (t : ℕ) → ty-args-lts.Need-enum-known-turn (
+  arg-turn-below t,
+  arg-turn.Post,
+) (ty-args-at t) ty-args.Post ty-args-Inv-loop ty-args-μ-loop
+ty-args-enum-known-turn t c =
+    let falls = c .before .before .before .before .before .before .before .before .before .before .before .before .before .before .before .pre .0 in
+    let pre0 = c .before .before .before .before .before .before .before .before .before .before .before .before .before .before .before .pre .1 in
+    search needs
+
+-- src/lib.rt:382:5
+ty-args-loop-less :
+    (t : ℕ) →
+    ty-args-lts.Need-loop-less
+    (arg-turn-below t, arg-turn.Post)
+    (ty-args-at t)
+    ty-args.Post
+    ty-args-Inv-loop
+    ty-args-μ-loop
+ty-args-loop-less t c =
+    let arg-turn = runs-in {b = 0} (rw (c .before .turn .given .1) at (c .before .before .before .before .before .before .before .arg-turn .ensures)) in
+    loop-falls (end-turn-advances true _ _ _ _ _ _) arg-turn
+
+-- src/lib.rt:382:5
+ty-args-loop-again :
+    (t : ℕ) →
+    ty-args-lts.Need-loop-again
+    (arg-turn-below t, arg-turn.Post)
+    (ty-args-at t)
+    ty-args.Post
+    ty-args-Inv-loop
+    ty-args-μ-loop
+ty-args-loop-again t c =
+    let arg-turn = runs-in (rw (c .before .turn .given .1) at (c .before .before .before .before .before .before .before .arg-turn .ensures)) in
+    (loop-goes (end-turn-advances true _ _ _ _ _ _) (c .before .before .before .before .before .before .before .before .before .before .loop .inv .0) arg-turn, c .before .before .before .before .before .before .before .arg-turn .kept .1 .1 .1 .1 .0 ∙ c .before .before .before .before .before .before .before .before .before .before .loop .inv .1, c .before .before .before .before .before .before .before .arg-turn .kept .1 .1 .1 .1 .1 .0 ∙ c .before .before .before .before .before .before .before .before .before .before .loop .inv .2)
+
+-- src/lib.rt:386:28
+ty-args-enum-known-turn-2 : (t : ℕ) → ty-args-lts.Need-enum-known-turn-2 (
+  arg-turn-below t,
+  arg-turn.Post,
+) (ty-args-at t) ty-args.Post ty-args-Inv-loop ty-args-μ-loop
+ty-args-enum-known-turn-2 t c =
+    let falls = c .before .before .before .before .before .before .before .before .before .before .before .before .before .before .before .pre .0 in
+    let pre0 = c .before .before .before .before .before .before .before .before .before .before .before .before .before .before .before .pre .1 in
+    search needs
+
+-- src/lib.rt:386:35
+ty-args-same-length :
+    (t : ℕ) →
+    ty-args-lts.Need-same-length
+    (arg-turn-below t, arg-turn.Post)
+    (ty-args-at t)
+    ty-args.Post
+    ty-args-Inv-loop
+    ty-args-μ-loop
+ty-args-same-length t c =
+    c .before .before .before .before .before .before .before .arg-turn .kept .1 .1 .1 .1 .0 ∙ c .before .before .before .before .before .before .before .before .before .before .loop .inv .1
+
+-- src/lib.rt:386:35
+ty-args-same-length-2 :
+    (t : ℕ) →
+    ty-args-lts.Need-same-length-2
+    (arg-turn-below t, arg-turn.Post)
+    (ty-args-at t)
+    ty-args.Post
+    ty-args-Inv-loop
+    ty-args-μ-loop
+ty-args-same-length-2 t c =
+    c .before .before .before .before .before .before .before .arg-turn .kept .1 .1 .1 .1 .1 .0 ∙ c .before .before .before .before .before .before .before .before .before .before .loop .inv .2
+
+-- src/lib.rt:386:35
+ty-args-returns :
+    (t : ℕ) →
+    ty-args-lts.Need-returns
+    (arg-turn-below t, arg-turn.Post)
+    (ty-args-at t)
+    ty-args.Post
+    ty-args-Inv-loop
+    ty-args-μ-loop
+ty-args-returns t c =
+    let arg-turn = runs-in (rw (c .before .turn2 .given .1) at (c .before .before .before .before .before .before .before .arg-turn .ensures)) in
+    loop-ends (end-turn-advances true _ _ _ _ _ _) (c .before .before .before .before .before .before .before .before .before .before .loop .inv .0) arg-turn
+
+-- src/lib.rt:228:9
+ty-arrow-refuse-requires : (t : ℕ) → ty-arrow-lts.Need-refuse-requires (
+  refuse-reads.Asked,
+  refuse-reads.Learnt,
+  mark-reads.Asked,
+  mark-reads.Learnt,
+  bump-reads.Asked,
+  bump-reads.Learnt,
+  ty-must-below t,
+  ty-must.Post,
+  close-reads.Asked,
+  close-reads.Learnt,
+) (ty-arrow-at t) ty-arrow.Post
+ty-arrow-refuse-requires t c κs =
+    let falls = c .before .before .before .before .before .before .before .pre .0 in
+    let pre0 = c .before .before .before .before .before .before .before .pre .1 .0 in
+    let pre1 = c .before .before .before .before .before .before .before .pre .1 .1 in
+    let if1 = c .if1 .taken in
+    search asks depth 8
+
+-- src/lib.rt:228:9
+ty-arrow-returns : (t : ℕ) → ty-arrow-lts.Need-returns (
+  refuse-reads.Asked,
+  refuse-reads.Learnt,
+  mark-reads.Asked,
+  mark-reads.Learnt,
+  bump-reads.Asked,
+  bump-reads.Learnt,
+  ty-must-below t,
+  ty-must.Post,
+  close-reads.Asked,
+  close-reads.Learnt,
+) (ty-arrow-at t) ty-arrow.Post
+unfolding types.tyArrow
+ty-arrow-returns t c =
+    let falls = c .before .before .before .before .before .before .before .before .pre .0 in
+    let pre0 = c .before .before .before .before .before .before .before .before .pre .1 .0 in
+    let pre1 = c .before .before .before .before .before .before .before .before .pre .1 .1 in
+    let if1 = c .before .if1 .taken in
+    let refuse-is = c .refuse .ensures in
+    let refuse = nth 0 refuse-is in
+    in-steps pre0 (search rules depth 60 fits 4000)
+
+-- src/lib.rt:230:34
+ty-arrow-mark-requires : (t : ℕ) → ty-arrow-lts.Need-mark-requires (
+  refuse-reads.Asked,
+  refuse-reads.Learnt,
+  mark-reads.Asked,
+  mark-reads.Learnt,
+  bump-reads.Asked,
+  bump-reads.Learnt,
+  ty-must-below t,
+  ty-must.Post,
+  close-reads.Asked,
+  close-reads.Learnt,
+) (ty-arrow-at t) ty-arrow.Post
+ty-arrow-mark-requires t c κs =
+    let falls = c .before .before .before .before .before .before .before .before .pre .0 in
+    let pre0 = c .before .before .before .before .before .before .before .before .pre .1 .0 in
+    let pre1 = c .before .before .before .before .before .before .before .before .pre .1 .1 in
+    let if1 = c .before .if1 .left in
+    search asks depth 8
+
+-- src/lib.rt:230:9
+ty-arrow-bump-requires : (t : ℕ) → ty-arrow-lts.Need-bump-requires (
+  refuse-reads.Asked,
+  refuse-reads.Learnt,
+  mark-reads.Asked,
+  mark-reads.Learnt,
+  bump-reads.Asked,
+  bump-reads.Learnt,
+  ty-must-below t,
+  ty-must.Post,
+  close-reads.Asked,
+  close-reads.Learnt,
+) (ty-arrow-at t) ty-arrow.Post
+ty-arrow-bump-requires t c κs =
+    let falls = c .before .before .before .before .before .before .before .before .before .pre .0 in
+    let pre0 = c .before .before .before .before .before .before .before .before .before .pre .1 .0 in
+    let pre1 = c .before .before .before .before .before .before .before .before .before .pre .1 .1 in
+    let if1 = c .before .before .if1 .left in
+    let mark = c .mark .ensures in
+    let mark-ok = ok-marks mark pre0 in
+    search asks depth 8
+
+-- src/lib.rt:231:62
+ty-arrow-sub-ty-must : (t : ℕ) → ty-arrow-lts.Need-sub-ty-must (
+  refuse-reads.Asked,
+  refuse-reads.Learnt,
+  mark-reads.Asked,
+  mark-reads.Learnt,
+  bump-reads.Asked,
+  bump-reads.Learnt,
+  ty-must-below t,
+  ty-must.Post,
+  close-reads.Asked,
+  close-reads.Learnt,
+) (ty-arrow-at t) ty-arrow.Post
+ty-arrow-sub-ty-must t c =
+    let falls = c .before .before .before .before .before .before .before .before .before .before .before .before .before .before .pre .0 in
+    let pre0 = c .before .before .before .before .before .before .before .before .before .before .before .before .before .before .pre .1 .0 in
+    let pre1 = c .before .before .before .before .before .before .before .before .before .before .before .before .before .before .pre .1 .1 in
+    let if1 = c .before .before .before .before .before .before .before .if1 .left in
+    search needs
+
+-- src/lib.rt:231:9
+ty-arrow-ty-must-requires : (t : ℕ) → ty-arrow-lts.Need-ty-must-requires (
+  refuse-reads.Asked,
+  refuse-reads.Learnt,
+  mark-reads.Asked,
+  mark-reads.Learnt,
+  bump-reads.Asked,
+  bump-reads.Learnt,
+  ty-must-below t,
+  ty-must.Post,
+  close-reads.Asked,
+  close-reads.Learnt,
+) (ty-arrow-at t) ty-arrow.Post
+ty-arrow-ty-must-requires t c κs =
+    let falls = c .before .before .before .before .before .before .before .before .before .before .before .before .before .before .pre .0 in
+    let pre0 = c .before .before .before .before .before .before .before .before .before .before .before .before .before .before .pre .1 .0 in
+    let pre1 = c .before .before .before .before .before .before .before .before .before .before .before .before .before .before .pre .1 .1 in
+    let if1 = c .before .before .before .before .before .before .before .if1 .left in
+    let mark = c .before .before .before .before .before .mark .ensures in
+    let mark-ok = ok-marks mark pre0 in
+    let bump = c .before .before .before .before .bump .ensures in
+    let bump-ok = ok-bumps bump mark-ok in
+    search asks depth 8
+
+-- src/lib.rt:232:5
+ty-arrow-close-requires : (t : ℕ) → ty-arrow-lts.Need-close-requires (
+  refuse-reads.Asked,
+  refuse-reads.Learnt,
+  mark-reads.Asked,
+  mark-reads.Learnt,
+  bump-reads.Asked,
+  bump-reads.Learnt,
+  ty-must-below t,
+  ty-must.Post,
+  close-reads.Asked,
+  close-reads.Learnt,
+) (ty-arrow-at t) ty-arrow.Post
+ty-arrow-close-requires t c κs =
+    let falls = c .before .before .before .before .before .before .before .before .before .before .before .before .before .before .before .before .before .before .before .before .pre .0 in
+    let pre0 = c .before .before .before .before .before .before .before .before .before .before .before .before .before .before .before .before .before .before .before .before .pre .1 .0 in
+    let pre1 = c .before .before .before .before .before .before .before .before .before .before .before .before .before .before .before .before .before .before .before .before .pre .1 .1 in
+    let if1 = c .before .before .before .before .before .before .before .before .before .before .before .before .before .if1 .left in
+    let mark = c .before .before .before .before .before .before .before .before .before .before .before .mark .ensures in
+    let mark-ok = ok-marks mark pre0 in
+    let bump = c .before .before .before .before .before .before .before .before .before .before .bump .ensures in
+    let bump-ok = ok-bumps bump mark-ok in
+    let ty-must = c .before .before .before .before .before .ty-must .ensures in
+    let ty-must-ok = ty-must .ok in
+    search asks depth 8
+
+-- src/lib.rt:223:1
+ty-arrow-same-length : (t : ℕ) → ty-arrow-lts.Need-same-length (
+  refuse-reads.Asked,
+  refuse-reads.Learnt,
+  mark-reads.Asked,
+  mark-reads.Learnt,
+  bump-reads.Asked,
+  bump-reads.Learnt,
+  ty-must-below t,
+  ty-must.Post,
+  close-reads.Asked,
+  close-reads.Learnt,
+) (ty-arrow-at t) ty-arrow.Post
+ty-arrow-same-length t c =
+    c .before .before .close .kept .0 ∙ c .before .before .before .before .before .before .before .before .ty-must .kept .1 .1 .1 .1 .0 ∙ c .before .before .before .before .before .before .before .before .before .before .before .before .before .bump .kept .1 .0
+
+-- src/lib.rt:223:1
+ty-arrow-same-length-2 : (t : ℕ) → ty-arrow-lts.Need-same-length-2 (
+  refuse-reads.Asked,
+  refuse-reads.Learnt,
+  mark-reads.Asked,
+  mark-reads.Learnt,
+  bump-reads.Asked,
+  bump-reads.Learnt,
+  ty-must-below t,
+  ty-must.Post,
+  close-reads.Asked,
+  close-reads.Learnt,
+) (ty-arrow-at t) ty-arrow.Post
+ty-arrow-same-length-2 t c =
+    c .before .before .before .before .before .before .before .before .ty-must .kept .1 .1 .1 .1 .1 .0
+
+-- src/lib.rt:223:1
+ty-arrow-returns-2 : (t : ℕ) → ty-arrow-lts.Need-returns-2 (
+  refuse-reads.Asked,
+  refuse-reads.Learnt,
+  mark-reads.Asked,
+  mark-reads.Learnt,
+  bump-reads.Asked,
+  bump-reads.Learnt,
+  ty-must-below t,
+  ty-must.Post,
+  close-reads.Asked,
+  close-reads.Learnt,
+) (ty-arrow-at t) ty-arrow.Post
+unfolding types.tyArrow
+ty-arrow-returns-2 t c =
+    let falls = c .before .before .before .before .before .before .before .before .before .before .before .before .before .before .before .before .before .before .before .before .before .before .before .pre .0 in
+    let pre0 = c .before .before .before .before .before .before .before .before .before .before .before .before .before .before .before .before .before .before .before .before .before .before .before .pre .1 .0 in
+    let pre1 = c .before .before .before .before .before .before .before .before .before .before .before .before .before .before .before .before .before .before .before .before .before .before .before .pre .1 .1 in
+    let if1 = c .before .before .before .before .before .before .before .before .before .before .before .before .before .before .before .before .if1 .left in
+    let mark-is = c .before .before .before .before .before .before .before .before .before .before .before .before .before .before .mark .ensures in
+    let mark = nth 0 mark-is in
+    let bump-is = c .before .before .before .before .before .before .before .before .before .before .before .before .before .bump .ensures in
+    let bump = nth 1 bump-is in
+    let ty-must-is = c .before .before .before .before .before .before .before .before .ty-must .ensures in
+    let ty-must = nth 2 ty-must-is in
+    let close-is = c .before .before .close .ensures in
+    let close = nth 3 close-is in
+    in-steps pre0 (search rules depth 60 fits 4000)
+
+-- src/lib.rt:77:13
+ty-head-bump-requires : (t : ℕ) → ty-head-lts.Need-bump-requires (
+  bump-reads.Asked,
+  bump-reads.Learnt,
+  close-reads.Asked,
+  close-reads.Learnt,
+  ty-inner-below t,
+  ty-inner.Post,
+) (ty-head-at t) ty-head.Post
+ty-head-bump-requires t c κs =
+    let falls = c .before .before .before .before .before .before .before .before .pre .0 in
+    let pre0 = c .before .before .before .before .before .before .before .before .pre .1 .0 in
+    let pre1 = c .before .before .before .before .before .before .before .before .pre .1 .1 in
+    let if1 = c .before .if1 .taken in
+    search asks depth 8
+
+-- src/lib.rt:78:26
+ty-head-close-requires : (t : ℕ) → ty-head-lts.Need-close-requires (
+  bump-reads.Asked,
+  bump-reads.Learnt,
+  close-reads.Asked,
+  close-reads.Learnt,
+  ty-inner-below t,
+  ty-inner.Post,
+) (ty-head-at t) ty-head.Post
+ty-head-close-requires t c κs =
+    let falls = c .before .before .before .before .before .before .before .before .before .before .before .before .pre .0 in
+    let pre0 = c .before .before .before .before .before .before .before .before .before .before .before .before .pre .1 .0 in
+    let pre1 = c .before .before .before .before .before .before .before .before .before .before .before .before .pre .1 .1 in
+    let if1 = c .before .before .before .before .before .if1 .taken in
+    let bump = c .before .before .before .bump .ensures in
+    let bump-ok = ok-bumps bump pre0 in
+    search asks depth 8
+
+-- src/lib.rt:78:9
+ty-head-same-length : (t : ℕ) → ty-head-lts.Need-same-length (
+  bump-reads.Asked,
+  bump-reads.Learnt,
+  close-reads.Asked,
+  close-reads.Learnt,
+  ty-inner-below t,
+  ty-inner.Post,
+) (ty-head-at t) ty-head.Post
+ty-head-same-length t c =
+    c .before .before .close .kept .0 ∙ c .before .before .before .before .before .before .bump .kept .1 .0
+
+-- src/lib.rt:78:9
+ty-head-returns : (t : ℕ) → ty-head-lts.Need-returns (
+  bump-reads.Asked,
+  bump-reads.Learnt,
+  close-reads.Asked,
+  close-reads.Learnt,
+  ty-inner-below t,
+  ty-inner.Post,
+) (ty-head-at t) ty-head.Post
+unfolding types.tyHead
+ty-head-returns t c =
+    let falls = c .before .before .before .before .before .before .before .before .before .before .before .before .before .before .before .pre .0 in
+    let pre0 = c .before .before .before .before .before .before .before .before .before .before .before .before .before .before .before .pre .1 .0 in
+    let pre1 = c .before .before .before .before .before .before .before .before .before .before .before .before .before .before .before .pre .1 .1 in
+    let if1 = c .before .before .before .before .before .before .before .before .if1 .taken in
+    let bump-is = c .before .before .before .before .before .before .bump .ensures in
+    let bump = nth 0 bump-is in
+    let close-is = c .before .before .close .ensures in
+    let close = nth 1 close-is in
+    in-steps pre0 (search rules depth 60 fits 4000)
+
+-- src/lib.rt:81:13
+ty-head-bump-requires-2 : (t : ℕ) → ty-head-lts.Need-bump-requires-2 (
+  bump-reads.Asked,
+  bump-reads.Learnt,
+  close-reads.Asked,
+  close-reads.Learnt,
+  ty-inner-below t,
+  ty-inner.Post,
+) (ty-head-at t) ty-head.Post
+ty-head-bump-requires-2 t c κs =
+    let falls = c .before .before .before .before .before .before .before .before .before .pre .0 in
+    let pre0 = c .before .before .before .before .before .before .before .before .before .pre .1 .0 in
+    let pre1 = c .before .before .before .before .before .before .before .before .before .pre .1 .1 in
+    let if1 = c .before .before .if1 .left in
+    let if2 = c .before .if2 .taken in
+    search asks depth 8
+
+-- src/lib.rt:82:26
+ty-head-close-requires-2 : (t : ℕ) → ty-head-lts.Need-close-requires-2 (
+  bump-reads.Asked,
+  bump-reads.Learnt,
+  close-reads.Asked,
+  close-reads.Learnt,
+  ty-inner-below t,
+  ty-inner.Post,
+) (ty-head-at t) ty-head.Post
+ty-head-close-requires-2 t c κs =
+    let falls = c .before .before .before .before .before .before .before .before .before .before .before .before .before .pre .0 in
+    let pre0 = c .before .before .before .before .before .before .before .before .before .before .before .before .before .pre .1 .0 in
+    let pre1 = c .before .before .before .before .before .before .before .before .before .before .before .before .before .pre .1 .1 in
+    let if1 = c .before .before .before .before .before .before .if1 .left in
+    let if2 = c .before .before .before .before .before .if2 .taken in
+    let bump2 = c .before .before .before .bump2 .ensures in
+    let bump2-ok = ok-bumps bump2 pre0 in
+    search asks depth 8
+
+-- src/lib.rt:82:9
+ty-head-same-length-2 : (t : ℕ) → ty-head-lts.Need-same-length-2 (
+  bump-reads.Asked,
+  bump-reads.Learnt,
+  close-reads.Asked,
+  close-reads.Learnt,
+  ty-inner-below t,
+  ty-inner.Post,
+) (ty-head-at t) ty-head.Post
+ty-head-same-length-2 t c =
+    c .before .before .close2 .kept .0 ∙ c .before .before .before .before .before .before .bump2 .kept .1 .0
+
+-- src/lib.rt:82:9
+ty-head-returns-2 : (t : ℕ) → ty-head-lts.Need-returns-2 (
+  bump-reads.Asked,
+  bump-reads.Learnt,
+  close-reads.Asked,
+  close-reads.Learnt,
+  ty-inner-below t,
+  ty-inner.Post,
+) (ty-head-at t) ty-head.Post
+unfolding types.tyHead
+ty-head-returns-2 t c =
+    let falls = c .before .before .before .before .before .before .before .before .before .before .before .before .before .before .before .before .pre .0 in
+    let pre0 = c .before .before .before .before .before .before .before .before .before .before .before .before .before .before .before .before .pre .1 .0 in
+    let pre1 = c .before .before .before .before .before .before .before .before .before .before .before .before .before .before .before .before .pre .1 .1 in
+    let if1 = c .before .before .before .before .before .before .before .before .before .if1 .left in
+    let if2 = c .before .before .before .before .before .before .before .before .if2 .taken in
+    let bump2-is = c .before .before .before .before .before .before .bump2 .ensures in
+    let bump2 = nth 0 bump2-is in
+    let close2-is = c .before .before .close2 .ensures in
+    let close2 = nth 1 close2-is in
+    in-steps pre0 (search rules depth 60 fits 4000)
+
+-- src/lib.rt:85:13
+ty-head-bump-requires-3 : (t : ℕ) → ty-head-lts.Need-bump-requires-3 (
+  bump-reads.Asked,
+  bump-reads.Learnt,
+  close-reads.Asked,
+  close-reads.Learnt,
+  ty-inner-below t,
+  ty-inner.Post,
+) (ty-head-at t) ty-head.Post
+ty-head-bump-requires-3 t c κs =
+    let falls = c .before .before .before .before .before .before .before .before .before .before .pre .0 in
+    let pre0 = c .before .before .before .before .before .before .before .before .before .before .pre .1 .0 in
+    let pre1 = c .before .before .before .before .before .before .before .before .before .before .pre .1 .1 in
+    let if1 = c .before .before .before .if1 .left in
+    let if2 = c .before .before .if2 .left in
+    let if3 = c .before .if3 .taken in
+    search asks depth 8
+
+-- src/lib.rt:86:26
+ty-head-close-requires-3 : (t : ℕ) → ty-head-lts.Need-close-requires-3 (
+  bump-reads.Asked,
+  bump-reads.Learnt,
+  close-reads.Asked,
+  close-reads.Learnt,
+  ty-inner-below t,
+  ty-inner.Post,
+) (ty-head-at t) ty-head.Post
+ty-head-close-requires-3 t c κs =
+    let falls = c .before .before .before .before .before .before .before .before .before .before .before .before .before .before .pre .0 in
+    let pre0 = c .before .before .before .before .before .before .before .before .before .before .before .before .before .before .pre .1 .0 in
+    let pre1 = c .before .before .before .before .before .before .before .before .before .before .before .before .before .before .pre .1 .1 in
+    let if1 = c .before .before .before .before .before .before .before .if1 .left in
+    let if2 = c .before .before .before .before .before .before .if2 .left in
+    let if3 = c .before .before .before .before .before .if3 .taken in
+    let bump3 = c .before .before .before .bump3 .ensures in
+    let bump3-ok = ok-bumps bump3 pre0 in
+    search asks depth 8
+
+-- src/lib.rt:86:9
+ty-head-same-length-3 : (t : ℕ) → ty-head-lts.Need-same-length-3 (
+  bump-reads.Asked,
+  bump-reads.Learnt,
+  close-reads.Asked,
+  close-reads.Learnt,
+  ty-inner-below t,
+  ty-inner.Post,
+) (ty-head-at t) ty-head.Post
+ty-head-same-length-3 t c =
+    c .before .before .close3 .kept .0 ∙ c .before .before .before .before .before .before .bump3 .kept .1 .0
+
+-- src/lib.rt:86:9
+ty-head-returns-3 : (t : ℕ) → ty-head-lts.Need-returns-3 (
+  bump-reads.Asked,
+  bump-reads.Learnt,
+  close-reads.Asked,
+  close-reads.Learnt,
+  ty-inner-below t,
+  ty-inner.Post,
+) (ty-head-at t) ty-head.Post
+unfolding types.tyHead
+ty-head-returns-3 t c =
+    let falls = c .before .before .before .before .before .before .before .before .before .before .before .before .before .before .before .before .before .pre .0 in
+    let pre0 = c .before .before .before .before .before .before .before .before .before .before .before .before .before .before .before .before .before .pre .1 .0 in
+    let pre1 = c .before .before .before .before .before .before .before .before .before .before .before .before .before .before .before .before .before .pre .1 .1 in
+    let if1 = c .before .before .before .before .before .before .before .before .before .before .if1 .left in
+    let if2 = c .before .before .before .before .before .before .before .before .before .if2 .left in
+    let if3 = c .before .before .before .before .before .before .before .before .if3 .taken in
+    let bump3-is = c .before .before .before .before .before .before .bump3 .ensures in
+    let bump3 = nth 0 bump3-is in
+    let close3-is = c .before .before .close3 .ensures in
+    let close3 = nth 1 close3-is in
+    in-steps pre0 (search rules depth 60 fits 4000)
+
+-- src/lib.rt:88:5
+ty-head-ty-inner-requires : (t : ℕ) → ty-head-lts.Need-ty-inner-requires (
+  bump-reads.Asked,
+  bump-reads.Learnt,
+  close-reads.Asked,
+  close-reads.Learnt,
+  ty-inner-below t,
+  ty-inner.Post,
+) (ty-head-at t) ty-head.Post
+ty-head-ty-inner-requires t c κs =
+    let falls = c .before .before .before .before .before .before .before .before .before .before .before .pre .0 in
+    let pre0 = c .before .before .before .before .before .before .before .before .before .before .before .pre .1 .0 in
+    let pre1 = c .before .before .before .before .before .before .before .before .before .before .before .pre .1 .1 in
+    let if1 = c .before .before .before .before .if1 .left in
+    let if2 = c .before .before .before .if2 .left in
+    let if3 = c .before .before .if3 .left in
+    search asks depth 8
+
+-- src/lib.rt:72:1
+ty-head-same-length-4 : (t : ℕ) → ty-head-lts.Need-same-length-4 (
+  bump-reads.Asked,
+  bump-reads.Learnt,
+  close-reads.Asked,
+  close-reads.Learnt,
+  ty-inner-below t,
+  ty-inner.Post,
+) (ty-head-at t) ty-head.Post
+ty-head-same-length-4 t c =
+    c .before .before .before .before .ty-inner .kept .1 .1 .1 .1 .0
+
+-- src/lib.rt:72:1
+ty-head-same-length-5 : (t : ℕ) → ty-head-lts.Need-same-length-5 (
+  bump-reads.Asked,
+  bump-reads.Learnt,
+  close-reads.Asked,
+  close-reads.Learnt,
+  ty-inner-below t,
+  ty-inner.Post,
+) (ty-head-at t) ty-head.Post
+ty-head-same-length-5 t c =
+    c .before .before .before .before .ty-inner .kept .1 .1 .1 .1 .1 .0
+
+-- src/lib.rt:72:1
+ty-head-returns-4 : (t : ℕ) → ty-head-lts.Need-returns-4 (
+  bump-reads.Asked,
+  bump-reads.Learnt,
+  close-reads.Asked,
+  close-reads.Learnt,
+  ty-inner-below t,
+  ty-inner.Post,
+) (ty-head-at t) ty-head.Post
+unfolding types.tyHead
+ty-head-returns-4 t c =
+    let falls = c .before .before .before .before .before .before .before .before .before .before .before .before .before .before .before .before .pre .0 in
+    let pre0 = c .before .before .before .before .before .before .before .before .before .before .before .before .before .before .before .before .pre .1 .0 in
+    let pre1 = c .before .before .before .before .before .before .before .before .before .before .before .before .before .before .before .before .pre .1 .1 in
+    let if1 = c .before .before .before .before .before .before .before .before .before .if1 .left in
+    let if2 = c .before .before .before .before .before .before .before .before .if2 .left in
+    let if3 = c .before .before .before .before .before .before .before .if3 .left in
+    let ty-inner-is = c .before .before .before .before .ty-inner .ensures in
+    let ty-inner = nth 0 ty-inner-is in
+    in-steps pre0 (search rules depth 60 fits 4000)
+
+-- src/lib.rt:99:13
+ty-inner-bump-requires : (t : ℕ) → ty-inner-lts.Need-bump-requires (
+  bump-reads.Asked,
+  bump-reads.Learnt,
+  ty-rows-below t,
+  ty-rows.Post,
+  close-reads.Asked,
+  close-reads.Learnt,
+  ty-round-below t,
+  ty-round.Post,
+  path-must-reads.Asked,
+  path-must-reads.Learnt,
+  state-reads.Asked,
+  state-reads.Learnt,
+) (ty-inner-at t) ty-inner.Post
+ty-inner-bump-requires t c κs =
+    let falls = c .before .before .before .before .before .before .before .before .pre .0 in
+    let pre0 = c .before .before .before .before .before .before .before .before .pre .1 .0 in
+    let pre1 = c .before .before .before .before .before .before .before .before .pre .1 .1 in
+    let if1 = c .before .if1 .taken in
+    search asks depth 8
+
+-- src/lib.rt:100:13
+ty-inner-ty-rows-requires : (t : ℕ) → ty-inner-lts.Need-ty-rows-requires (
+  bump-reads.Asked,
+  bump-reads.Learnt,
+  ty-rows-below t,
+  ty-rows.Post,
+  close-reads.Asked,
+  close-reads.Learnt,
+  ty-round-below t,
+  ty-round.Post,
+  path-must-reads.Asked,
+  path-must-reads.Learnt,
+  state-reads.Asked,
+  state-reads.Learnt,
+) (ty-inner-at t) ty-inner.Post
+ty-inner-ty-rows-requires t c κs =
+    let falls = c .before .before .before .before .before .before .before .before .before .before .before .before .before .pre .0 in
+    let pre0 = c .before .before .before .before .before .before .before .before .before .before .before .before .before .pre .1 .0 in
+    let pre1 = c .before .before .before .before .before .before .before .before .before .before .before .before .before .pre .1 .1 in
+    let if1 = c .before .before .before .before .before .before .if1 .taken in
+    let bump = c .before .before .before .before .bump .ensures in
+    let bump-ok = ok-bumps bump pre0 in
+    search asks depth 8
+
+-- src/lib.rt:101:26
+ty-inner-close-requires : (t : ℕ) → ty-inner-lts.Need-close-requires (
+  bump-reads.Asked,
+  bump-reads.Learnt,
+  ty-rows-below t,
+  ty-rows.Post,
+  close-reads.Asked,
+  close-reads.Learnt,
+  ty-round-below t,
+  ty-round.Post,
+  path-must-reads.Asked,
+  path-must-reads.Learnt,
+  state-reads.Asked,
+  state-reads.Learnt,
+) (ty-inner-at t) ty-inner.Post
+ty-inner-close-requires t c κs =
+    let falls = c .before .before .before .before .before .before .before .before .before .before .before .before .before .before .before .before .before .before .before .pre .0 in
+    let pre0 = c .before .before .before .before .before .before .before .before .before .before .before .before .before .before .before .before .before .before .before .pre .1 .0 in
+    let pre1 = c .before .before .before .before .before .before .before .before .before .before .before .before .before .before .before .before .before .before .before .pre .1 .1 in
+    let if1 = c .before .before .before .before .before .before .before .before .before .before .before .before .if1 .taken in
+    let bump = c .before .before .before .before .before .before .before .before .before .before .bump .ensures in
+    let bump-ok = ok-bumps bump pre0 in
+    let ty-rows = c .before .before .before .before .before .ty-rows .ensures in
+    let ty-rows-ok = ty-rows .ok in
+    search asks depth 8
+
+-- src/lib.rt:101:9
+ty-inner-same-length : (t : ℕ) → ty-inner-lts.Need-same-length (
+  bump-reads.Asked,
+  bump-reads.Learnt,
+  ty-rows-below t,
+  ty-rows.Post,
+  close-reads.Asked,
+  close-reads.Learnt,
+  ty-round-below t,
+  ty-round.Post,
+  path-must-reads.Asked,
+  path-must-reads.Learnt,
+  state-reads.Asked,
+  state-reads.Learnt,
+) (ty-inner-at t) ty-inner.Post
+ty-inner-same-length t c =
+    c .before .before .close .kept .0 ∙ c .before .before .before .before .before .before .before .before .ty-rows .kept .1 .1 .1 .1 .0 ∙ c .before .before .before .before .before .before .before .before .before .before .before .before .before .bump .kept .1 .0
+
+-- src/lib.rt:101:9
+ty-inner-same-length-2 : (t : ℕ) → ty-inner-lts.Need-same-length-2 (
+  bump-reads.Asked,
+  bump-reads.Learnt,
+  ty-rows-below t,
+  ty-rows.Post,
+  close-reads.Asked,
+  close-reads.Learnt,
+  ty-round-below t,
+  ty-round.Post,
+  path-must-reads.Asked,
+  path-must-reads.Learnt,
+  state-reads.Asked,
+  state-reads.Learnt,
+) (ty-inner-at t) ty-inner.Post
+ty-inner-same-length-2 t c =
+    c .before .before .before .before .before .before .before .before .ty-rows .kept .1 .1 .1 .1 .1 .0
+
+-- src/lib.rt:101:9
+ty-inner-returns : (t : ℕ) → ty-inner-lts.Need-returns (
+  bump-reads.Asked,
+  bump-reads.Learnt,
+  ty-rows-below t,
+  ty-rows.Post,
+  close-reads.Asked,
+  close-reads.Learnt,
+  ty-round-below t,
+  ty-round.Post,
+  path-must-reads.Asked,
+  path-must-reads.Learnt,
+  state-reads.Asked,
+  state-reads.Learnt,
+) (ty-inner-at t) ty-inner.Post
+unfolding types.tyInner util.endSep
+ty-inner-returns t c =
+    let falls = c .before .before .before .before .before .before .before .before .before .before .before .before .before .before .before .before .before .before .before .before .before .before .pre .0 in
+    let pre0 = c .before .before .before .before .before .before .before .before .before .before .before .before .before .before .before .before .before .before .before .before .before .before .pre .1 .0 in
+    let pre1 = c .before .before .before .before .before .before .before .before .before .before .before .before .before .before .before .before .before .before .before .before .before .before .pre .1 .1 in
+    let if1 = c .before .before .before .before .before .before .before .before .before .before .before .before .before .before .before .if1 .taken in
+    let bump-is = c .before .before .before .before .before .before .before .before .before .before .before .before .before .bump .ensures in
+    let bump = nth 0 bump-is in
+    let ty-rows-is = c .before .before .before .before .before .before .before .before .ty-rows .ensures in
+    let ty-rows = nth 1 ty-rows-is in
+    let close-is = c .before .before .close .ensures in
+    let close = nth 2 close-is in
+    in-steps pre0 (search rules depth 60 fits 4000)
+
+-- src/lib.rt:104:9
+ty-inner-ty-round-requires : (t : ℕ) → ty-inner-lts.Need-ty-round-requires (
+  bump-reads.Asked,
+  bump-reads.Learnt,
+  ty-rows-below t,
+  ty-rows.Post,
+  close-reads.Asked,
+  close-reads.Learnt,
+  ty-round-below t,
+  ty-round.Post,
+  path-must-reads.Asked,
+  path-must-reads.Learnt,
+  state-reads.Asked,
+  state-reads.Learnt,
+) (ty-inner-at t) ty-inner.Post
+ty-inner-ty-round-requires t c κs =
+    let falls = c .before .before .before .before .before .before .before .before .before .before .pre .0 in
+    let pre0 = c .before .before .before .before .before .before .before .before .before .before .pre .1 .0 in
+    let pre1 = c .before .before .before .before .before .before .before .before .before .before .pre .1 .1 in
+    let if1 = c .before .before .before .if1 .left in
+    let if2 = c .before .before .if2 .taken in
+    search asks depth 8
+
+-- src/lib.rt:104:9
+ty-inner-same-length-3 : (t : ℕ) → ty-inner-lts.Need-same-length-3 (
+  bump-reads.Asked,
+  bump-reads.Learnt,
+  ty-rows-below t,
+  ty-rows.Post,
+  close-reads.Asked,
+  close-reads.Learnt,
+  ty-round-below t,
+  ty-round.Post,
+  path-must-reads.Asked,
+  path-must-reads.Learnt,
+  state-reads.Asked,
+  state-reads.Learnt,
+) (ty-inner-at t) ty-inner.Post
+ty-inner-same-length-3 t c =
+    c .before .before .before .before .ty-round .kept .1 .1 .1 .1 .0
+
+-- src/lib.rt:104:9
+ty-inner-same-length-4 : (t : ℕ) → ty-inner-lts.Need-same-length-4 (
+  bump-reads.Asked,
+  bump-reads.Learnt,
+  ty-rows-below t,
+  ty-rows.Post,
+  close-reads.Asked,
+  close-reads.Learnt,
+  ty-round-below t,
+  ty-round.Post,
+  path-must-reads.Asked,
+  path-must-reads.Learnt,
+  state-reads.Asked,
+  state-reads.Learnt,
+) (ty-inner-at t) ty-inner.Post
+ty-inner-same-length-4 t c =
+    c .before .before .before .before .ty-round .kept .1 .1 .1 .1 .1 .0
+
+-- src/lib.rt:104:9
+ty-inner-returns-2 : (t : ℕ) → ty-inner-lts.Need-returns-2 (
+  bump-reads.Asked,
+  bump-reads.Learnt,
+  ty-rows-below t,
+  ty-rows.Post,
+  close-reads.Asked,
+  close-reads.Learnt,
+  ty-round-below t,
+  ty-round.Post,
+  path-must-reads.Asked,
+  path-must-reads.Learnt,
+  state-reads.Asked,
+  state-reads.Learnt,
+) (ty-inner-at t) ty-inner.Post
+unfolding types.tyInner util.endSep
+ty-inner-returns-2 t c =
+    let falls = c .before .before .before .before .before .before .before .before .before .before .before .before .before .before .before .pre .0 in
+    let pre0 = c .before .before .before .before .before .before .before .before .before .before .before .before .before .before .before .pre .1 .0 in
+    let pre1 = c .before .before .before .before .before .before .before .before .before .before .before .before .before .before .before .pre .1 .1 in
+    let if1 = c .before .before .before .before .before .before .before .before .if1 .left in
+    let if2 = c .before .before .before .before .before .before .before .if2 .taken in
+    let ty-round-is = c .before .before .before .before .ty-round .ensures in
+    let ty-round = nth 0 ty-round-is in
+    in-steps pre0 (search rules depth 60 fits 4000)
+
+-- src/lib.rt:107:13
+ty-inner-path-must-requires : (t : ℕ) → ty-inner-lts.Need-path-must-requires (
+  bump-reads.Asked,
+  bump-reads.Learnt,
+  ty-rows-below t,
+  ty-rows.Post,
+  close-reads.Asked,
+  close-reads.Learnt,
+  ty-round-below t,
+  ty-round.Post,
+  path-must-reads.Asked,
+  path-must-reads.Learnt,
+  state-reads.Asked,
+  state-reads.Learnt,
+) (ty-inner-at t) ty-inner.Post
+ty-inner-path-must-requires t c κs =
+    let falls = c .before .before .before .before .before .before .before .before .before .before .before .pre .0 in
+    let pre0 = c .before .before .before .before .before .before .before .before .before .before .before .pre .1 .0 in
+    let pre1 = c .before .before .before .before .before .before .before .before .before .before .before .pre .1 .1 in
+    let if1 = c .before .before .before .before .if1 .left in
+    let if2 = c .before .before .before .if2 .left in
+    let if3 = c .before .before .if3 .taken in
+    search asks depth 8
+
+-- src/lib.rt:108:13
+ty-inner-state-requires : (t : ℕ) → ty-inner-lts.Need-state-requires (
+  bump-reads.Asked,
+  bump-reads.Learnt,
+  ty-rows-below t,
+  ty-rows.Post,
+  close-reads.Asked,
+  close-reads.Learnt,
+  ty-round-below t,
+  ty-round.Post,
+  path-must-reads.Asked,
+  path-must-reads.Learnt,
+  state-reads.Asked,
+  state-reads.Learnt,
+) (ty-inner-at t) ty-inner.Post
+ty-inner-state-requires t c κs =
+    let falls = c .before .before .before .before .before .before .before .before .before .before .before .before .before .before .before .before .pre .0 in
+    let pre0 = c .before .before .before .before .before .before .before .before .before .before .before .before .before .before .before .before .pre .1 .0 in
+    let pre1 = c .before .before .before .before .before .before .before .before .before .before .before .before .before .before .before .before .pre .1 .1 in
+    let if1 = c .before .before .before .before .before .before .before .before .before .if1 .left in
+    let if2 = c .before .before .before .before .before .before .before .before .if2 .left in
+    let if3 = c .before .before .before .before .before .before .before .if3 .taken in
+    let path-must = c .before .before .before .before .path-must .ensures in
+    let path-must-ok = path-must .ok in
+    search asks depth 8
+
+-- src/lib.rt:109:26
+ty-inner-close-requires-2 : (t : ℕ) → ty-inner-lts.Need-close-requires-2 (
+  bump-reads.Asked,
+  bump-reads.Learnt,
+  ty-rows-below t,
+  ty-rows.Post,
+  close-reads.Asked,
+  close-reads.Learnt,
+  ty-round-below t,
+  ty-round.Post,
+  path-must-reads.Asked,
+  path-must-reads.Learnt,
+  state-reads.Asked,
+  state-reads.Learnt,
+) (ty-inner-at t) ty-inner.Post
+ty-inner-close-requires-2 t c κs =
+    let falls = c .before .before .before .before .before .before .before .before .before .before .before .before .before .before .before .before .before .before .pre .0 in
+    let pre0 = c .before .before .before .before .before .before .before .before .before .before .before .before .before .before .before .before .before .before .pre .1 .0 in
+    let pre1 = c .before .before .before .before .before .before .before .before .before .before .before .before .before .before .before .before .before .before .pre .1 .1 in
+    let if1 = c .before .before .before .before .before .before .before .before .before .before .before .if1 .left in
+    let if2 = c .before .before .before .before .before .before .before .before .before .before .if2 .left in
+    let if3 = c .before .before .before .before .before .before .before .before .before .if3 .taken in
+    let path-must = c .before .before .before .before .before .before .path-must .ensures in
+    let path-must-ok = path-must .ok in
+    let state = c .before .state .ensures in
+    let state-ok = ok-state state path-must-ok in
+    search asks depth 8
+
+-- src/lib.rt:109:9
+ty-inner-same-length-5 : (t : ℕ) → ty-inner-lts.Need-same-length-5 (
+  bump-reads.Asked,
+  bump-reads.Learnt,
+  ty-rows-below t,
+  ty-rows.Post,
+  close-reads.Asked,
+  close-reads.Learnt,
+  ty-round-below t,
+  ty-round.Post,
+  path-must-reads.Asked,
+  path-must-reads.Learnt,
+  state-reads.Asked,
+  state-reads.Learnt,
+) (ty-inner-at t) ty-inner.Post
+ty-inner-same-length-5 t c =
+    c .before .before .close2 .kept .0 ∙ c .before .before .before .before .before .before .before .before .before .path-must .kept .1 .1 .1 .1 .0
+
+-- src/lib.rt:109:9
+ty-inner-same-length-6 : (t : ℕ) → ty-inner-lts.Need-same-length-6 (
+  bump-reads.Asked,
+  bump-reads.Learnt,
+  ty-rows-below t,
+  ty-rows.Post,
+  close-reads.Asked,
+  close-reads.Learnt,
+  ty-round-below t,
+  ty-round.Post,
+  path-must-reads.Asked,
+  path-must-reads.Learnt,
+  state-reads.Asked,
+  state-reads.Learnt,
+) (ty-inner-at t) ty-inner.Post
+ty-inner-same-length-6 t c =
+    c .before .before .before .before .before .before .before .before .before .path-must .kept .1 .1 .1 .1 .1 .0
+
+-- src/lib.rt:109:9
+ty-inner-returns-3 : (t : ℕ) → ty-inner-lts.Need-returns-3 (
+  bump-reads.Asked,
+  bump-reads.Learnt,
+  ty-rows-below t,
+  ty-rows.Post,
+  close-reads.Asked,
+  close-reads.Learnt,
+  ty-round-below t,
+  ty-round.Post,
+  path-must-reads.Asked,
+  path-must-reads.Learnt,
+  state-reads.Asked,
+  state-reads.Learnt,
+) (ty-inner-at t) ty-inner.Post
+unfolding types.tyInner util.endSep
+ty-inner-returns-3 t c =
+    let falls = c .before .before .before .before .before .before .before .before .before .before .before .before .before .before .before .before .before .before .before .before .before .pre .0 in
+    let pre0 = c .before .before .before .before .before .before .before .before .before .before .before .before .before .before .before .before .before .before .before .before .before .pre .1 .0 in
+    let pre1 = c .before .before .before .before .before .before .before .before .before .before .before .before .before .before .before .before .before .before .before .before .before .pre .1 .1 in
+    let if1 = c .before .before .before .before .before .before .before .before .before .before .before .before .before .before .if1 .left in
+    let if2 = c .before .before .before .before .before .before .before .before .before .before .before .before .before .if2 .left in
+    let if3 = c .before .before .before .before .before .before .before .before .before .before .before .before .if3 .taken in
+    let path-must-is = c .before .before .before .before .before .before .before .before .before .path-must .ensures in
+    let path-must = nth 0 path-must-is in
+    let state-is = c .before .before .before .before .state .ensures in
+    let state = nth 1 state-is in
+    let close2-is = c .before .before .close2 .ensures in
+    let close2 = nth 2 close2-is in
+    in-steps pre0 (search rules depth 60 fits 4000)
+
+-- src/lib.rt:94:1
+ty-inner-returns-4 : (t : ℕ) → ty-inner-lts.Need-returns-4 (
+  bump-reads.Asked,
+  bump-reads.Learnt,
+  ty-rows-below t,
+  ty-rows.Post,
+  close-reads.Asked,
+  close-reads.Learnt,
+  ty-round-below t,
+  ty-round.Post,
+  path-must-reads.Asked,
+  path-must-reads.Learnt,
+  state-reads.Asked,
+  state-reads.Learnt,
+) (ty-inner-at t) ty-inner.Post
+unfolding types.tyInner util.endSep
+ty-inner-returns-4 t c =
+    let falls = c .before .before .before .before .before .before .before .before .before .pre .0 in
+    let pre0 = c .before .before .before .before .before .before .before .before .before .pre .1 .0 in
+    let pre1 = c .before .before .before .before .before .before .before .before .before .pre .1 .1 in
+    let if1 = c .before .before .if1 .left in
+    let if2 = c .before .if2 .left in
+    let if3 = c .if3 .left in
+    in-steps pre0 (search rules depth 60 fits 4000)
+
+-- src/lib.rt:42:9
+ty-must-ty-prec-requires : (t : ℕ) → ty-must-lts.Need-ty-prec-requires (
+  ty-prec-below t,
+  ty-prec.Post,
+  report-reads.Asked,
+  report-reads.Learnt,
+) (ty-must-at t) ty-must.Post
+ty-must-ty-prec-requires t c κs =
+    let falls = c .before .before .before .before .before .before .before .before .pre .0 in
+    let pre0 = c .before .before .before .before .before .before .before .before .pre .1 in
+    search asks depth 8
+
+-- src/lib.rt:44:19
+ty-must-enum-known-got : (t : ℕ) → ty-must-lts.Need-enum-known-got (
+  ty-prec-below t,
+  ty-prec.Post,
+  report-reads.Asked,
+  report-reads.Learnt,
+) (ty-must-at t) ty-must.Post
+ty-must-enum-known-got t c =
+    let falls = c .before .before .before .before .before .before .before .before .before .before .before .before .before .before .pre .0 in
+    let pre0 = c .before .before .before .before .before .before .before .before .before .before .before .before .before .before .pre .1 in
+    search needs
+
+-- src/lib.rt:45:24
+ty-must-enum-known-got-2 : (t : ℕ) → ty-must-lts.Need-enum-known-got-2 (
+  ty-prec-below t,
+  ty-prec.Post,
+  report-reads.Asked,
+  report-reads.Learnt,
+) (ty-must-at t) ty-must.Post
+ty-must-enum-known-got-2 t c =
+    let falls = c .before .before .before .before .before .before .before .before .before .before .before .before .before .before .pre .0 in
+    let pre0 = c .before .before .before .before .before .before .before .before .before .before .before .before .before .before .pre .1 in
+    search needs
+
+-- src/lib.rt:45:31
+ty-must-report-requires : (t : ℕ) → ty-must-lts.Need-report-requires (
+  ty-prec-below t,
+  ty-prec.Post,
+  report-reads.Asked,
+  report-reads.Learnt,
+) (ty-must-at t) ty-must.Post
+ty-must-report-requires t c κs =
+    let falls = c .before .before .before .before .before .before .before .before .before .before .before .before .before .before .before .before .before .pre .0 in
+    let pre0 = c .before .before .before .before .before .before .before .before .before .before .before .before .before .before .before .before .before .pre .1 in
+    let ty-prec = rw (c .before .before .got2 .given .1) at (c .before .before .before .before .before .before .before .before .ty-prec .ensures) in
+    let ty-prec-ok = ty-prec .ok in
+    search asks depth 8
+
+-- src/lib.rt:38:1
+ty-must-same-length : (t : ℕ) → ty-must-lts.Need-same-length (
+  ty-prec-below t,
+  ty-prec.Post,
+  report-reads.Asked,
+  report-reads.Learnt,
+) (ty-must-at t) ty-must.Post
+ty-must-same-length t c =
+    c .before .before .before .before .before .before .before .ty-prec .kept .1 .1 .1 .1 .0
+
+-- src/lib.rt:38:1
+ty-must-same-length-2 : (t : ℕ) → ty-must-lts.Need-same-length-2 (
+  ty-prec-below t,
+  ty-prec.Post,
+  report-reads.Asked,
+  report-reads.Learnt,
+) (ty-must-at t) ty-must.Post
+ty-must-same-length-2 t c =
+    c .before .before .before .before .before .before .before .ty-prec .kept .1 .1 .1 .1 .1 .0
+
+-- src/lib.rt:38:1
+ty-must-returns : (t : ℕ) → ty-must-lts.Need-returns (
+  ty-prec-below t,
+  ty-prec.Post,
+  report-reads.Asked,
+  report-reads.Learnt,
+) (ty-must-at t) ty-must.Post
+unfolding types.tyMust
+ty-must-returns t c =
+    let falls = c .before .before .before .before .before .before .before .before .before .before .before .before .before .before .before .before .pre .0 in
+    let pre0 = c .before .before .before .before .before .before .before .before .before .before .before .before .before .before .before .before .pre .1 in
+    let ty-prec-is = rw (c .before .got .given .1) at (c .before .before .before .before .before .before .before .ty-prec .ensures) in
+    let ty-prec = nth 0 ty-prec-is in
+    by-steps pre0 (λ b. search rules depth 60 fits 4000)
+
+-- src/lib.rt:38:1
+ty-must-same-length-3 : (t : ℕ) → ty-must-lts.Need-same-length-3 (
+  ty-prec-below t,
+  ty-prec.Post,
+  report-reads.Asked,
+  report-reads.Learnt,
+) (ty-must-at t) ty-must.Post
+ty-must-same-length-3 t c =
+    c .before .before .before .before .before .before .before .before .before .before .before .ty-prec .kept .1 .1 .1 .1 .0
+
+-- src/lib.rt:38:1
+ty-must-same-length-4 : (t : ℕ) → ty-must-lts.Need-same-length-4 (
+  ty-prec-below t,
+  ty-prec.Post,
+  report-reads.Asked,
+  report-reads.Learnt,
+) (ty-must-at t) ty-must.Post
+ty-must-same-length-4 t c =
+    c .before .before .report .kept .0 ∙ c .before .before .before .before .before .before .before .before .before .before .before .ty-prec .kept .1 .1 .1 .1 .1 .0
+
+-- src/lib.rt:38:1
+ty-must-returns-2 : (t : ℕ) → ty-must-lts.Need-returns-2 (
+  ty-prec-below t,
+  ty-prec.Post,
+  report-reads.Asked,
+  report-reads.Learnt,
+) (ty-must-at t) ty-must.Post
+unfolding types.tyMust
+ty-must-returns-2 t c =
+    let falls = c .before .before .before .before .before .before .before .before .before .before .before .before .before .before .before .before .before .before .before .before .pre .0 in
+    let pre0 = c .before .before .before .before .before .before .before .before .before .before .before .before .before .before .before .before .before .before .before .before .pre .1 in
+    let ty-prec-is = rw (c .before .before .before .before .before .got2 .given .1) at (c .before .before .before .before .before .before .before .before .before .before .before .ty-prec .ensures) in
+    let ty-prec = nth 0 ty-prec-is in
+    let report-is = c .before .before .report .ensures in
+    let report = nth 1 report-is in
+    by-steps pre0 (λ b. search rules depth 60 fits 4000)
+
+-- src/lib.rt:56:25
+ty-prec-peek-requires : (t : ℕ) → ty-prec-lts.Need-peek-requires (
+  peek-reads.Asked,
+  peek-reads.Learnt,
+  refuse-reads.Asked,
+  refuse-reads.Learnt,
+  mark-reads.Asked,
+  mark-reads.Learnt,
+  ty-head-below t,
+  ty-head.Post,
+  ty-tail-below t,
+  ty-tail.Post,
+) (ty-prec-at t) ty-prec.Post
+ty-prec-peek-requires t c κs =
+    let falls = c .before .before .before .before .before .before .pre .0 in
+    let pre0 = c .before .before .before .before .before .before .pre .1 in
+    search asks depth 8
+
+-- src/lib.rt:56:20
+ty-prec-enum-known-k : (t : ℕ) → ty-prec-lts.Need-enum-known-k (
+  peek-reads.Asked,
+  peek-reads.Learnt,
+  refuse-reads.Asked,
+  refuse-reads.Learnt,
+  mark-reads.Asked,
+  mark-reads.Learnt,
+  ty-head-below t,
+  ty-head.Post,
+  ty-tail-below t,
+  ty-tail.Post,
+) (ty-prec-at t) ty-prec.Post
+ty-prec-enum-known-k t c =
+    let falls = c .before .before .before .before .before .before .before .before .pre .0 in
+    let pre0 = c .before .before .before .before .before .before .before .before .pre .1 in
+    search needs
+
+-- src/lib.rt:57:9
+ty-prec-enum-told : (t : ℕ) → ty-prec-lts.Need-enum-told (
+  peek-reads.Asked,
+  peek-reads.Learnt,
+  refuse-reads.Asked,
+  refuse-reads.Learnt,
+  mark-reads.Asked,
+  mark-reads.Learnt,
+  ty-head-below t,
+  ty-head.Post,
+  ty-tail-below t,
+  ty-tail.Post,
+) (ty-prec-at t) ty-prec.Post
+ty-prec-enum-told t c =
+    let falls = c .before .before .before .before .before .before .before .before .pre .0 in
+    let pre0 = c .before .before .before .before .before .before .before .before .pre .1 in
+    search needs
+
+-- src/lib.rt:57:9
+ty-prec-returns : (t : ℕ) → ty-prec-lts.Need-returns (
+  peek-reads.Asked,
+  peek-reads.Learnt,
+  refuse-reads.Asked,
+  refuse-reads.Learnt,
+  mark-reads.Asked,
+  mark-reads.Learnt,
+  ty-head-below t,
+  ty-head.Post,
+  ty-tail-below t,
+  ty-tail.Post,
+) (ty-prec-at t) ty-prec.Post
+unfolding root.body types.tyScope
+ty-prec-returns t c =
+    let falls = c .before .before .before .before .before .before .before .before .before .pre .0 in
+    let pre0 = c .before .before .before .before .before .before .before .before .before .pre .1 in
+    let peek-is = rw (c .enum-told .given .1) at (c .before .before .peek .ensures) in
+    let peek = nth 0 peek-is in
+    by-steps pre0 (λ b. search rules depth 60 fits 4000)
+
+-- src/lib.rt:60:31
+ty-prec-refuse-requires : (t : ℕ) → ty-prec-lts.Need-refuse-requires (
+  peek-reads.Asked,
+  peek-reads.Learnt,
+  refuse-reads.Asked,
+  refuse-reads.Learnt,
+  mark-reads.Asked,
+  mark-reads.Learnt,
+  ty-head-below t,
+  ty-head.Post,
+  ty-tail-below t,
+  ty-tail.Post,
+) (ty-prec-at t) ty-prec.Post
+ty-prec-refuse-requires t c κs =
+    let falls = c .before .before .before .before .before .before .before .before .before .before .before .pre .0 in
+    let pre0 = c .before .before .before .before .before .before .before .before .before .before .before .pre .1 in
+    let peek = rw (c .before .before .k .given .1) at (c .before .before .before .before .peek .ensures) in
+    let if1 = c .if1 .taken in
+    search asks depth 8
+
+-- src/lib.rt:60:9
+ty-prec-returns-2 : (t : ℕ) → ty-prec-lts.Need-returns-2 (
+  peek-reads.Asked,
+  peek-reads.Learnt,
+  refuse-reads.Asked,
+  refuse-reads.Learnt,
+  mark-reads.Asked,
+  mark-reads.Learnt,
+  ty-head-below t,
+  ty-head.Post,
+  ty-tail-below t,
+  ty-tail.Post,
+) (ty-prec-at t) ty-prec.Post
+unfolding root.body types.tyScope
+ty-prec-returns-2 t c =
+    let falls = c .before .before .before .before .before .before .before .before .before .before .before .before .pre .0 in
+    let pre0 = c .before .before .before .before .before .before .before .before .before .before .before .before .pre .1 in
+    let peek-is = rw (c .before .before .before .k .given .1) at (c .before .before .before .before .before .peek .ensures) in
+    let peek = nth 0 peek-is in
+    let if1 = c .before .if1 .taken in
+    let refuse-is = c .refuse .ensures in
+    let refuse = nth 1 refuse-is in
+    by-steps pre0 (λ b. search rules depth 60 fits 4000)
+
+-- src/lib.rt:63:64
+ty-prec-sub-ty-head : (t : ℕ) → ty-prec-lts.Need-sub-ty-head (
+  peek-reads.Asked,
+  peek-reads.Learnt,
+  refuse-reads.Asked,
+  refuse-reads.Learnt,
+  mark-reads.Asked,
+  mark-reads.Learnt,
+  ty-head-below t,
+  ty-head.Post,
+  ty-tail-below t,
+  ty-tail.Post,
+) (ty-prec-at t) ty-prec.Post
+ty-prec-sub-ty-head t c =
+    let falls = c .before .before .before .before .before .before .before .before .before .before .before .before .before .pre .0 in
+    let pre0 = c .before .before .before .before .before .before .before .before .before .before .before .before .before .pre .1 in
+    let if1 = c .before .before .if1 .left in
+    search needs
+
+-- src/lib.rt:63:80
+ty-prec-mark-requires : (t : ℕ) → ty-prec-lts.Need-mark-requires (
+  peek-reads.Asked,
+  peek-reads.Learnt,
+  refuse-reads.Asked,
+  refuse-reads.Learnt,
+  mark-reads.Asked,
+  mark-reads.Learnt,
+  ty-head-below t,
+  ty-head.Post,
+  ty-tail-below t,
+  ty-tail.Post,
+) (ty-prec-at t) ty-prec.Post
+ty-prec-mark-requires t c κs =
+    let falls = c .before .before .before .before .before .before .before .before .before .before .before .before .before .pre .0 in
+    let pre0 = c .before .before .before .before .before .before .before .before .before .before .before .before .before .pre .1 in
+    let peek = rw (c .before .before .before .before .k .given .1) at (c .before .before .before .before .before .before .peek .ensures) in
+    let if1 = c .before .before .if1 .left in
+    search asks depth 8
+
+-- src/lib.rt:63:9
+ty-prec-ty-head-requires : (t : ℕ) → ty-prec-lts.Need-ty-head-requires (
+  peek-reads.Asked,
+  peek-reads.Learnt,
+  refuse-reads.Asked,
+  refuse-reads.Learnt,
+  mark-reads.Asked,
+  mark-reads.Learnt,
+  ty-head-below t,
+  ty-head.Post,
+  ty-tail-below t,
+  ty-tail.Post,
+) (ty-prec-at t) ty-prec.Post
+ty-prec-ty-head-requires t c κs =
+    let falls = c .before .before .before .before .before .before .before .before .before .before .before .before .before .before .pre .0 in
+    let pre0 = c .before .before .before .before .before .before .before .before .before .before .before .before .before .before .pre .1 in
+    let peek = rw (c .before .before .before .before .before .k .given .1) at (c .before .before .before .before .before .before .before .peek .ensures) in
+    let if1 = c .before .before .before .if1 .left in
+    let mark = c .mark .ensures in
+    let mark-ok = ok-marks mark pre0 in
+    search asks depth 8
+
+-- src/lib.rt:65:24
+ty-prec-enum-known-head : (t : ℕ) → ty-prec-lts.Need-enum-known-head (
+  peek-reads.Asked,
+  peek-reads.Learnt,
+  refuse-reads.Asked,
+  refuse-reads.Learnt,
+  mark-reads.Asked,
+  mark-reads.Learnt,
+  ty-head-below t,
+  ty-head.Post,
+  ty-tail-below t,
+  ty-tail.Post,
+) (ty-prec-at t) ty-prec.Post
+ty-prec-enum-known-head t c =
+    let falls = c .before .before .before .before .before .before .before .before .before .before .before .before .before .before .before .before .before .before .before .before .pre .0 in
+    let pre0 = c .before .before .before .before .before .before .before .before .before .before .before .before .before .before .before .before .before .before .before .before .pre .1 in
+    let if1 = c .before .before .before .before .before .before .before .before .before .if1 .left in
+    search needs
+
+-- src/lib.rt:66:19
+ty-prec-enum-known-head-2 : (t : ℕ) → ty-prec-lts.Need-enum-known-head-2 (
+  peek-reads.Asked,
+  peek-reads.Learnt,
+  refuse-reads.Asked,
+  refuse-reads.Learnt,
+  mark-reads.Asked,
+  mark-reads.Learnt,
+  ty-head-below t,
+  ty-head.Post,
+  ty-tail-below t,
+  ty-tail.Post,
+) (ty-prec-at t) ty-prec.Post
+ty-prec-enum-known-head-2 t c =
+    let falls = c .before .before .before .before .before .before .before .before .before .before .before .before .before .before .before .before .before .before .before .before .pre .0 in
+    let pre0 = c .before .before .before .before .before .before .before .before .before .before .before .before .before .before .before .before .before .before .before .before .pre .1 in
+    let if1 = c .before .before .before .before .before .before .before .before .before .if1 .left in
+    search needs
+
+-- src/lib.rt:66:36
+ty-prec-ty-tail-requires : (t : ℕ) → ty-prec-lts.Need-ty-tail-requires (
+  peek-reads.Asked,
+  peek-reads.Learnt,
+  refuse-reads.Asked,
+  refuse-reads.Learnt,
+  mark-reads.Asked,
+  mark-reads.Learnt,
+  ty-head-below t,
+  ty-head.Post,
+  ty-tail-below t,
+  ty-tail.Post,
+) (ty-prec-at t) ty-prec.Post
+ty-prec-ty-tail-requires t c κs =
+    let falls = c .before .before .before .before .before .before .before .before .before .before .before .before .before .before .before .before .before .before .before .before .before .before .before .before .pre .0 in
+    let pre0 = c .before .before .before .before .before .before .before .before .before .before .before .before .before .before .before .before .before .before .before .before .before .before .before .before .pre .1 in
+    let peek = rw (c .before .before .before .before .before .before .before .before .before .before .before .before .before .before .before .k .given .1) at (c .before .before .before .before .before .before .before .before .before .before .before .before .before .before .before .before .before .peek .ensures) in
+    let if1 = c .before .before .before .before .before .before .before .before .before .before .before .before .before .if1 .left in
+    let mark = c .before .before .before .before .before .before .before .before .before .before .mark .ensures in
+    let mark-ok = ok-marks mark pre0 in
+    let ty-head = rw (c .before .before .before .head2 .given .1) at (c .before .before .before .before .before .before .before .before .before .ty-head .ensures) in
+    let ty-head-ok = ty-head .ok in
+    search asks depth 8
+
+-- src/lib.rt:52:1
+ty-prec-same-length : (t : ℕ) → ty-prec-lts.Need-same-length (
+  peek-reads.Asked,
+  peek-reads.Learnt,
+  refuse-reads.Asked,
+  refuse-reads.Learnt,
+  mark-reads.Asked,
+  mark-reads.Learnt,
+  ty-head-below t,
+  ty-head.Post,
+  ty-tail-below t,
+  ty-tail.Post,
+) (ty-prec-at t) ty-prec.Post
+ty-prec-same-length t c =
+    c .before .before .before .before .before .before .before .ty-head .kept .1 .1 .1 .1 .0
+
+-- src/lib.rt:52:1
+ty-prec-same-length-2 : (t : ℕ) → ty-prec-lts.Need-same-length-2 (
+  peek-reads.Asked,
+  peek-reads.Learnt,
+  refuse-reads.Asked,
+  refuse-reads.Learnt,
+  mark-reads.Asked,
+  mark-reads.Learnt,
+  ty-head-below t,
+  ty-head.Post,
+  ty-tail-below t,
+  ty-tail.Post,
+) (ty-prec-at t) ty-prec.Post
+ty-prec-same-length-2 t c =
+    c .before .before .before .before .before .before .before .ty-head .kept .1 .1 .1 .1 .1 .0
+
+-- src/lib.rt:52:1
+ty-prec-returns-3 : (t : ℕ) → ty-prec-lts.Need-returns-3 (
+  peek-reads.Asked,
+  peek-reads.Learnt,
+  refuse-reads.Asked,
+  refuse-reads.Learnt,
+  mark-reads.Asked,
+  mark-reads.Learnt,
+  ty-head-below t,
+  ty-head.Post,
+  ty-tail-below t,
+  ty-tail.Post,
+) (ty-prec-at t) ty-prec.Post
+unfolding root.body types.tyScope
+ty-prec-returns-3 t c =
+    let falls = c .before .before .before .before .before .before .before .before .before .before .before .before .before .before .before .before .before .before .before .before .before .before .pre .0 in
+    let pre0 = c .before .before .before .before .before .before .before .before .before .before .before .before .before .before .before .before .before .before .before .before .before .before .pre .1 in
+    let peek-is = rw (c .before .before .before .before .before .before .before .before .before .before .before .before .before .k .given .1) at (c .before .before .before .before .before .before .before .before .before .before .before .before .before .before .before .peek .ensures) in
+    let peek = nth 0 peek-is in
+    let if1 = c .before .before .before .before .before .before .before .before .before .before .before .if1 .left in
+    let mark-is = c .before .before .before .before .before .before .before .before .mark .ensures in
+    let mark = nth 1 mark-is in
+    let ty-head-is = rw (c .before .head .given .1) at (c .before .before .before .before .before .before .before .ty-head .ensures) in
+    let ty-head = nth 2 ty-head-is in
+    by-steps pre0 (λ b. search rules depth 60 fits 4000)
+
+-- src/lib.rt:52:1
+ty-prec-same-length-3 : (t : ℕ) → ty-prec-lts.Need-same-length-3 (
+  peek-reads.Asked,
+  peek-reads.Learnt,
+  refuse-reads.Asked,
+  refuse-reads.Learnt,
+  mark-reads.Asked,
+  mark-reads.Learnt,
+  ty-head-below t,
+  ty-head.Post,
+  ty-tail-below t,
+  ty-tail.Post,
+) (ty-prec-at t) ty-prec.Post
+ty-prec-same-length-3 t c =
+    c .before .before .before .before .ty-tail .kept .1 .1 .1 .1 .0 ∙ c .before .before .before .before .before .before .before .before .before .before .before .before .before .before .ty-head .kept .1 .1 .1 .1 .0
+
+-- src/lib.rt:52:1
+ty-prec-same-length-4 : (t : ℕ) → ty-prec-lts.Need-same-length-4 (
+  peek-reads.Asked,
+  peek-reads.Learnt,
+  refuse-reads.Asked,
+  refuse-reads.Learnt,
+  mark-reads.Asked,
+  mark-reads.Learnt,
+  ty-head-below t,
+  ty-head.Post,
+  ty-tail-below t,
+  ty-tail.Post,
+) (ty-prec-at t) ty-prec.Post
+ty-prec-same-length-4 t c =
+    c .before .before .before .before .ty-tail .kept .1 .1 .1 .1 .1 .0 ∙ c .before .before .before .before .before .before .before .before .before .before .before .before .before .before .ty-head .kept .1 .1 .1 .1 .1 .0
+
+-- src/lib.rt:52:1
+ty-prec-returns-4 : (t : ℕ) → ty-prec-lts.Need-returns-4 (
+  peek-reads.Asked,
+  peek-reads.Learnt,
+  refuse-reads.Asked,
+  refuse-reads.Learnt,
+  mark-reads.Asked,
+  mark-reads.Learnt,
+  ty-head-below t,
+  ty-head.Post,
+  ty-tail-below t,
+  ty-tail.Post,
+) (ty-prec-at t) ty-prec.Post
+unfolding root.body types.tyScope
+ty-prec-returns-4 t c =
+    let falls = c .before .before .before .before .before .before .before .before .before .before .before .before .before .before .before .before .before .before .before .before .before .before .before .before .before .before .before .before .before .pre .0 in
+    let pre0 = c .before .before .before .before .before .before .before .before .before .before .before .before .before .before .before .before .before .before .before .before .before .before .before .before .before .before .before .before .before .pre .1 in
+    let peek-is = rw (c .before .before .before .before .before .before .before .before .before .before .before .before .before .before .before .before .before .before .before .before .k .given .1) at (c .before .before .before .before .before .before .before .before .before .before .before .before .before .before .before .before .before .before .before .before .before .before .peek .ensures) in
+    let peek = nth 0 peek-is in
+    let if1 = c .before .before .before .before .before .before .before .before .before .before .before .before .before .before .before .before .before .before .if1 .left in
+    let mark-is = c .before .before .before .before .before .before .before .before .before .before .before .before .before .before .before .mark .ensures in
+    let mark = nth 1 mark-is in
+    let ty-head-is = rw (c .before .before .before .before .before .before .before .before .head2 .given .1) at (c .before .before .before .before .before .before .before .before .before .before .before .before .before .before .ty-head .ensures) in
+    let ty-head = nth 2 ty-head-is in
+    let ty-tail-is = c .before .before .before .before .ty-tail .ensures in
+    let ty-tail = nth 3 ty-tail-is in
+    by-steps pre0 (λ b. search rules depth 60 fits 4000)
+
+-- src/lib.rt:120:9
+ty-round-ty-seq-requires : (t : ℕ) → ty-round-lts.Need-ty-seq-requires (
+  ty-seq-below t,
+  ty-seq.Post,
+  path-must-reads.Asked,
+  path-must-reads.Learnt,
+  state-reads.Asked,
+  state-reads.Learnt,
+  close-reads.Asked,
+  close-reads.Learnt,
+  bump-reads.Asked,
+  bump-reads.Learnt,
+) (ty-round-at t) ty-round.Post
+ty-round-ty-seq-requires t c κs =
+    let falls = c .before .before .before .before .before .before .before .before .pre .0 in
+    let pre0 = c .before .before .before .before .before .before .before .before .pre .1 .0 in
+    let pre1 = c .before .before .before .before .before .before .before .before .pre .1 .1 in
+    search asks depth 8
+
+-- src/lib.rt:122:24
+ty-round-enum-known-seq : (t : ℕ) → ty-round-lts.Need-enum-known-seq (
+  ty-seq-below t,
+  ty-seq.Post,
+  path-must-reads.Asked,
+  path-must-reads.Learnt,
+  state-reads.Asked,
+  state-reads.Learnt,
+  close-reads.Asked,
+  close-reads.Learnt,
+  bump-reads.Asked,
+  bump-reads.Learnt,
+) (ty-round-at t) ty-round.Post
+ty-round-enum-known-seq t c =
+    let falls = c .before .before .before .before .before .before .before .before .before .before .before .before .before .before .pre .0 in
+    let pre0 = c .before .before .before .before .before .before .before .before .before .before .before .before .before .before .pre .1 .0 in
+    let pre1 = c .before .before .before .before .before .before .before .before .before .before .before .before .before .before .pre .1 .1 in
+    search needs
+
+-- src/lib.rt:123:17
+ty-round-path-must-requires : (t : ℕ) → ty-round-lts.Need-path-must-requires (
+  ty-seq-below t,
+  ty-seq.Post,
+  path-must-reads.Asked,
+  path-must-reads.Learnt,
+  state-reads.Asked,
+  state-reads.Learnt,
+  close-reads.Asked,
+  close-reads.Learnt,
+  bump-reads.Asked,
+  bump-reads.Learnt,
+) (ty-round-at t) ty-round.Post
+ty-round-path-must-requires t c κs =
+    let falls = c .before .before .before .before .before .before .before .before .before .before .before .before .before .before .before .before .before .before .pre .0 in
+    let pre0 = c .before .before .before .before .before .before .before .before .before .before .before .before .before .before .before .before .before .before .pre .1 .0 in
+    let pre1 = c .before .before .before .before .before .before .before .before .before .before .before .before .before .before .before .before .before .before .pre .1 .1 in
+    let ty-seq = rw (c .before .before .before .seq .given .1) at (c .before .before .before .before .before .before .before .before .before .ty-seq .ensures) in
+    let ty-seq-ok = ty-seq .ok in
+    search asks depth 8
+
+-- src/lib.rt:124:17
+ty-round-state-requires : (t : ℕ) → ty-round-lts.Need-state-requires (
+  ty-seq-below t,
+  ty-seq.Post,
+  path-must-reads.Asked,
+  path-must-reads.Learnt,
+  state-reads.Asked,
+  state-reads.Learnt,
+  close-reads.Asked,
+  close-reads.Learnt,
+  bump-reads.Asked,
+  bump-reads.Learnt,
+) (ty-round-at t) ty-round.Post
+ty-round-state-requires t c κs =
+    let falls = c .before .before .before .before .before .before .before .before .before .before .before .before .before .before .before .before .before .before .before .before .before .before .before .pre .0 in
+    let pre0 = c .before .before .before .before .before .before .before .before .before .before .before .before .before .before .before .before .before .before .before .before .before .before .before .pre .1 .0 in
+    let pre1 = c .before .before .before .before .before .before .before .before .before .before .before .before .before .before .before .before .before .before .before .before .before .before .before .pre .1 .1 in
+    let ty-seq = rw (c .before .before .before .before .before .before .before .before .seq .given .1) at (c .before .before .before .before .before .before .before .before .before .before .before .before .before .before .ty-seq .ensures) in
+    let ty-seq-ok = ty-seq .ok in
+    let path-must = c .before .before .before .before .path-must .ensures in
+    let path-must-ok = path-must .ok in
+    search asks depth 8
+
+-- src/lib.rt:125:23
+ty-round-close-requires : (t : ℕ) → ty-round-lts.Need-close-requires (
+  ty-seq-below t,
+  ty-seq.Post,
+  path-must-reads.Asked,
+  path-must-reads.Learnt,
+  state-reads.Asked,
+  state-reads.Learnt,
+  close-reads.Asked,
+  close-reads.Learnt,
+  bump-reads.Asked,
+  bump-reads.Learnt,
+) (ty-round-at t) ty-round.Post
+ty-round-close-requires t c κs =
+    let falls = c .before .before .before .before .before .before .before .before .before .before .before .before .before .before .before .before .before .before .before .before .before .before .before .before .before .pre .0 in
+    let pre0 = c .before .before .before .before .before .before .before .before .before .before .before .before .before .before .before .before .before .before .before .before .before .before .before .before .before .pre .1 .0 in
+    let pre1 = c .before .before .before .before .before .before .before .before .before .before .before .before .before .before .before .before .before .before .before .before .before .before .before .before .before .pre .1 .1 in
+    let ty-seq = rw (c .before .before .before .before .before .before .before .before .before .before .seq .given .1) at (c .before .before .before .before .before .before .before .before .before .before .before .before .before .before .before .before .ty-seq .ensures) in
+    let ty-seq-ok = ty-seq .ok in
+    let path-must = c .before .before .before .before .before .before .path-must .ensures in
+    let path-must-ok = path-must .ok in
+    let state = c .before .state .ensures in
+    let state-ok = ok-state state path-must-ok in
+    search asks depth 8
+
+-- src/lib.rt:127:19
+ty-round-enum-known-seq-2 : (t : ℕ) → ty-round-lts.Need-enum-known-seq-2 (
+  ty-seq-below t,
+  ty-seq.Post,
+  path-must-reads.Asked,
+  path-must-reads.Learnt,
+  state-reads.Asked,
+  state-reads.Learnt,
+  close-reads.Asked,
+  close-reads.Learnt,
+  bump-reads.Asked,
+  bump-reads.Learnt,
+) (ty-round-at t) ty-round.Post
+ty-round-enum-known-seq-2 t c =
+    let falls = c .before .before .before .before .before .before .before .before .before .before .before .before .before .before .pre .0 in
+    let pre0 = c .before .before .before .before .before .before .before .before .before .before .before .before .before .before .pre .1 .0 in
+    let pre1 = c .before .before .before .before .before .before .before .before .before .before .before .before .before .before .pre .1 .1 in
+    search needs
+
+-- src/lib.rt:128:17
+ty-round-bump-requires : (t : ℕ) → ty-round-lts.Need-bump-requires (
+  ty-seq-below t,
+  ty-seq.Post,
+  path-must-reads.Asked,
+  path-must-reads.Learnt,
+  state-reads.Asked,
+  state-reads.Learnt,
+  close-reads.Asked,
+  close-reads.Learnt,
+  bump-reads.Asked,
+  bump-reads.Learnt,
+) (ty-round-at t) ty-round.Post
+ty-round-bump-requires t c κs =
+    let falls = c .before .before .before .before .before .before .before .before .before .before .before .before .before .before .before .before .before .pre .0 in
+    let pre0 = c .before .before .before .before .before .before .before .before .before .before .before .before .before .before .before .before .before .pre .1 .0 in
+    let pre1 = c .before .before .before .before .before .before .before .before .before .before .before .before .before .before .before .before .before .pre .1 .1 in
+    let ty-seq = rw (c .before .before .seq2 .given .1) at (c .before .before .before .before .before .before .before .before .ty-seq .ensures) in
+    let ty-seq-ok = ty-seq .ok in
+    search asks depth 8
+
+-- src/lib.rt:129:23
+ty-round-close-requires-2 : (t : ℕ) → ty-round-lts.Need-close-requires-2 (
+  ty-seq-below t,
+  ty-seq.Post,
+  path-must-reads.Asked,
+  path-must-reads.Learnt,
+  state-reads.Asked,
+  state-reads.Learnt,
+  close-reads.Asked,
+  close-reads.Learnt,
+  bump-reads.Asked,
+  bump-reads.Learnt,
+) (ty-round-at t) ty-round.Post
+ty-round-close-requires-2 t c κs =
+    let falls = c .before .before .before .before .before .before .before .before .before .before .before .before .before .before .before .before .before .before .before .before .before .pre .0 in
+    let pre0 = c .before .before .before .before .before .before .before .before .before .before .before .before .before .before .before .before .before .before .before .before .before .pre .1 .0 in
+    let pre1 = c .before .before .before .before .before .before .before .before .before .before .before .before .before .before .before .before .before .before .before .before .before .pre .1 .1 in
+    let ty-seq = rw (c .before .before .before .before .before .before .seq2 .given .1) at (c .before .before .before .before .before .before .before .before .before .before .before .before .ty-seq .ensures) in
+    let ty-seq-ok = ty-seq .ok in
+    let bump = c .before .before .before .bump .ensures in
+    let bump-ok = ok-bumps bump ty-seq-ok in
+    search asks depth 8
+
+-- src/lib.rt:116:1
+ty-round-same-length : (t : ℕ) → ty-round-lts.Need-same-length (
+  ty-seq-below t,
+  ty-seq.Post,
+  path-must-reads.Asked,
+  path-must-reads.Learnt,
+  state-reads.Asked,
+  state-reads.Learnt,
+  close-reads.Asked,
+  close-reads.Learnt,
+  bump-reads.Asked,
+  bump-reads.Learnt,
+) (ty-round-at t) ty-round.Post
+ty-round-same-length t c =
+    c .before .before .close .kept .0 ∙ c .before .before .before .before .before .before .before .before .before .path-must .kept .1 .1 .1 .1 .0 ∙ c .before .before .before .before .before .before .before .before .before .before .before .before .before .before .before .before .before .before .before .ty-seq .kept .1 .1 .1 .1 .0
+
+-- src/lib.rt:116:1
+ty-round-same-length-2 : (t : ℕ) → ty-round-lts.Need-same-length-2 (
+  ty-seq-below t,
+  ty-seq.Post,
+  path-must-reads.Asked,
+  path-must-reads.Learnt,
+  state-reads.Asked,
+  state-reads.Learnt,
+  close-reads.Asked,
+  close-reads.Learnt,
+  bump-reads.Asked,
+  bump-reads.Learnt,
+) (ty-round-at t) ty-round.Post
+ty-round-same-length-2 t c =
+    c .before .before .before .before .before .before .before .before .before .path-must .kept .1 .1 .1 .1 .1 .0 ∙ c .before .before .before .before .before .before .before .before .before .before .before .before .before .before .before .before .before .before .before .ty-seq .kept .1 .1 .1 .1 .1 .0
+
+-- src/lib.rt:116:1
+ty-round-returns : (t : ℕ) → ty-round-lts.Need-returns (
+  ty-seq-below t,
+  ty-seq.Post,
+  path-must-reads.Asked,
+  path-must-reads.Learnt,
+  state-reads.Asked,
+  state-reads.Learnt,
+  close-reads.Asked,
+  close-reads.Learnt,
+  bump-reads.Asked,
+  bump-reads.Learnt,
+) (ty-round-at t) ty-round.Post
+unfolding types.tyRound
+ty-round-returns t c =
+    let falls = c .before .before .before .before .before .before .before .before .before .before .before .before .before .before .before .before .before .before .before .before .before .before .before .before .before .before .before .before .pre .0 in
+    let pre0 = c .before .before .before .before .before .before .before .before .before .before .before .before .before .before .before .before .before .before .before .before .before .before .before .before .before .before .before .before .pre .1 .0 in
+    let pre1 = c .before .before .before .before .before .before .before .before .before .before .before .before .before .before .before .before .before .before .before .before .before .before .before .before .before .before .before .before .pre .1 .1 in
+    let ty-seq-is = rw (c .before .before .before .before .before .before .before .before .before .before .before .before .before .seq .given .1) at (c .before .before .before .before .before .before .before .before .before .before .before .before .before .before .before .before .before .before .before .ty-seq .ensures) in
+    let ty-seq = nth 0 ty-seq-is in
+    let path-must-is = c .before .before .before .before .before .before .before .before .before .path-must .ensures in
+    let path-must = nth 1 path-must-is in
+    let state-is = c .before .before .before .before .state .ensures in
+    let state = nth 2 state-is in
+    let close-is = c .before .before .close .ensures in
+    let close = nth 3 close-is in
+    in-steps pre0 (search rules depth 60 fits 4000)
+
+-- src/lib.rt:116:1
+ty-round-same-length-3 : (t : ℕ) → ty-round-lts.Need-same-length-3 (
+  ty-seq-below t,
+  ty-seq.Post,
+  path-must-reads.Asked,
+  path-must-reads.Learnt,
+  state-reads.Asked,
+  state-reads.Learnt,
+  close-reads.Asked,
+  close-reads.Learnt,
+  bump-reads.Asked,
+  bump-reads.Learnt,
+) (ty-round-at t) ty-round.Post
+ty-round-same-length-3 t c =
+    c .before .before .close2 .kept .0 ∙ c .before .before .before .before .before .before .bump .kept .1 .0 ∙ c .before .before .before .before .before .before .before .before .before .before .before .before .before .before .before .ty-seq .kept .1 .1 .1 .1 .0
+
+-- src/lib.rt:116:1
+ty-round-same-length-4 : (t : ℕ) → ty-round-lts.Need-same-length-4 (
+  ty-seq-below t,
+  ty-seq.Post,
+  path-must-reads.Asked,
+  path-must-reads.Learnt,
+  state-reads.Asked,
+  state-reads.Learnt,
+  close-reads.Asked,
+  close-reads.Learnt,
+  bump-reads.Asked,
+  bump-reads.Learnt,
+) (ty-round-at t) ty-round.Post
+ty-round-same-length-4 t c =
+    c .before .before .before .before .before .before .before .before .before .before .before .before .before .before .before .ty-seq .kept .1 .1 .1 .1 .1 .0
+
+-- src/lib.rt:116:1
+ty-round-returns-2 : (t : ℕ) → ty-round-lts.Need-returns-2 (
+  ty-seq-below t,
+  ty-seq.Post,
+  path-must-reads.Asked,
+  path-must-reads.Learnt,
+  state-reads.Asked,
+  state-reads.Learnt,
+  close-reads.Asked,
+  close-reads.Learnt,
+  bump-reads.Asked,
+  bump-reads.Learnt,
+) (ty-round-at t) ty-round.Post
+unfolding types.tyRound
+ty-round-returns-2 t c =
+    let falls = c .before .before .before .before .before .before .before .before .before .before .before .before .before .before .before .before .before .before .before .before .before .before .before .before .pre .0 in
+    let pre0 = c .before .before .before .before .before .before .before .before .before .before .before .before .before .before .before .before .before .before .before .before .before .before .before .before .pre .1 .0 in
+    let pre1 = c .before .before .before .before .before .before .before .before .before .before .before .before .before .before .before .before .before .before .before .before .before .before .before .before .pre .1 .1 in
+    let ty-seq-is = rw (c .before .before .before .before .before .before .before .before .before .seq2 .given .1) at (c .before .before .before .before .before .before .before .before .before .before .before .before .before .before .before .ty-seq .ensures) in
+    let ty-seq = nth 0 ty-seq-is in
+    let bump-is = c .before .before .before .before .before .before .bump .ensures in
+    let bump = nth 1 bump-is in
+    let close2-is = c .before .before .close2 .ensures in
+    let close2 = nth 2 close2-is in
+    in-steps pre0 (search rules depth 60 fits 4000)
+
+-- src/lib.rt:369:9
+ty-row-lab-requires : (t : ℕ) → ty-row-lts.Need-lab-requires (
+  lab-reads.Asked,
+  lab-reads.Learnt,
+  bump-ascription-reads.Asked,
+  bump-ascription-reads.Learnt,
+  ty-must-below t,
+  ty-must.Post,
+) (ty-row-at t) ty-row.Post
+ty-row-lab-requires t c κs =
+    let falls = c .before .before .before .before .before .before .before .before .pre .0 in
+    let pre0 = c .before .before .before .before .before .before .before .before .pre .1 in
+    search asks depth 8
+
+-- src/lib.rt:370:9
+ty-row-bump-ascription-requires : (t : ℕ) → ty-row-lts.Need-bump-ascription-requires (
+  lab-reads.Asked,
+  lab-reads.Learnt,
+  bump-ascription-reads.Asked,
+  bump-ascription-reads.Learnt,
+  ty-must-below t,
+  ty-must.Post,
+) (ty-row-at t) ty-row.Post
+ty-row-bump-ascription-requires t c κs =
+    let falls = c .before .before .before .before .before .before .before .before .before .before .before .before .before .before .before .pre .0 in
+    let pre0 = c .before .before .before .before .before .before .before .before .before .before .before .before .before .before .before .pre .1 in
+    let lab = c .before .before .before .before .before .before .lab .ensures in
+    let lab-ok = lab .ok in
+    search asks depth 8
+
+-- src/lib.rt:371:5
+ty-row-ty-must-requires : (t : ℕ) → ty-row-lts.Need-ty-must-requires (
+  lab-reads.Asked,
+  lab-reads.Learnt,
+  bump-ascription-reads.Asked,
+  bump-ascription-reads.Learnt,
+  ty-must-below t,
+  ty-must.Post,
+) (ty-row-at t) ty-row.Post
+ty-row-ty-must-requires t c κs =
+    let falls = c .before .before .before .before .before .before .before .before .before .before .before .before .before .before .before .before .before .before .before .before .before .before .pre .0 in
+    let pre0 = c .before .before .before .before .before .before .before .before .before .before .before .before .before .before .before .before .before .before .before .before .before .before .pre .1 in
+    let lab = c .before .before .before .before .before .before .before .before .before .before .before .before .before .lab .ensures in
+    let lab-ok = lab .ok in
+    let bump-ascription = c .before .before .before .before .before .before .bump-ascription .ensures in
+    let bump-ascription-ok = bump-ascription .ok in
+    search asks depth 8
+
+-- src/lib.rt:365:1
+ty-row-same-length : (t : ℕ) → ty-row-lts.Need-same-length (
+  lab-reads.Asked,
+  lab-reads.Learnt,
+  bump-ascription-reads.Asked,
+  bump-ascription-reads.Learnt,
+  ty-must-below t,
+  ty-must.Post,
+) (ty-row-at t) ty-row.Post
+ty-row-same-length t c =
+    c .before .before .before .before .ty-must .kept .1 .1 .1 .1 .0 ∙ c .before .before .before .before .before .before .before .before .before .before .before .bump-ascription .kept .1 .1 .1 .1 .0 ∙ c .before .before .before .before .before .before .before .before .before .before .before .before .before .before .before .before .before .before .lab .kept .1 .1 .1 .1 .0
+
+-- src/lib.rt:365:1
+ty-row-same-length-2 : (t : ℕ) → ty-row-lts.Need-same-length-2 (
+  lab-reads.Asked,
+  lab-reads.Learnt,
+  bump-ascription-reads.Asked,
+  bump-ascription-reads.Learnt,
+  ty-must-below t,
+  ty-must.Post,
+) (ty-row-at t) ty-row.Post
+ty-row-same-length-2 t c =
+    c .before .before .before .before .ty-must .kept .1 .1 .1 .1 .1 .0 ∙ c .before .before .before .before .before .before .before .before .before .before .before .bump-ascription .kept .1 .1 .1 .1 .1 .0 ∙ c .before .before .before .before .before .before .before .before .before .before .before .before .before .before .before .before .before .before .lab .kept .1 .1 .1 .1 .1 .0
+
+-- src/lib.rt:365:1
+ty-row-returns : (t : ℕ) → ty-row-lts.Need-returns (
+  lab-reads.Asked,
+  lab-reads.Learnt,
+  bump-ascription-reads.Asked,
+  bump-ascription-reads.Learnt,
+  ty-must-below t,
+  ty-must.Post,
+) (ty-row-at t) ty-row.Post
+unfolding types.tyRow
+ty-row-returns t c =
+    let falls = c .before .before .before .before .before .before .before .before .before .before .before .before .before .before .before .before .before .before .before .before .before .before .before .before .before .before .before .pre .0 in
+    let pre0 = c .before .before .before .before .before .before .before .before .before .before .before .before .before .before .before .before .before .before .before .before .before .before .before .before .before .before .before .pre .1 in
+    let lab-is = c .before .before .before .before .before .before .before .before .before .before .before .before .before .before .before .before .before .before .lab .ensures in
+    let lab = nth 0 lab-is in
+    let bump-ascription-is = c .before .before .before .before .before .before .before .before .before .before .before .bump-ascription .ensures in
+    let bump-ascription = nth 1 bump-ascription-is in
+    let ty-must-is = c .before .before .before .before .ty-must .ensures in
+    let ty-must = nth 2 ty-must-is in
+    by-steps pre0 (λ b. search rules depth 60 fits 4000)
+
+abbrev ty-rows-Inv-loop : ty-rows-lts.InvT-loop
+ty-rows-Inv-loop text toks env table scratch₀ finds₀ left b s1₀ scratch finds s1 =
+    Loops left b (util.endTurn {g = true} SK.TyRow SK.Comma SK.RCurly types.tyRow) (mem text toks env table scratch₀ finds₀ s1₀) (mem text toks env table scratch finds s1) × (length scratch ≡ length scratch₀) × (length finds ≡ length finds₀)
+
+abbrev ty-rows-μ-loop : ty-rows-lts.MeasureT-loop
+ty-rows-μ-loop text toks env table scratch₀ finds₀ left b s1₀ scratch finds s1 = turns (mem text toks env table scratch finds s1)
+
+-- src/lib.rt:315:5
+ty-rows-loop-holds :
+    (t : ℕ) →
+    ty-rows-lts.Need-loop-holds
+    (row-turn-below t, row-turn.Post)
+    (ty-rows-at t)
+    ty-rows.Post
+    ty-rows-Inv-loop
+    ty-rows-μ-loop
+ty-rows-loop-holds t c =
+    let falls = c .before .before .before .before .before .before .pre .0 in
+    let pre0 = c .before .before .before .before .before .before .pre .1 in
+    (loop-starts pre0, refl, refl)
+
+-- src/lib.rt:316:13
+ty-rows-row-turn-requires : (t : ℕ) → ty-rows-lts.Need-row-turn-requires (
+  row-turn-below t,
+  row-turn.Post,
+) (ty-rows-at t) ty-rows.Post ty-rows-Inv-loop ty-rows-μ-loop
+ty-rows-row-turn-requires t c κs =
+    let falls = c .before .before .before .before .before .before .before .before .before .pre .0 in
+    let pre0 = c .before .before .before .before .before .before .before .before .before .pre .1 in
+    let inv = c .before .before .loop .inv .0 .ok in
+    search asks depth 8
+
+-- src/lib.rt:318:23
+ty-rows-enum-known-turn : (t : ℕ) → ty-rows-lts.Need-enum-known-turn (
+  row-turn-below t,
+  row-turn.Post,
+) (ty-rows-at t) ty-rows.Post ty-rows-Inv-loop ty-rows-μ-loop
+ty-rows-enum-known-turn t c =
+    let falls = c .before .before .before .before .before .before .before .before .before .before .before .before .before .before .before .pre .0 in
+    let pre0 = c .before .before .before .before .before .before .before .before .before .before .before .before .before .before .before .pre .1 in
+    search needs
+
+-- src/lib.rt:315:5
+ty-rows-loop-less :
+    (t : ℕ) →
+    ty-rows-lts.Need-loop-less
+    (row-turn-below t, row-turn.Post)
+    (ty-rows-at t)
+    ty-rows.Post
+    ty-rows-Inv-loop
+    ty-rows-μ-loop
+ty-rows-loop-less t c =
+    let row-turn = runs-in {b = 0} (rw (c .before .turn .given .1) at (c .before .before .before .before .before .before .before .row-turn .ensures)) in
+    loop-falls (end-turn-advances true _ _ _ _ _ _) row-turn
+
+-- src/lib.rt:315:5
+ty-rows-loop-again :
+    (t : ℕ) →
+    ty-rows-lts.Need-loop-again
+    (row-turn-below t, row-turn.Post)
+    (ty-rows-at t)
+    ty-rows.Post
+    ty-rows-Inv-loop
+    ty-rows-μ-loop
+ty-rows-loop-again t c =
+    let row-turn = runs-in (rw (c .before .turn .given .1) at (c .before .before .before .before .before .before .before .row-turn .ensures)) in
+    (loop-goes (end-turn-advances true _ _ _ _ _ _) (c .before .before .before .before .before .before .before .before .before .before .loop .inv .0) row-turn, c .before .before .before .before .before .before .before .row-turn .kept .1 .1 .1 .1 .0 ∙ c .before .before .before .before .before .before .before .before .before .before .loop .inv .1, c .before .before .before .before .before .before .before .row-turn .kept .1 .1 .1 .1 .1 .0 ∙ c .before .before .before .before .before .before .before .before .before .before .loop .inv .2)
+
+-- src/lib.rt:319:28
+ty-rows-enum-known-turn-2 : (t : ℕ) → ty-rows-lts.Need-enum-known-turn-2 (
+  row-turn-below t,
+  row-turn.Post,
+) (ty-rows-at t) ty-rows.Post ty-rows-Inv-loop ty-rows-μ-loop
+ty-rows-enum-known-turn-2 t c =
+    let falls = c .before .before .before .before .before .before .before .before .before .before .before .before .before .before .before .pre .0 in
+    let pre0 = c .before .before .before .before .before .before .before .before .before .before .before .before .before .before .before .pre .1 in
+    search needs
+
+-- src/lib.rt:319:35
+ty-rows-same-length :
+    (t : ℕ) →
+    ty-rows-lts.Need-same-length
+    (row-turn-below t, row-turn.Post)
+    (ty-rows-at t)
+    ty-rows.Post
+    ty-rows-Inv-loop
+    ty-rows-μ-loop
+ty-rows-same-length t c =
+    c .before .before .before .before .before .before .before .row-turn .kept .1 .1 .1 .1 .0 ∙ c .before .before .before .before .before .before .before .before .before .before .loop .inv .1
+
+-- src/lib.rt:319:35
+ty-rows-same-length-2 :
+    (t : ℕ) →
+    ty-rows-lts.Need-same-length-2
+    (row-turn-below t, row-turn.Post)
+    (ty-rows-at t)
+    ty-rows.Post
+    ty-rows-Inv-loop
+    ty-rows-μ-loop
+ty-rows-same-length-2 t c =
+    c .before .before .before .before .before .before .before .row-turn .kept .1 .1 .1 .1 .1 .0 ∙ c .before .before .before .before .before .before .before .before .before .before .loop .inv .2
+
+-- src/lib.rt:319:35
+ty-rows-returns :
+    (t : ℕ) →
+    ty-rows-lts.Need-returns
+    (row-turn-below t, row-turn.Post)
+    (ty-rows-at t)
+    ty-rows.Post
+    ty-rows-Inv-loop
+    ty-rows-μ-loop
+ty-rows-returns t c =
+    let row-turn = runs-in (rw (c .before .turn2 .given .1) at (c .before .before .before .before .before .before .before .row-turn .ensures)) in
+    loop-ends (end-turn-advances true _ _ _ _ _ _) (c .before .before .before .before .before .before .before .before .before .before .loop .inv .0) row-turn
+
+-- src/lib.rt:142:31
+ty-seq-refuse-requires : (t : ℕ) → ty-seq-lts.Need-refuse-requires (
+  refuse-reads.Asked,
+  refuse-reads.Learnt,
+  mark-reads.Asked,
+  mark-reads.Learnt,
+  bump-reads.Asked,
+  bump-reads.Learnt,
+  ty-arg-below t,
+  ty-arg.Post,
+  ty-args-below t,
+  ty-args.Post,
+  close-reads.Asked,
+  close-reads.Learnt,
+) (ty-seq-at t) ty-seq.Post
+ty-seq-refuse-requires t c κs =
+    let falls = c .before .before .before .before .before .before .before .pre .0 in
+    let pre0 = c .before .before .before .before .before .before .before .pre .1 in
+    let if1 = c .if1 .taken in
+    search asks depth 8
+
+-- src/lib.rt:142:9
+ty-seq-returns : (t : ℕ) → ty-seq-lts.Need-returns (
+  refuse-reads.Asked,
+  refuse-reads.Learnt,
+  mark-reads.Asked,
+  mark-reads.Learnt,
+  bump-reads.Asked,
+  bump-reads.Learnt,
+  ty-arg-below t,
+  ty-arg.Post,
+  ty-args-below t,
+  ty-args.Post,
+  close-reads.Asked,
+  close-reads.Learnt,
+) (ty-seq-at t) ty-seq.Post
+unfolding types.tySeq util.endSep
+ty-seq-returns t c =
+    let falls = c .before .before .before .before .before .before .before .before .pre .0 in
+    let pre0 = c .before .before .before .before .before .before .before .before .pre .1 in
+    let if1 = c .before .if1 .taken in
+    let refuse-is = c .refuse .ensures in
+    let refuse = nth 0 refuse-is in
+    by-steps pre0 (λ b. search rules depth 60 fits 4000)
+
+-- src/lib.rt:144:9
+ty-seq-mark-requires : (t : ℕ) → ty-seq-lts.Need-mark-requires (
+  refuse-reads.Asked,
+  refuse-reads.Learnt,
+  mark-reads.Asked,
+  mark-reads.Learnt,
+  bump-reads.Asked,
+  bump-reads.Learnt,
+  ty-arg-below t,
+  ty-arg.Post,
+  ty-args-below t,
+  ty-args.Post,
+  close-reads.Asked,
+  close-reads.Learnt,
+) (ty-seq-at t) ty-seq.Post
+ty-seq-mark-requires t c κs =
+    let falls = c .before .before .before .before .before .before .before .pre .0 in
+    let pre0 = c .before .before .before .before .before .before .before .pre .1 in
+    let if1 = c .if1 .left in
+    search asks depth 8
+
+-- src/lib.rt:146:9
+ty-seq-bump-requires : (t : ℕ) → ty-seq-lts.Need-bump-requires (
+  refuse-reads.Asked,
+  refuse-reads.Learnt,
+  mark-reads.Asked,
+  mark-reads.Learnt,
+  bump-reads.Asked,
+  bump-reads.Learnt,
+  ty-arg-below t,
+  ty-arg.Post,
+  ty-args-below t,
+  ty-args.Post,
+  close-reads.Asked,
+  close-reads.Learnt,
+) (ty-seq-at t) ty-seq.Post
+ty-seq-bump-requires t c κs =
+    let falls = c .before .before .before .before .before .before .before .before .before .pre .0 in
+    let pre0 = c .before .before .before .before .before .before .before .before .before .pre .1 in
+    let if1 = c .before .before .if1 .left in
+    let mark = c .before .mark .ensures in
+    let mark-ok = ok-marks mark pre0 in
+    search asks depth 8
+
+-- src/lib.rt:147:62
+ty-seq-sub-ty-arg : (t : ℕ) → ty-seq-lts.Need-sub-ty-arg (
+  refuse-reads.Asked,
+  refuse-reads.Learnt,
+  mark-reads.Asked,
+  mark-reads.Learnt,
+  bump-reads.Asked,
+  bump-reads.Learnt,
+  ty-arg-below t,
+  ty-arg.Post,
+  ty-args-below t,
+  ty-args.Post,
+  close-reads.Asked,
+  close-reads.Learnt,
+) (ty-seq-at t) ty-seq.Post
+ty-seq-sub-ty-arg t c =
+    let falls = c .before .before .before .before .before .before .before .before .before .before .before .before .before .before .pre .0 in
+    let pre0 = c .before .before .before .before .before .before .before .before .before .before .before .before .before .before .pre .1 in
+    let if1 = c .before .before .before .before .before .before .before .if1 .left in
+    search needs
+
+-- src/lib.rt:147:9
+ty-seq-ty-arg-requires : (t : ℕ) → ty-seq-lts.Need-ty-arg-requires (
+  refuse-reads.Asked,
+  refuse-reads.Learnt,
+  mark-reads.Asked,
+  mark-reads.Learnt,
+  bump-reads.Asked,
+  bump-reads.Learnt,
+  ty-arg-below t,
+  ty-arg.Post,
+  ty-args-below t,
+  ty-args.Post,
+  close-reads.Asked,
+  close-reads.Learnt,
+) (ty-seq-at t) ty-seq.Post
+ty-seq-ty-arg-requires t c κs =
+    let falls = c .before .before .before .before .before .before .before .before .before .before .before .before .before .before .pre .0 in
+    let pre0 = c .before .before .before .before .before .before .before .before .before .before .before .before .before .before .pre .1 in
+    let if1 = c .before .before .before .before .before .before .before .if1 .left in
+    let mark = c .before .before .before .before .before .before .mark .ensures in
+    let mark-ok = ok-marks mark pre0 in
+    let bump = c .before .before .before .before .bump .ensures in
+    let bump-ok = ok-bumps bump mark-ok in
+    search asks depth 8
+
+-- src/lib.rt:149:24
+ty-seq-enum-known-arg : (t : ℕ) → ty-seq-lts.Need-enum-known-arg (
+  refuse-reads.Asked,
+  refuse-reads.Learnt,
+  mark-reads.Asked,
+  mark-reads.Learnt,
+  bump-reads.Asked,
+  bump-reads.Learnt,
+  ty-arg-below t,
+  ty-arg.Post,
+  ty-args-below t,
+  ty-args.Post,
+  close-reads.Asked,
+  close-reads.Learnt,
+) (ty-seq-at t) ty-seq.Post
+ty-seq-enum-known-arg t c =
+    let falls = c .before .before .before .before .before .before .before .before .before .before .before .before .before .before .before .before .before .before .before .before .pre .0 in
+    let pre0 = c .before .before .before .before .before .before .before .before .before .before .before .before .before .before .before .before .before .before .before .before .pre .1 in
+    let if1 = c .before .before .before .before .before .before .before .before .before .before .before .before .before .if1 .left in
+    search needs
+
+-- src/lib.rt:150:70
+ty-seq-sub-ty-args : (t : ℕ) → ty-seq-lts.Need-sub-ty-args (
+  refuse-reads.Asked,
+  refuse-reads.Learnt,
+  mark-reads.Asked,
+  mark-reads.Learnt,
+  bump-reads.Asked,
+  bump-reads.Learnt,
+  ty-arg-below t,
+  ty-arg.Post,
+  ty-args-below t,
+  ty-args.Post,
+  close-reads.Asked,
+  close-reads.Learnt,
+) (ty-seq-at t) ty-seq.Post
+ty-seq-sub-ty-args t c =
+    let falls = c .before .before .before .before .before .before .before .before .before .before .before .before .before .before .before .before .before .before .before .before .before .before .before .before .pre .0 in
+    let pre0 = c .before .before .before .before .before .before .before .before .before .before .before .before .before .before .before .before .before .before .before .before .before .before .before .before .pre .1 in
+    let if1 = c .before .before .before .before .before .before .before .before .before .before .before .before .before .before .before .before .before .if1 .left in
+    search needs
+
+-- src/lib.rt:150:17
+ty-seq-ty-args-requires : (t : ℕ) → ty-seq-lts.Need-ty-args-requires (
+  refuse-reads.Asked,
+  refuse-reads.Learnt,
+  mark-reads.Asked,
+  mark-reads.Learnt,
+  bump-reads.Asked,
+  bump-reads.Learnt,
+  ty-arg-below t,
+  ty-arg.Post,
+  ty-args-below t,
+  ty-args.Post,
+  close-reads.Asked,
+  close-reads.Learnt,
+) (ty-seq-at t) ty-seq.Post
+ty-seq-ty-args-requires t c κs =
+    let falls = c .before .before .before .before .before .before .before .before .before .before .before .before .before .before .before .before .before .before .before .before .before .before .before .before .pre .0 in
+    let pre0 = c .before .before .before .before .before .before .before .before .before .before .before .before .before .before .before .before .before .before .before .before .before .before .before .before .pre .1 in
+    let if1 = c .before .before .before .before .before .before .before .before .before .before .before .before .before .before .before .before .before .if1 .left in
+    let mark = c .before .before .before .before .before .before .before .before .before .before .before .before .before .before .before .before .mark .ensures in
+    let mark-ok = ok-marks mark pre0 in
+    let bump = c .before .before .before .before .before .before .before .before .before .before .before .before .before .before .bump .ensures in
+    let bump-ok = ok-bumps bump mark-ok in
+    let ty-arg = rw (c .before .before .before .arg .given .1) at (c .before .before .before .before .before .before .before .before .before .ty-arg .ensures) in
+    let ty-arg-ok = ty-arg .ok in
+    search asks depth 8
+
+-- src/lib.rt:151:28
+ty-seq-close-requires : (t : ℕ) → ty-seq-lts.Need-close-requires (
+  refuse-reads.Asked,
+  refuse-reads.Learnt,
+  mark-reads.Asked,
+  mark-reads.Learnt,
+  bump-reads.Asked,
+  bump-reads.Learnt,
+  ty-arg-below t,
+  ty-arg.Post,
+  ty-args-below t,
+  ty-args.Post,
+  close-reads.Asked,
+  close-reads.Learnt,
+) (ty-seq-at t) ty-seq.Post
+ty-seq-close-requires t c κs =
+    let falls = c .before .before .before .before .before .before .before .before .before .before .before .before .before .before .before .before .before .before .before .before .before .before .before .before .before .before .before .before .before .before .pre .0 in
+    let pre0 = c .before .before .before .before .before .before .before .before .before .before .before .before .before .before .before .before .before .before .before .before .before .before .before .before .before .before .before .before .before .before .pre .1 in
+    let if1 = c .before .before .before .before .before .before .before .before .before .before .before .before .before .before .before .before .before .before .before .before .before .before .before .if1 .left in
+    let mark = c .before .before .before .before .before .before .before .before .before .before .before .before .before .before .before .before .before .before .before .before .before .before .mark .ensures in
+    let mark-ok = ok-marks mark pre0 in
+    let bump = c .before .before .before .before .before .before .before .before .before .before .before .before .before .before .before .before .before .before .before .before .bump .ensures in
+    let bump-ok = ok-bumps bump mark-ok in
+    let ty-arg = rw (c .before .before .before .before .before .before .before .before .before .arg .given .1) at (c .before .before .before .before .before .before .before .before .before .before .before .before .before .before .before .ty-arg .ensures) in
+    let ty-arg-ok = ty-arg .ok in
+    let ty-args = c .before .before .before .before .before .ty-args .ensures in
+    let ty-args-ok = ty-args .ok in
+    search asks depth 8
+
+-- src/lib.rt:153:19
+ty-seq-enum-known-arg-2 : (t : ℕ) → ty-seq-lts.Need-enum-known-arg-2 (
+  refuse-reads.Asked,
+  refuse-reads.Learnt,
+  mark-reads.Asked,
+  mark-reads.Learnt,
+  bump-reads.Asked,
+  bump-reads.Learnt,
+  ty-arg-below t,
+  ty-arg.Post,
+  ty-args-below t,
+  ty-args.Post,
+  close-reads.Asked,
+  close-reads.Learnt,
+) (ty-seq-at t) ty-seq.Post
+ty-seq-enum-known-arg-2 t c =
+    let falls = c .before .before .before .before .before .before .before .before .before .before .before .before .before .before .before .before .before .before .before .before .pre .0 in
+    let pre0 = c .before .before .before .before .before .before .before .before .before .before .before .before .before .before .before .before .before .before .before .before .pre .1 in
+    let if1 = c .before .before .before .before .before .before .before .before .before .before .before .before .before .if1 .left in
+    search needs
+
+-- src/lib.rt:137:1
+ty-seq-same-length : (t : ℕ) → ty-seq-lts.Need-same-length (
+  refuse-reads.Asked,
+  refuse-reads.Learnt,
+  mark-reads.Asked,
+  mark-reads.Learnt,
+  bump-reads.Asked,
+  bump-reads.Learnt,
+  ty-arg-below t,
+  ty-arg.Post,
+  ty-args-below t,
+  ty-args.Post,
+  close-reads.Asked,
+  close-reads.Learnt,
+) (ty-seq-at t) ty-seq.Post
+ty-seq-same-length t c =
+    c .before .before .close .kept .0 ∙ c .before .before .before .before .before .before .before .before .ty-args .kept .1 .1 .1 .1 .0 ∙ c .before .before .before .before .before .before .before .before .before .before .before .before .before .before .before .before .before .before .ty-arg .kept .1 .1 .1 .1 .0 ∙ c .before .before .before .before .before .before .before .before .before .before .before .before .before .before .before .before .before .before .before .before .before .before .before .bump .kept .1 .0
+
+-- src/lib.rt:137:1
+ty-seq-same-length-2 : (t : ℕ) → ty-seq-lts.Need-same-length-2 (
+  refuse-reads.Asked,
+  refuse-reads.Learnt,
+  mark-reads.Asked,
+  mark-reads.Learnt,
+  bump-reads.Asked,
+  bump-reads.Learnt,
+  ty-arg-below t,
+  ty-arg.Post,
+  ty-args-below t,
+  ty-args.Post,
+  close-reads.Asked,
+  close-reads.Learnt,
+) (ty-seq-at t) ty-seq.Post
+ty-seq-same-length-2 t c =
+    c .before .before .before .before .before .before .before .before .ty-args .kept .1 .1 .1 .1 .1 .0 ∙ c .before .before .before .before .before .before .before .before .before .before .before .before .before .before .before .before .before .before .ty-arg .kept .1 .1 .1 .1 .1 .0
+
+-- src/lib.rt:137:1
+ty-seq-returns-2 : (t : ℕ) → ty-seq-lts.Need-returns-2 (
+  refuse-reads.Asked,
+  refuse-reads.Learnt,
+  mark-reads.Asked,
+  mark-reads.Learnt,
+  bump-reads.Asked,
+  bump-reads.Learnt,
+  ty-arg-below t,
+  ty-arg.Post,
+  ty-args-below t,
+  ty-args.Post,
+  close-reads.Asked,
+  close-reads.Learnt,
+) (ty-seq-at t) ty-seq.Post
+unfolding types.tySeq util.endSep
+ty-seq-returns-2 t c =
+    let falls = c .before .before .before .before .before .before .before .before .before .before .before .before .before .before .before .before .before .before .before .before .before .before .before .before .before .before .before .before .before .before .before .before .before .pre .0 in
+    let pre0 = c .before .before .before .before .before .before .before .before .before .before .before .before .before .before .before .before .before .before .before .before .before .before .before .before .before .before .before .before .before .before .before .before .before .pre .1 in
+    let if1 = c .before .before .before .before .before .before .before .before .before .before .before .before .before .before .before .before .before .before .before .before .before .before .before .before .before .before .if1 .left in
+    let mark-is = c .before .before .before .before .before .before .before .before .before .before .before .before .before .before .before .before .before .before .before .before .before .before .before .before .before .mark .ensures in
+    let mark = nth 0 mark-is in
+    let bump-is = c .before .before .before .before .before .before .before .before .before .before .before .before .before .before .before .before .before .before .before .before .before .before .before .bump .ensures in
+    let bump = nth 1 bump-is in
+    let ty-arg-is = rw (c .before .before .before .before .before .before .before .before .before .before .before .before .arg .given .1) at (c .before .before .before .before .before .before .before .before .before .before .before .before .before .before .before .before .before .before .ty-arg .ensures) in
+    let ty-arg = nth 2 ty-arg-is in
+    let ty-args-is = c .before .before .before .before .before .before .before .before .ty-args .ensures in
+    let ty-args = nth 3 ty-args-is in
+    let close-is = c .before .before .close .ensures in
+    let close = nth 4 close-is in
+    by-steps pre0 (λ b. search rules depth 60 fits 4000)
+
+-- src/lib.rt:137:1
+ty-seq-same-length-3 : (t : ℕ) → ty-seq-lts.Need-same-length-3 (
+  refuse-reads.Asked,
+  refuse-reads.Learnt,
+  mark-reads.Asked,
+  mark-reads.Learnt,
+  bump-reads.Asked,
+  bump-reads.Learnt,
+  ty-arg-below t,
+  ty-arg.Post,
+  ty-args-below t,
+  ty-args.Post,
+  close-reads.Asked,
+  close-reads.Learnt,
+) (ty-seq-at t) ty-seq.Post
+ty-seq-same-length-3 t c =
+    c .before .before .before .before .before .before .before .ty-arg .kept .1 .1 .1 .1 .0 ∙ c .before .before .before .before .before .before .before .before .before .before .before .before .bump .kept .1 .0
+
+-- src/lib.rt:137:1
+ty-seq-same-length-4 : (t : ℕ) → ty-seq-lts.Need-same-length-4 (
+  refuse-reads.Asked,
+  refuse-reads.Learnt,
+  mark-reads.Asked,
+  mark-reads.Learnt,
+  bump-reads.Asked,
+  bump-reads.Learnt,
+  ty-arg-below t,
+  ty-arg.Post,
+  ty-args-below t,
+  ty-args.Post,
+  close-reads.Asked,
+  close-reads.Learnt,
+) (ty-seq-at t) ty-seq.Post
+ty-seq-same-length-4 t c =
+    c .before .before .before .before .before .before .before .ty-arg .kept .1 .1 .1 .1 .1 .0
+
+-- src/lib.rt:137:1
+ty-seq-returns-3 : (t : ℕ) → ty-seq-lts.Need-returns-3 (
+  refuse-reads.Asked,
+  refuse-reads.Learnt,
+  mark-reads.Asked,
+  mark-reads.Learnt,
+  bump-reads.Asked,
+  bump-reads.Learnt,
+  ty-arg-below t,
+  ty-arg.Post,
+  ty-args-below t,
+  ty-args.Post,
+  close-reads.Asked,
+  close-reads.Learnt,
+) (ty-seq-at t) ty-seq.Post
+unfolding types.tySeq util.endSep
+ty-seq-returns-3 t c =
+    let falls = c .before .before .before .before .before .before .before .before .before .before .before .before .before .before .before .before .before .before .before .before .before .before .pre .0 in
+    let pre0 = c .before .before .before .before .before .before .before .before .before .before .before .before .before .before .before .before .before .before .before .before .before .before .pre .1 in
+    let if1 = c .before .before .before .before .before .before .before .before .before .before .before .before .before .before .before .if1 .left in
+    let mark-is = c .before .before .before .before .before .before .before .before .before .before .before .before .before .before .mark .ensures in
+    let mark = nth 0 mark-is in
+    let bump-is = c .before .before .before .before .before .before .before .before .before .before .before .before .bump .ensures in
+    let bump = nth 1 bump-is in
+    let ty-arg-is = rw (c .before .arg2 .given .1) at (c .before .before .before .before .before .before .before .ty-arg .ensures) in
+    let ty-arg = nth 2 ty-arg-is in
+    by-steps pre0 (λ b. search rules depth 60 fits 4000)
+
+-- src/lib.rt:200:25
+ty-step-peek-requires : (t : ℕ) → ty-step-lts.Need-peek-requires (
+  peek-reads.Asked,
+  peek-reads.Learnt,
+  ty-arrow-below t,
+  ty-arrow.Post,
+  ty-tuple-below t,
+  ty-tuple.Post,
+  ty-con-reads.Asked,
+  ty-con-reads.Learnt,
+) (ty-step-at t) ty-step.Post
+ty-step-peek-requires t c κs =
+    let falls = c .before .before .before .before .before .before .pre .0 in
+    let pre0 = c .before .before .before .before .before .before .pre .1 .0 in
+    let pre1 = c .before .before .before .before .before .before .pre .1 .1 in
+    search asks depth 8
+
+-- src/lib.rt:200:20
+ty-step-enum-known-k : (t : ℕ) → ty-step-lts.Need-enum-known-k (
+  peek-reads.Asked,
+  peek-reads.Learnt,
+  ty-arrow-below t,
+  ty-arrow.Post,
+  ty-tuple-below t,
+  ty-tuple.Post,
+  ty-con-reads.Asked,
+  ty-con-reads.Learnt,
+) (ty-step-at t) ty-step.Post
+ty-step-enum-known-k t c =
+    let falls = c .before .before .before .before .before .before .before .before .pre .0 in
+    let pre0 = c .before .before .before .before .before .before .before .before .pre .1 .0 in
+    let pre1 = c .before .before .before .before .before .before .before .before .pre .1 .1 in
+    search needs
+
+-- src/lib.rt:201:9
+ty-step-enum-told : (t : ℕ) → ty-step-lts.Need-enum-told (
+  peek-reads.Asked,
+  peek-reads.Learnt,
+  ty-arrow-below t,
+  ty-arrow.Post,
+  ty-tuple-below t,
+  ty-tuple.Post,
+  ty-con-reads.Asked,
+  ty-con-reads.Learnt,
+) (ty-step-at t) ty-step.Post
+ty-step-enum-told t c =
+    let falls = c .before .before .before .before .before .before .before .before .pre .0 in
+    let pre0 = c .before .before .before .before .before .before .before .before .pre .1 .0 in
+    let pre1 = c .before .before .before .before .before .before .before .before .pre .1 .1 in
+    search needs
+
+-- src/lib.rt:201:9
+ty-step-returns : (t : ℕ) → ty-step-lts.Need-returns (
+  peek-reads.Asked,
+  peek-reads.Learnt,
+  ty-arrow-below t,
+  ty-arrow.Post,
+  ty-tuple-below t,
+  ty-tuple.Post,
+  ty-con-reads.Asked,
+  ty-con-reads.Learnt,
+) (ty-step-at t) ty-step.Post
+unfolding types.tyStep
+ty-step-returns t c =
+    let falls = c .before .before .before .before .before .before .before .before .before .pre .0 in
+    let pre0 = c .before .before .before .before .before .before .before .before .before .pre .1 .0 in
+    let pre1 = c .before .before .before .before .before .before .before .before .before .pre .1 .1 in
+    let peek-is = rw (c .enum-told .given .1) at (c .before .before .peek .ensures) in
+    let peek = nth 0 peek-is in
+    in-steps pre0 (search rules depth 60 fits 4000)
+
+-- src/lib.rt:205:13
+ty-step-returns-2 : (t : ℕ) → ty-step-lts.Need-returns-2 (
+  peek-reads.Asked,
+  peek-reads.Learnt,
+  ty-arrow-below t,
+  ty-arrow.Post,
+  ty-tuple-below t,
+  ty-tuple.Post,
+  ty-con-reads.Asked,
+  ty-con-reads.Learnt,
+) (ty-step-at t) ty-step.Post
+unfolding types.tyStep
+ty-step-returns-2 t c =
+    let falls = c .before .before .before .before .before .before .before .before .before .before .before .before .pre .0 in
+    let pre0 = c .before .before .before .before .before .before .before .before .before .before .before .before .pre .1 .0 in
+    let pre1 = c .before .before .before .before .before .before .before .before .before .before .before .before .pre .1 .1 in
+    let peek-is = rw (c .before .before .before .k .given .1) at (c .before .before .before .before .before .peek .ensures) in
+    let peek = nth 0 peek-is in
+    let if1 = c .before .if1 .taken in
+    let if2 = c .if2 .taken in
+    in-steps pre0 (search rules depth 60 fits 4000)
+
+-- src/lib.rt:207:26
+ty-step-ty-arrow-requires : (t : ℕ) → ty-step-lts.Need-ty-arrow-requires (
+  peek-reads.Asked,
+  peek-reads.Learnt,
+  ty-arrow-below t,
+  ty-arrow.Post,
+  ty-tuple-below t,
+  ty-tuple.Post,
+  ty-con-reads.Asked,
+  ty-con-reads.Learnt,
+) (ty-step-at t) ty-step.Post
+ty-step-ty-arrow-requires t c κs =
+    let falls = c .before .before .before .before .before .before .before .before .before .before .before .before .before .before .pre .0 in
+    let pre0 = c .before .before .before .before .before .before .before .before .before .before .before .before .before .before .pre .1 .0 in
+    let pre1 = c .before .before .before .before .before .before .before .before .before .before .before .before .before .before .pre .1 .1 in
+    let peek = rw (c .before .before .before .before .before .k .given .1) at (c .before .before .before .before .before .before .before .peek .ensures) in
+    let if1 = c .before .before .before .if1 .taken in
+    let if2 = c .before .before .if2 .left in
+    search asks depth 8
+
+-- src/lib.rt:207:9
+ty-step-same-length : (t : ℕ) → ty-step-lts.Need-same-length (
+  peek-reads.Asked,
+  peek-reads.Learnt,
+  ty-arrow-below t,
+  ty-arrow.Post,
+  ty-tuple-below t,
+  ty-tuple.Post,
+  ty-con-reads.Asked,
+  ty-con-reads.Learnt,
+) (ty-step-at t) ty-step.Post
+ty-step-same-length t c =
+    c .before .before .before .before .ty-arrow .kept .1 .1 .1 .1 .0
+
+-- src/lib.rt:207:9
+ty-step-same-length-2 : (t : ℕ) → ty-step-lts.Need-same-length-2 (
+  peek-reads.Asked,
+  peek-reads.Learnt,
+  ty-arrow-below t,
+  ty-arrow.Post,
+  ty-tuple-below t,
+  ty-tuple.Post,
+  ty-con-reads.Asked,
+  ty-con-reads.Learnt,
+) (ty-step-at t) ty-step.Post
+ty-step-same-length-2 t c =
+    c .before .before .before .before .ty-arrow .kept .1 .1 .1 .1 .1 .0
+
+-- src/lib.rt:207:9
+ty-step-returns-3 : (t : ℕ) → ty-step-lts.Need-returns-3 (
+  peek-reads.Asked,
+  peek-reads.Learnt,
+  ty-arrow-below t,
+  ty-arrow.Post,
+  ty-tuple-below t,
+  ty-tuple.Post,
+  ty-con-reads.Asked,
+  ty-con-reads.Learnt,
+) (ty-step-at t) ty-step.Post
+unfolding types.tyStep
+ty-step-returns-3 t c =
+    let falls = c .before .before .before .before .before .before .before .before .before .before .before .before .before .before .before .before .before .before .before .pre .0 in
+    let pre0 = c .before .before .before .before .before .before .before .before .before .before .before .before .before .before .before .before .before .before .before .pre .1 .0 in
+    let pre1 = c .before .before .before .before .before .before .before .before .before .before .before .before .before .before .before .before .before .before .before .pre .1 .1 in
+    let peek-is = rw (c .before .before .before .before .before .before .before .before .before .before .k .given .1) at (c .before .before .before .before .before .before .before .before .before .before .before .before .peek .ensures) in
+    let peek = nth 0 peek-is in
+    let if1 = c .before .before .before .before .before .before .before .before .if1 .taken in
+    let if2 = c .before .before .before .before .before .before .before .if2 .left in
+    let ty-arrow-is = c .before .before .before .before .ty-arrow .ensures in
+    let ty-arrow = nth 1 ty-arrow-is in
+    in-steps pre0 (search rules depth 60 fits 4000)
+
+-- src/lib.rt:211:13
+ty-step-returns-4 : (t : ℕ) → ty-step-lts.Need-returns-4 (
+  peek-reads.Asked,
+  peek-reads.Learnt,
+  ty-arrow-below t,
+  ty-arrow.Post,
+  ty-tuple-below t,
+  ty-tuple.Post,
+  ty-con-reads.Asked,
+  ty-con-reads.Learnt,
+) (ty-step-at t) ty-step.Post
+unfolding types.tyStep
+ty-step-returns-4 t c =
+    let falls = c .before .before .before .before .before .before .before .before .before .before .before .before .before .pre .0 in
+    let pre0 = c .before .before .before .before .before .before .before .before .before .before .before .before .before .pre .1 .0 in
+    let pre1 = c .before .before .before .before .before .before .before .before .before .before .before .before .before .pre .1 .1 in
+    let peek-is = rw (c .before .before .before .before .k .given .1) at (c .before .before .before .before .before .before .peek .ensures) in
+    let peek = nth 0 peek-is in
+    let if1 = c .before .before .if1 .left in
+    let if3 = c .before .if3 .taken in
+    let if4 = c .if4 .taken in
+    in-steps pre0 (search rules depth 60 fits 4000)
+
+-- src/lib.rt:213:26
+ty-step-ty-tuple-requires : (t : ℕ) → ty-step-lts.Need-ty-tuple-requires (
+  peek-reads.Asked,
+  peek-reads.Learnt,
+  ty-arrow-below t,
+  ty-arrow.Post,
+  ty-tuple-below t,
+  ty-tuple.Post,
+  ty-con-reads.Asked,
+  ty-con-reads.Learnt,
+) (ty-step-at t) ty-step.Post
+ty-step-ty-tuple-requires t c κs =
+    let falls = c .before .before .before .before .before .before .before .before .before .before .before .before .before .before .before .pre .0 in
+    let pre0 = c .before .before .before .before .before .before .before .before .before .before .before .before .before .before .before .pre .1 .0 in
+    let pre1 = c .before .before .before .before .before .before .before .before .before .before .before .before .before .before .before .pre .1 .1 in
+    let peek = rw (c .before .before .before .before .before .before .k .given .1) at (c .before .before .before .before .before .before .before .before .peek .ensures) in
+    let if1 = c .before .before .before .before .if1 .left in
+    let if3 = c .before .before .before .if3 .taken in
+    let if4 = c .before .before .if4 .left in
+    search asks depth 8
+
+-- src/lib.rt:213:9
+ty-step-same-length-3 : (t : ℕ) → ty-step-lts.Need-same-length-3 (
+  peek-reads.Asked,
+  peek-reads.Learnt,
+  ty-arrow-below t,
+  ty-arrow.Post,
+  ty-tuple-below t,
+  ty-tuple.Post,
+  ty-con-reads.Asked,
+  ty-con-reads.Learnt,
+) (ty-step-at t) ty-step.Post
+ty-step-same-length-3 t c =
+    c .before .before .before .before .ty-tuple .kept .1 .1 .1 .1 .0
+
+-- src/lib.rt:213:9
+ty-step-same-length-4 : (t : ℕ) → ty-step-lts.Need-same-length-4 (
+  peek-reads.Asked,
+  peek-reads.Learnt,
+  ty-arrow-below t,
+  ty-arrow.Post,
+  ty-tuple-below t,
+  ty-tuple.Post,
+  ty-con-reads.Asked,
+  ty-con-reads.Learnt,
+) (ty-step-at t) ty-step.Post
+ty-step-same-length-4 t c =
+    c .before .before .before .before .ty-tuple .kept .1 .1 .1 .1 .1 .0
+
+-- src/lib.rt:213:9
+ty-step-returns-5 : (t : ℕ) → ty-step-lts.Need-returns-5 (
+  peek-reads.Asked,
+  peek-reads.Learnt,
+  ty-arrow-below t,
+  ty-arrow.Post,
+  ty-tuple-below t,
+  ty-tuple.Post,
+  ty-con-reads.Asked,
+  ty-con-reads.Learnt,
+) (ty-step-at t) ty-step.Post
+unfolding types.tyStep
+ty-step-returns-5 t c =
+    let falls = c .before .before .before .before .before .before .before .before .before .before .before .before .before .before .before .before .before .before .before .before .pre .0 in
+    let pre0 = c .before .before .before .before .before .before .before .before .before .before .before .before .before .before .before .before .before .before .before .before .pre .1 .0 in
+    let pre1 = c .before .before .before .before .before .before .before .before .before .before .before .before .before .before .before .before .before .before .before .before .pre .1 .1 in
+    let peek-is = rw (c .before .before .before .before .before .before .before .before .before .before .before .k .given .1) at (c .before .before .before .before .before .before .before .before .before .before .before .before .before .peek .ensures) in
+    let peek = nth 0 peek-is in
+    let if1 = c .before .before .before .before .before .before .before .before .before .if1 .left in
+    let if3 = c .before .before .before .before .before .before .before .before .if3 .taken in
+    let if4 = c .before .before .before .before .before .before .before .if4 .left in
+    let ty-tuple-is = c .before .before .before .before .ty-tuple .ensures in
+    let ty-tuple = nth 1 ty-tuple-is in
+    in-steps pre0 (search rules depth 60 fits 4000)
+
+-- src/lib.rt:216:26
+ty-step-ty-con-requires : (t : ℕ) → ty-step-lts.Need-ty-con-requires (
+  peek-reads.Asked,
+  peek-reads.Learnt,
+  ty-arrow-below t,
+  ty-arrow.Post,
+  ty-tuple-below t,
+  ty-tuple.Post,
+  ty-con-reads.Asked,
+  ty-con-reads.Learnt,
+) (ty-step-at t) ty-step.Post
+ty-step-ty-con-requires t c κs =
+    let falls = c .before .before .before .before .before .before .before .before .before .before .before .before .before .before .before .pre .0 in
+    let pre0 = c .before .before .before .before .before .before .before .before .before .before .before .before .before .before .before .pre .1 .0 in
+    let pre1 = c .before .before .before .before .before .before .before .before .before .before .before .before .before .before .before .pre .1 .1 in
+    let peek = rw (c .before .before .before .before .before .before .k .given .1) at (c .before .before .before .before .before .before .before .before .peek .ensures) in
+    let if1 = c .before .before .before .before .if1 .left in
+    let if3 = c .before .before .before .if3 .left in
+    let if5 = c .before .before .if5 .taken in
+    search asks depth 8
+
+-- src/lib.rt:216:9
+ty-step-same-length-5 : (t : ℕ) → ty-step-lts.Need-same-length-5 (
+  peek-reads.Asked,
+  peek-reads.Learnt,
+  ty-arrow-below t,
+  ty-arrow.Post,
+  ty-tuple-below t,
+  ty-tuple.Post,
+  ty-con-reads.Asked,
+  ty-con-reads.Learnt,
+) (ty-step-at t) ty-step.Post
+ty-step-same-length-5 t c =
+    c .before .before .before .before .ty-con .kept .1 .1 .1 .1 .0
+
+-- src/lib.rt:216:9
+ty-step-same-length-6 : (t : ℕ) → ty-step-lts.Need-same-length-6 (
+  peek-reads.Asked,
+  peek-reads.Learnt,
+  ty-arrow-below t,
+  ty-arrow.Post,
+  ty-tuple-below t,
+  ty-tuple.Post,
+  ty-con-reads.Asked,
+  ty-con-reads.Learnt,
+) (ty-step-at t) ty-step.Post
+ty-step-same-length-6 t c =
+    c .before .before .before .before .ty-con .kept .1 .1 .1 .1 .1 .0
+
+-- src/lib.rt:216:9
+ty-step-returns-6 : (t : ℕ) → ty-step-lts.Need-returns-6 (
+  peek-reads.Asked,
+  peek-reads.Learnt,
+  ty-arrow-below t,
+  ty-arrow.Post,
+  ty-tuple-below t,
+  ty-tuple.Post,
+  ty-con-reads.Asked,
+  ty-con-reads.Learnt,
+) (ty-step-at t) ty-step.Post
+unfolding types.tyStep
+ty-step-returns-6 t c =
+    let falls = c .before .before .before .before .before .before .before .before .before .before .before .before .before .before .before .before .before .before .before .before .pre .0 in
+    let pre0 = c .before .before .before .before .before .before .before .before .before .before .before .before .before .before .before .before .before .before .before .before .pre .1 .0 in
+    let pre1 = c .before .before .before .before .before .before .before .before .before .before .before .before .before .before .before .before .before .before .before .before .pre .1 .1 in
+    let peek-is = rw (c .before .before .before .before .before .before .before .before .before .before .before .k .given .1) at (c .before .before .before .before .before .before .before .before .before .before .before .before .before .peek .ensures) in
+    let peek = nth 0 peek-is in
+    let if1 = c .before .before .before .before .before .before .before .before .before .if1 .left in
+    let if3 = c .before .before .before .before .before .before .before .before .if3 .left in
+    let if5 = c .before .before .before .before .before .before .before .if5 .taken in
+    let ty-con-is = c .before .before .before .before .ty-con .ensures in
+    let ty-con = nth 1 ty-con-is in
+    in-steps pre0 (search rules depth 60 fits 4000)
+
+-- src/lib.rt:196:1
+ty-step-returns-7 : (t : ℕ) → ty-step-lts.Need-returns-7 (
+  peek-reads.Asked,
+  peek-reads.Learnt,
+  ty-arrow-below t,
+  ty-arrow.Post,
+  ty-tuple-below t,
+  ty-tuple.Post,
+  ty-con-reads.Asked,
+  ty-con-reads.Learnt,
+) (ty-step-at t) ty-step.Post
+unfolding types.tyStep
+ty-step-returns-7 t c =
+    let falls = c .before .before .before .before .before .before .before .before .before .before .before .before .before .pre .0 in
+    let pre0 = c .before .before .before .before .before .before .before .before .before .before .before .before .before .pre .1 .0 in
+    let pre1 = c .before .before .before .before .before .before .before .before .before .before .before .before .before .pre .1 .1 in
+    let peek-is = rw (c .before .before .before .before .k .given .1) at (c .before .before .before .before .before .before .peek .ensures) in
+    let peek = nth 0 peek-is in
+    let if1 = c .before .before .if1 .left in
+    let if3 = c .before .if3 .left in
+    let if5 = c .if5 .left in
+    in-steps pre0 (search rules depth 60 fits 4000)
+
+abbrev ty-tail-Inv-loop : ty-tail-lts.InvT-loop
+ty-tail-Inv-loop text toks env table scratch₀ finds₀ left min b s1₀ scratch finds s1 =
+    Loops left b (types.tyStep min) (mem text toks env table scratch₀ finds₀ s1₀) (mem text toks env table scratch finds s1) × (length scratch ≡ length scratch₀) × (length finds ≡ length finds₀)
+
+abbrev ty-tail-μ-loop : ty-tail-lts.MeasureT-loop
+ty-tail-μ-loop text toks env table scratch₀ finds₀ left min b s1₀ scratch finds s1 = turns (mem text toks env table scratch finds s1)
+
+-- src/lib.rt:185:5
+ty-tail-loop-holds :
+    (t : ℕ) →
+    ty-tail-lts.Need-loop-holds
+    (ty-step-below t, ty-step.Post)
+    (ty-tail-at t)
+    ty-tail.Post
+    ty-tail-Inv-loop
+    ty-tail-μ-loop
+ty-tail-loop-holds t c =
+    let falls = c .before .before .before .before .before .before .pre .0 in
+    let pre0 = c .before .before .before .before .before .before .pre .1 .0 in
+    let pre1 = c .before .before .before .before .before .before .pre .1 .1 in
+    (loop-starts pre0, refl, refl)
+
+-- src/lib.rt:186:13
+ty-tail-ty-step-requires : (t : ℕ) → ty-tail-lts.Need-ty-step-requires (
+  ty-step-below t,
+  ty-step.Post,
+) (ty-tail-at t) ty-tail.Post ty-tail-Inv-loop ty-tail-μ-loop
+ty-tail-ty-step-requires t c κs =
+    let falls = c .before .before .before .before .before .before .before .before .before .pre .0 in
+    let pre0 = c .before .before .before .before .before .before .before .before .before .pre .1 .0 in
+    let pre1 = c .before .before .before .before .before .before .before .before .before .pre .1 .1 in
+    let inv = c .before .before .loop .inv .0 .ok in
+    search asks depth 8
+
+-- src/lib.rt:188:23
+ty-tail-enum-known-step : (t : ℕ) → ty-tail-lts.Need-enum-known-step (
+  ty-step-below t,
+  ty-step.Post,
+) (ty-tail-at t) ty-tail.Post ty-tail-Inv-loop ty-tail-μ-loop
+ty-tail-enum-known-step t c =
+    let falls = c .before .before .before .before .before .before .before .before .before .before .before .before .before .before .before .pre .0 in
+    let pre0 = c .before .before .before .before .before .before .before .before .before .before .before .before .before .before .before .pre .1 .0 in
+    let pre1 = c .before .before .before .before .before .before .before .before .before .before .before .before .before .before .before .pre .1 .1 in
+    search needs
+
+-- src/lib.rt:185:5
+ty-tail-loop-less :
+    (t : ℕ) →
+    ty-tail-lts.Need-loop-less
+    (ty-step-below t, ty-step.Post)
+    (ty-tail-at t)
+    ty-tail.Post
+    ty-tail-Inv-loop
+    ty-tail-μ-loop
+ty-tail-loop-less t c =
+    let ty-step = rw (c .before .step .given .1) at (c .before .before .before .before .before .before .before .ty-step .ensures) in
+    loop-falls (ty-step-advances _ _ _) ty-step
+
+-- src/lib.rt:185:5
+ty-tail-loop-again :
+    (t : ℕ) →
+    ty-tail-lts.Need-loop-again
+    (ty-step-below t, ty-step.Post)
+    (ty-tail-at t)
+    ty-tail.Post
+    ty-tail-Inv-loop
+    ty-tail-μ-loop
+ty-tail-loop-again t c =
+    let ty-step = rw (c .before .step .given .1) at (c .before .before .before .before .before .before .before .ty-step .ensures) in
+    (loop-goes (ty-step-advances _ _ _) (c .before .before .before .before .before .before .before .before .before .before .loop .inv .0) ty-step, c .before .before .before .before .before .before .before .ty-step .kept .1 .1 .1 .1 .0 ∙ c .before .before .before .before .before .before .before .before .before .before .loop .inv .1, c .before .before .before .before .before .before .before .ty-step .kept .1 .1 .1 .1 .1 .0 ∙ c .before .before .before .before .before .before .before .before .before .before .loop .inv .2)
+
+-- src/lib.rt:189:28
+ty-tail-enum-known-step-2 : (t : ℕ) → ty-tail-lts.Need-enum-known-step-2 (
+  ty-step-below t,
+  ty-step.Post,
+) (ty-tail-at t) ty-tail.Post ty-tail-Inv-loop ty-tail-μ-loop
+ty-tail-enum-known-step-2 t c =
+    let falls = c .before .before .before .before .before .before .before .before .before .before .before .before .before .before .before .pre .0 in
+    let pre0 = c .before .before .before .before .before .before .before .before .before .before .before .before .before .before .before .pre .1 .0 in
+    let pre1 = c .before .before .before .before .before .before .before .before .before .before .before .before .before .before .before .pre .1 .1 in
+    search needs
+
+-- src/lib.rt:189:35
+ty-tail-same-length :
+    (t : ℕ) →
+    ty-tail-lts.Need-same-length
+    (ty-step-below t, ty-step.Post)
+    (ty-tail-at t)
+    ty-tail.Post
+    ty-tail-Inv-loop
+    ty-tail-μ-loop
+ty-tail-same-length t c =
+    c .before .before .before .before .before .before .before .ty-step .kept .1 .1 .1 .1 .0 ∙ c .before .before .before .before .before .before .before .before .before .before .loop .inv .1
+
+-- src/lib.rt:189:35
+ty-tail-same-length-2 :
+    (t : ℕ) →
+    ty-tail-lts.Need-same-length-2
+    (ty-step-below t, ty-step.Post)
+    (ty-tail-at t)
+    ty-tail.Post
+    ty-tail-Inv-loop
+    ty-tail-μ-loop
+ty-tail-same-length-2 t c =
+    c .before .before .before .before .before .before .before .ty-step .kept .1 .1 .1 .1 .1 .0 ∙ c .before .before .before .before .before .before .before .before .before .before .loop .inv .2
+
+-- src/lib.rt:189:35
+ty-tail-returns :
+    (t : ℕ) →
+    ty-tail-lts.Need-returns
+    (ty-step-below t, ty-step.Post)
+    (ty-tail-at t)
+    ty-tail.Post
+    ty-tail-Inv-loop
+    ty-tail-μ-loop
+ty-tail-returns t c =
+    let ty-step = rw (c .before .step2 .given .1) at (c .before .before .before .before .before .before .before .ty-step .ensures) in
+    loop-ends (ty-step-advances _ _ _) (c .before .before .before .before .before .before .before .before .before .before .loop .inv .0) ty-step
+
+-- src/lib.rt:242:9
+ty-tuple-refuse-requires : (t : ℕ) → ty-tuple-lts.Need-refuse-requires (
+  refuse-reads.Asked,
+  refuse-reads.Learnt,
+  mark-reads.Asked,
+  mark-reads.Learnt,
+  star-tail-below t,
+  star-tail.Post,
+  close-reads.Asked,
+  close-reads.Learnt,
+) (ty-tuple-at t) ty-tuple.Post
+ty-tuple-refuse-requires t c κs =
+    let falls = c .before .before .before .before .before .before .before .pre .0 in
+    let pre0 = c .before .before .before .before .before .before .before .pre .1 .0 in
+    let pre1 = c .before .before .before .before .before .before .before .pre .1 .1 in
+    let if1 = c .if1 .taken in
+    search asks depth 8
+
+-- src/lib.rt:242:9
+ty-tuple-returns : (t : ℕ) → ty-tuple-lts.Need-returns (
+  refuse-reads.Asked,
+  refuse-reads.Learnt,
+  mark-reads.Asked,
+  mark-reads.Learnt,
+  star-tail-below t,
+  star-tail.Post,
+  close-reads.Asked,
+  close-reads.Learnt,
+) (ty-tuple-at t) ty-tuple.Post
+unfolding types.tyTuple
+ty-tuple-returns t c =
+    let falls = c .before .before .before .before .before .before .before .before .pre .0 in
+    let pre0 = c .before .before .before .before .before .before .before .before .pre .1 .0 in
+    let pre1 = c .before .before .before .before .before .before .before .before .pre .1 .1 in
+    let if1 = c .before .if1 .taken in
+    let refuse-is = c .refuse .ensures in
+    let refuse = nth 0 refuse-is in
+    in-steps pre0 (search rules depth 60 fits 4000)
+
+-- src/lib.rt:244:64
+ty-tuple-sub-star-tail : (t : ℕ) → ty-tuple-lts.Need-sub-star-tail (
+  refuse-reads.Asked,
+  refuse-reads.Learnt,
+  mark-reads.Asked,
+  mark-reads.Learnt,
+  star-tail-below t,
+  star-tail.Post,
+  close-reads.Asked,
+  close-reads.Learnt,
+) (ty-tuple-at t) ty-tuple.Post
+ty-tuple-sub-star-tail t c =
+    let falls = c .before .before .before .before .before .before .before .before .before .pre .0 in
+    let pre0 = c .before .before .before .before .before .before .before .before .before .pre .1 .0 in
+    let pre1 = c .before .before .before .before .before .before .before .before .before .pre .1 .1 in
+    let if1 = c .before .before .if1 .left in
+    search needs
+
+-- src/lib.rt:244:77
+ty-tuple-mark-requires : (t : ℕ) → ty-tuple-lts.Need-mark-requires (
+  refuse-reads.Asked,
+  refuse-reads.Learnt,
+  mark-reads.Asked,
+  mark-reads.Learnt,
+  star-tail-below t,
+  star-tail.Post,
+  close-reads.Asked,
+  close-reads.Learnt,
+) (ty-tuple-at t) ty-tuple.Post
+ty-tuple-mark-requires t c κs =
+    let falls = c .before .before .before .before .before .before .before .before .before .pre .0 in
+    let pre0 = c .before .before .before .before .before .before .before .before .before .pre .1 .0 in
+    let pre1 = c .before .before .before .before .before .before .before .before .before .pre .1 .1 in
+    let if1 = c .before .before .if1 .left in
+    search asks depth 8
+
+-- src/lib.rt:244:9
+ty-tuple-star-tail-requires : (t : ℕ) → ty-tuple-lts.Need-star-tail-requires (
+  refuse-reads.Asked,
+  refuse-reads.Learnt,
+  mark-reads.Asked,
+  mark-reads.Learnt,
+  star-tail-below t,
+  star-tail.Post,
+  close-reads.Asked,
+  close-reads.Learnt,
+) (ty-tuple-at t) ty-tuple.Post
+ty-tuple-star-tail-requires t c κs =
+    let falls = c .before .before .before .before .before .before .before .before .before .before .pre .0 in
+    let pre0 = c .before .before .before .before .before .before .before .before .before .before .pre .1 .0 in
+    let pre1 = c .before .before .before .before .before .before .before .before .before .before .pre .1 .1 in
+    let if1 = c .before .before .before .if1 .left in
+    let mark = c .mark .ensures in
+    let mark-ok = ok-marks mark pre0 in
+    search asks depth 8
+
+-- src/lib.rt:245:5
+ty-tuple-close-requires : (t : ℕ) → ty-tuple-lts.Need-close-requires (
+  refuse-reads.Asked,
+  refuse-reads.Learnt,
+  mark-reads.Asked,
+  mark-reads.Learnt,
+  star-tail-below t,
+  star-tail.Post,
+  close-reads.Asked,
+  close-reads.Learnt,
+) (ty-tuple-at t) ty-tuple.Post
+ty-tuple-close-requires t c κs =
+    let falls = c .before .before .before .before .before .before .before .before .before .before .before .before .before .before .before .before .pre .0 in
+    let pre0 = c .before .before .before .before .before .before .before .before .before .before .before .before .before .before .before .before .pre .1 .0 in
+    let pre1 = c .before .before .before .before .before .before .before .before .before .before .before .before .before .before .before .before .pre .1 .1 in
+    let if1 = c .before .before .before .before .before .before .before .before .before .if1 .left in
+    let mark = c .before .before .before .before .before .before .mark .ensures in
+    let mark-ok = ok-marks mark pre0 in
+    let star-tail = c .before .before .before .before .before .star-tail .ensures in
+    let star-tail-ok = star-tail .ok in
+    search asks depth 8
+
+-- src/lib.rt:237:1
+ty-tuple-same-length : (t : ℕ) → ty-tuple-lts.Need-same-length (
+  refuse-reads.Asked,
+  refuse-reads.Learnt,
+  mark-reads.Asked,
+  mark-reads.Learnt,
+  star-tail-below t,
+  star-tail.Post,
+  close-reads.Asked,
+  close-reads.Learnt,
+) (ty-tuple-at t) ty-tuple.Post
+ty-tuple-same-length t c =
+    c .before .before .close .kept .0 ∙ c .before .before .before .before .before .before .before .before .star-tail .kept .1 .1 .1 .1 .0
+
+-- src/lib.rt:237:1
+ty-tuple-same-length-2 : (t : ℕ) → ty-tuple-lts.Need-same-length-2 (
+  refuse-reads.Asked,
+  refuse-reads.Learnt,
+  mark-reads.Asked,
+  mark-reads.Learnt,
+  star-tail-below t,
+  star-tail.Post,
+  close-reads.Asked,
+  close-reads.Learnt,
+) (ty-tuple-at t) ty-tuple.Post
+ty-tuple-same-length-2 t c =
+    c .before .before .before .before .before .before .before .before .star-tail .kept .1 .1 .1 .1 .1 .0
+
+-- src/lib.rt:237:1
+ty-tuple-returns-2 : (t : ℕ) → ty-tuple-lts.Need-returns-2 (
+  refuse-reads.Asked,
+  refuse-reads.Learnt,
+  mark-reads.Asked,
+  mark-reads.Learnt,
+  star-tail-below t,
+  star-tail.Post,
+  close-reads.Asked,
+  close-reads.Learnt,
+) (ty-tuple-at t) ty-tuple.Post
+unfolding types.tyTuple
+ty-tuple-returns-2 t c =
+    let falls = c .before .before .before .before .before .before .before .before .before .before .before .before .before .before .before .before .before .before .before .pre .0 in
+    let pre0 = c .before .before .before .before .before .before .before .before .before .before .before .before .before .before .before .before .before .before .before .pre .1 .0 in
+    let pre1 = c .before .before .before .before .before .before .before .before .before .before .before .before .before .before .before .before .before .before .before .pre .1 .1 in
+    let if1 = c .before .before .before .before .before .before .before .before .before .before .before .before .if1 .left in
+    let mark-is = c .before .before .before .before .before .before .before .before .before .mark .ensures in
+    let mark = nth 0 mark-is in
+    let star-tail-is = c .before .before .before .before .before .before .before .before .star-tail .ensures in
+    let star-tail = nth 1 star-tail-is in
+    let close-is = c .before .before .close .ensures in
+    let close = nth 2 close-is in
+    in-steps pre0 (search rules depth 60 fits 4000)
+
+pub +arg-item+arg-turn+row-item+row-turn+star-factor+star-tail+star-turn+ty-arg+ty-args+ty-arrow+ty-head+ty-inner+ty-must+ty-prec+ty-round+ty-row+ty-rows+ty-seq+ty-step+ty-tail+ty-tuple-spec :
+    {M : Type 1} → statement M
++arg-item+arg-turn+row-item+row-turn+star-factor+star-tail+star-turn+ty-arg+ty-args+ty-arrow+ty-head+ty-inner+ty-must+ty-prec+ty-round+ty-row+ty-rows+ty-seq+ty-step+ty-tail+ty-tuple-spec =
+    close
+    μ-arg-item
+    μ-arg-turn
+    μ-row-item
+    μ-row-turn
+    μ-star-factor
+    μ-star-tail
+    μ-star-turn
+    μ-ty-arg
+    μ-ty-args
+    μ-ty-arrow
+    μ-ty-head
+    μ-ty-inner
+    μ-ty-must
+    μ-ty-prec
+    μ-ty-round
+    μ-ty-row
+    μ-ty-rows
+    μ-ty-seq
+    μ-ty-step
+    μ-ty-tail
+    μ-ty-tuple
+    (λ t. arg-item-lts.spec (
+      refuse-reads.Asked,
+      refuse-reads.Learnt,
+      mark-reads.Asked,
+      mark-reads.Learnt,
+      ty-must-below t,
+      ty-must.Post,
+      at-reads.Asked,
+      at-reads.Learnt,
+      bump-reads.Asked,
+      bump-reads.Learnt,
+      close-reads.Asked,
+      close-reads.Learnt,
+    )
+    (arg-item-at t)
+    arg-item.Post
+    (arg-item-refuse-requires t)
+    (arg-item-returns t)
+    (arg-item-mark-requires t)
+    (arg-item-sub-ty-must t)
+    (arg-item-ty-must-requires t)
+    (arg-item-at-requires t)
+    (arg-item-bump-requires t)
+    (arg-item-close-requires t)
+    (arg-item-same-length t)
+    (arg-item-same-length-2 t)
+    (arg-item-returns-2 t)
+    (arg-item-close-requires-2 t)
+    (arg-item-same-length-3 t)
+    (arg-item-same-length-4 t)
+    (arg-item-returns-3 t))
+    (λ t. arg-turn-lts.spec (
+      at-reads.Asked,
+      at-reads.Learnt,
+      bump-reads.Asked,
+      bump-reads.Learnt,
+      arg-item-below t,
+      arg-item.Post,
+      eat-reads.Asked,
+      eat-reads.Learnt,
+      state-reads.Asked,
+      state-reads.Learnt,
+    )
+    (arg-turn-at t)
+    arg-turn.Post
+    (arg-turn-at-requires t)
+    (arg-turn-bump-requires t)
+    (arg-turn-same-length t)
+    (arg-turn-returns t)
+    (arg-turn-arg-item-requires t)
+    (arg-turn-enum-known-item t)
+    (arg-turn-enum-known-item-2 t)
+    (arg-turn-eat-requires t)
+    (arg-turn-state-requires t)
+    (arg-turn-same-length-2 t)
+    (arg-turn-same-length-3 t)
+    (arg-turn-returns-2 t)
+    (arg-turn-same-length-4 t)
+    (arg-turn-same-length-5 t)
+    (arg-turn-returns-3 t))
+    (λ t. row-item-lts.spec (
+      refuse-reads.Asked,
+      refuse-reads.Learnt,
+      mark-reads.Asked,
+      mark-reads.Learnt,
+      ty-row-below t,
+      ty-row.Post,
+      at-reads.Asked,
+      at-reads.Learnt,
+      bump-reads.Asked,
+      bump-reads.Learnt,
+      close-reads.Asked,
+      close-reads.Learnt,
+    )
+    (row-item-at t)
+    row-item.Post
+    (row-item-refuse-requires t)
+    (row-item-returns t)
+    (row-item-mark-requires t)
+    (row-item-sub-ty-row t)
+    (row-item-ty-row-requires t)
+    (row-item-at-requires t)
+    (row-item-bump-requires t)
+    (row-item-close-requires t)
+    (row-item-same-length t)
+    (row-item-same-length-2 t)
+    (row-item-returns-2 t)
+    (row-item-close-requires-2 t)
+    (row-item-same-length-3 t)
+    (row-item-same-length-4 t)
+    (row-item-returns-3 t))
+    (λ t. row-turn-lts.spec (
+      at-reads.Asked,
+      at-reads.Learnt,
+      bump-reads.Asked,
+      bump-reads.Learnt,
+      row-item-below t,
+      row-item.Post,
+      eat-reads.Asked,
+      eat-reads.Learnt,
+      state-reads.Asked,
+      state-reads.Learnt,
+    )
+    (row-turn-at t)
+    row-turn.Post
+    (row-turn-at-requires t)
+    (row-turn-bump-requires t)
+    (row-turn-same-length t)
+    (row-turn-returns t)
+    (row-turn-row-item-requires t)
+    (row-turn-enum-known-item t)
+    (row-turn-enum-known-item-2 t)
+    (row-turn-eat-requires t)
+    (row-turn-state-requires t)
+    (row-turn-same-length-2 t)
+    (row-turn-same-length-3 t)
+    (row-turn-returns-2 t)
+    (row-turn-same-length-4 t)
+    (row-turn-same-length-5 t)
+    (row-turn-returns-3 t))
+    (λ t. star-factor-lts.spec (
+      refuse-reads.Asked,
+      refuse-reads.Learnt,
+      mark-reads.Asked,
+      mark-reads.Learnt,
+      bump-reads.Asked,
+      bump-reads.Learnt,
+      ty-must-below t,
+      ty-must.Post,
+      close-reads.Asked,
+      close-reads.Learnt,
+    )
+    (star-factor-at t)
+    star-factor.Post
+    (star-factor-refuse-requires t)
+    (star-factor-returns t)
+    (star-factor-mark-requires t)
+    (star-factor-bump-requires t)
+    (star-factor-sub-ty-must t)
+    (star-factor-ty-must-requires t)
+    (star-factor-close-requires t)
+    (star-factor-same-length t)
+    (star-factor-same-length-2 t)
+    (star-factor-returns-2 t))
+    (λ t. star-tail-lts.spec
+    (star-turn-below t, star-turn.Post)
+    (star-tail-at t)
+    star-tail.Post
+    star-tail-Inv-loop
+    star-tail-μ-loop
+    (star-tail-loop-holds t)
+    (star-tail-star-turn-requires t)
+    (star-tail-enum-known-turn t)
+    (star-tail-loop-less t)
+    (star-tail-loop-again t)
+    (star-tail-enum-known-turn-2 t)
+    (star-tail-same-length t)
+    (star-tail-same-length-2 t)
+    (star-tail-returns t))
+    (λ t. star-turn-lts.spec (
+      at-reads.Asked,
+      at-reads.Learnt,
+      star-factor-below t,
+      star-factor.Post,
+    )
+    (star-turn-at t)
+    star-turn.Post
+    (star-turn-at-requires t)
+    (star-turn-star-factor-requires t)
+    (star-turn-same-length t)
+    (star-turn-same-length-2 t)
+    (star-turn-returns t)
+    (star-turn-returns-2 t))
+    (λ t. ty-arg-lts.spec (
+      refuse-reads.Asked,
+      refuse-reads.Learnt,
+      mark-reads.Asked,
+      mark-reads.Learnt,
+      ty-must-below t,
+      ty-must.Post,
+      at-reads.Asked,
+      at-reads.Learnt,
+      eat-reads.Asked,
+      eat-reads.Learnt,
+      state-reads.Asked,
+      state-reads.Learnt,
+      close-reads.Asked,
+      close-reads.Learnt,
+    )
+    (ty-arg-at t)
+    ty-arg.Post
+    (ty-arg-refuse-requires t)
+    (ty-arg-returns t)
+    (ty-arg-mark-requires t)
+    (ty-arg-sub-ty-must t)
+    (ty-arg-ty-must-requires t)
+    (ty-arg-at-requires t)
+    (ty-arg-same-length t)
+    (ty-arg-same-length-2 t)
+    (ty-arg-returns-2 t)
+    (ty-arg-eat-requires t)
+    (ty-arg-state-requires t)
+    (ty-arg-close-requires t)
+    (ty-arg-same-length-3 t)
+    (ty-arg-same-length-4 t)
+    (ty-arg-returns-3 t))
+    (λ t. ty-args-lts.spec
+    (arg-turn-below t, arg-turn.Post)
+    (ty-args-at t)
+    ty-args.Post
+    ty-args-Inv-loop
+    ty-args-μ-loop
+    (ty-args-loop-holds t)
+    (ty-args-arg-turn-requires t)
+    (ty-args-enum-known-turn t)
+    (ty-args-loop-less t)
+    (ty-args-loop-again t)
+    (ty-args-enum-known-turn-2 t)
+    (ty-args-same-length t)
+    (ty-args-same-length-2 t)
+    (ty-args-returns t))
+    (λ t. ty-arrow-lts.spec (
+      refuse-reads.Asked,
+      refuse-reads.Learnt,
+      mark-reads.Asked,
+      mark-reads.Learnt,
+      bump-reads.Asked,
+      bump-reads.Learnt,
+      ty-must-below t,
+      ty-must.Post,
+      close-reads.Asked,
+      close-reads.Learnt,
+    )
+    (ty-arrow-at t)
+    ty-arrow.Post
+    (ty-arrow-refuse-requires t)
+    (ty-arrow-returns t)
+    (ty-arrow-mark-requires t)
+    (ty-arrow-bump-requires t)
+    (ty-arrow-sub-ty-must t)
+    (ty-arrow-ty-must-requires t)
+    (ty-arrow-close-requires t)
+    (ty-arrow-same-length t)
+    (ty-arrow-same-length-2 t)
+    (ty-arrow-returns-2 t))
+    (λ t. ty-head-lts.spec (
+      bump-reads.Asked,
+      bump-reads.Learnt,
+      close-reads.Asked,
+      close-reads.Learnt,
+      ty-inner-below t,
+      ty-inner.Post,
+    )
+    (ty-head-at t)
+    ty-head.Post
+    (ty-head-bump-requires t)
+    (ty-head-close-requires t)
+    (ty-head-same-length t)
+    (ty-head-returns t)
+    (ty-head-bump-requires-2 t)
+    (ty-head-close-requires-2 t)
+    (ty-head-same-length-2 t)
+    (ty-head-returns-2 t)
+    (ty-head-bump-requires-3 t)
+    (ty-head-close-requires-3 t)
+    (ty-head-same-length-3 t)
+    (ty-head-returns-3 t)
+    (ty-head-ty-inner-requires t)
+    (ty-head-same-length-4 t)
+    (ty-head-same-length-5 t)
+    (ty-head-returns-4 t))
+    (λ t. ty-inner-lts.spec (
+      bump-reads.Asked,
+      bump-reads.Learnt,
+      ty-rows-below t,
+      ty-rows.Post,
+      close-reads.Asked,
+      close-reads.Learnt,
+      ty-round-below t,
+      ty-round.Post,
+      path-must-reads.Asked,
+      path-must-reads.Learnt,
+      state-reads.Asked,
+      state-reads.Learnt,
+    )
+    (ty-inner-at t)
+    ty-inner.Post
+    (ty-inner-bump-requires t)
+    (ty-inner-ty-rows-requires t)
+    (ty-inner-close-requires t)
+    (ty-inner-same-length t)
+    (ty-inner-same-length-2 t)
+    (ty-inner-returns t)
+    (ty-inner-ty-round-requires t)
+    (ty-inner-same-length-3 t)
+    (ty-inner-same-length-4 t)
+    (ty-inner-returns-2 t)
+    (ty-inner-path-must-requires t)
+    (ty-inner-state-requires t)
+    (ty-inner-close-requires-2 t)
+    (ty-inner-same-length-5 t)
+    (ty-inner-same-length-6 t)
+    (ty-inner-returns-3 t)
+    (ty-inner-returns-4 t))
+    (λ t. ty-must-lts.spec (
+      ty-prec-below t,
+      ty-prec.Post,
+      report-reads.Asked,
+      report-reads.Learnt,
+    )
+    (ty-must-at t)
+    ty-must.Post
+    (ty-must-ty-prec-requires t)
+    (ty-must-enum-known-got t)
+    (ty-must-enum-known-got-2 t)
+    (ty-must-report-requires t)
+    (ty-must-same-length t)
+    (ty-must-same-length-2 t)
+    (ty-must-returns t)
+    (ty-must-same-length-3 t)
+    (ty-must-same-length-4 t)
+    (ty-must-returns-2 t))
+    (λ t. ty-prec-lts.spec (
+      peek-reads.Asked,
+      peek-reads.Learnt,
+      refuse-reads.Asked,
+      refuse-reads.Learnt,
+      mark-reads.Asked,
+      mark-reads.Learnt,
+      ty-head-below t,
+      ty-head.Post,
+      ty-tail-below t,
+      ty-tail.Post,
+    )
+    (ty-prec-at t)
+    ty-prec.Post
+    (ty-prec-peek-requires t)
+    (ty-prec-enum-known-k t)
+    (ty-prec-enum-told t)
+    (ty-prec-returns t)
+    (ty-prec-refuse-requires t)
+    (ty-prec-returns-2 t)
+    (ty-prec-sub-ty-head t)
+    (ty-prec-mark-requires t)
+    (ty-prec-ty-head-requires t)
+    (ty-prec-enum-known-head t)
+    (ty-prec-enum-known-head-2 t)
+    (ty-prec-ty-tail-requires t)
+    (ty-prec-same-length t)
+    (ty-prec-same-length-2 t)
+    (ty-prec-returns-3 t)
+    (ty-prec-same-length-3 t)
+    (ty-prec-same-length-4 t)
+    (ty-prec-returns-4 t))
+    (λ t. ty-round-lts.spec (
+      ty-seq-below t,
+      ty-seq.Post,
+      path-must-reads.Asked,
+      path-must-reads.Learnt,
+      state-reads.Asked,
+      state-reads.Learnt,
+      close-reads.Asked,
+      close-reads.Learnt,
+      bump-reads.Asked,
+      bump-reads.Learnt,
+    )
+    (ty-round-at t)
+    ty-round.Post
+    (ty-round-ty-seq-requires t)
+    (ty-round-enum-known-seq t)
+    (ty-round-path-must-requires t)
+    (ty-round-state-requires t)
+    (ty-round-close-requires t)
+    (ty-round-enum-known-seq-2 t)
+    (ty-round-bump-requires t)
+    (ty-round-close-requires-2 t)
+    (ty-round-same-length t)
+    (ty-round-same-length-2 t)
+    (ty-round-returns t)
+    (ty-round-same-length-3 t)
+    (ty-round-same-length-4 t)
+    (ty-round-returns-2 t))
+    (λ t. ty-row-lts.spec (
+      lab-reads.Asked,
+      lab-reads.Learnt,
+      bump-ascription-reads.Asked,
+      bump-ascription-reads.Learnt,
+      ty-must-below t,
+      ty-must.Post,
+    )
+    (ty-row-at t)
+    ty-row.Post
+    (ty-row-lab-requires t)
+    (ty-row-bump-ascription-requires t)
+    (ty-row-ty-must-requires t)
+    (ty-row-same-length t)
+    (ty-row-same-length-2 t)
+    (ty-row-returns t))
+    (λ t. ty-rows-lts.spec
+    (row-turn-below t, row-turn.Post)
+    (ty-rows-at t)
+    ty-rows.Post
+    ty-rows-Inv-loop
+    ty-rows-μ-loop
+    (ty-rows-loop-holds t)
+    (ty-rows-row-turn-requires t)
+    (ty-rows-enum-known-turn t)
+    (ty-rows-loop-less t)
+    (ty-rows-loop-again t)
+    (ty-rows-enum-known-turn-2 t)
+    (ty-rows-same-length t)
+    (ty-rows-same-length-2 t)
+    (ty-rows-returns t))
+    (λ t. ty-seq-lts.spec (
+      refuse-reads.Asked,
+      refuse-reads.Learnt,
+      mark-reads.Asked,
+      mark-reads.Learnt,
+      bump-reads.Asked,
+      bump-reads.Learnt,
+      ty-arg-below t,
+      ty-arg.Post,
+      ty-args-below t,
+      ty-args.Post,
+      close-reads.Asked,
+      close-reads.Learnt,
+    )
+    (ty-seq-at t)
+    ty-seq.Post
+    (ty-seq-refuse-requires t)
+    (ty-seq-returns t)
+    (ty-seq-mark-requires t)
+    (ty-seq-bump-requires t)
+    (ty-seq-sub-ty-arg t)
+    (ty-seq-ty-arg-requires t)
+    (ty-seq-enum-known-arg t)
+    (ty-seq-sub-ty-args t)
+    (ty-seq-ty-args-requires t)
+    (ty-seq-close-requires t)
+    (ty-seq-enum-known-arg-2 t)
+    (ty-seq-same-length t)
+    (ty-seq-same-length-2 t)
+    (ty-seq-returns-2 t)
+    (ty-seq-same-length-3 t)
+    (ty-seq-same-length-4 t)
+    (ty-seq-returns-3 t))
+    (λ t. ty-step-lts.spec (
+      peek-reads.Asked,
+      peek-reads.Learnt,
+      ty-arrow-below t,
+      ty-arrow.Post,
+      ty-tuple-below t,
+      ty-tuple.Post,
+      ty-con-reads.Asked,
+      ty-con-reads.Learnt,
+    )
+    (ty-step-at t)
+    ty-step.Post
+    (ty-step-peek-requires t)
+    (ty-step-enum-known-k t)
+    (ty-step-enum-told t)
+    (ty-step-returns t)
+    (ty-step-returns-2 t)
+    (ty-step-ty-arrow-requires t)
+    (ty-step-same-length t)
+    (ty-step-same-length-2 t)
+    (ty-step-returns-3 t)
+    (ty-step-returns-4 t)
+    (ty-step-ty-tuple-requires t)
+    (ty-step-same-length-3 t)
+    (ty-step-same-length-4 t)
+    (ty-step-returns-5 t)
+    (ty-step-ty-con-requires t)
+    (ty-step-same-length-5 t)
+    (ty-step-same-length-6 t)
+    (ty-step-returns-6 t)
+    (ty-step-returns-7 t))
+    (λ t. ty-tail-lts.spec
+    (ty-step-below t, ty-step.Post)
+    (ty-tail-at t)
+    ty-tail.Post
+    ty-tail-Inv-loop
+    ty-tail-μ-loop
+    (ty-tail-loop-holds t)
+    (ty-tail-ty-step-requires t)
+    (ty-tail-enum-known-step t)
+    (ty-tail-loop-less t)
+    (ty-tail-loop-again t)
+    (ty-tail-enum-known-step-2 t)
+    (ty-tail-same-length t)
+    (ty-tail-same-length-2 t)
+    (ty-tail-returns t))
+    λ t. ty-tuple-lts.spec (
+      refuse-reads.Asked,
+      refuse-reads.Learnt,
+      mark-reads.Asked,
+      mark-reads.Learnt,
+      star-tail-below t,
+      star-tail.Post,
+      close-reads.Asked,
+      close-reads.Learnt,
+    )
+    (ty-tuple-at t)
+    ty-tuple.Post
+    (ty-tuple-refuse-requires t)
+    (ty-tuple-returns t)
+    (ty-tuple-sub-star-tail t)
+    (ty-tuple-mark-requires t)
+    (ty-tuple-star-tail-requires t)
+    (ty-tuple-close-requires t)
+    (ty-tuple-same-length t)
+    (ty-tuple-same-length-2 t)
+    (ty-tuple-returns-2 t)
