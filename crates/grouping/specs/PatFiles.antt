@@ -59,7 +59,7 @@ told-quiet {ps} {ps'} k = go (k .more) (k .all) (k .tells)
 module _ {E : List Entry} {C n : ℕ} {ts : List Token} {f : Forest} {ps : List ℕ} {Q : ℕ → List Token → Forest → List ℕ → Type 0} {g : Bool} where
   -- no type variables stand before an atom
   no-vars : {t : Token} → Atom E t → Q 0 (t ∷ ts) f ps → Goes E C n (t ∷ ts) f ps {g = g} T.tyVarSeq Q
-  unfolding T.tyVarSeq tokenIn join
+  unfolding T.tyVarSeq T.tyVars tokenIn join
   no-vars (Atom.literal e) h = search going depth 20
   no-vars (Atom.name e) h = search going depth 20
 
