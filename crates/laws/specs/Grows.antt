@@ -9,7 +9,7 @@ use lib.Dec.{ltb}
 use lib.ListN.{length, length-append}
 use Rattle.grammar.specs.Tokens.{Token}
 use Rattle.grammar.specs.Env.{Infix, Entry}
-use Rattle.grammar.specs.World.{World, Now, Out, out, Rec, Find, leftOf, mark, take1, takeIn, takeChange, takeChangeIn, change, changeIn, inEnv, mayChange, maxChanges, withRecord, end, giveBack}
+use Rattle.grammar.specs.World.{World, Now, Out, out, Rec, Find, mark, take1, takeIn, takeChange, takeChangeIn, change, changeIn, inEnv, mayChange, maxChanges, withRecord, end, giveBack}
 use Rattle.grammar.specs.World.World.{refused, on}
 use Rattle.grammar.specs.World.Rec.{took, ended}
 use Rattle.grammar.specs.World as world
@@ -199,13 +199,6 @@ grew-after (refused k l) w' h = rw h (omega arith)
 grew-after (on s) (refused k l) h = omega arith
 grew-after (on s) (on s') h = omega (arith, simp length-append at (ap length (h .rest)))
 
--- the same of the tokens alone
-grew-left : (w w' : World) → Grew w w' → leftOf w' ≤ leftOf w
-unfolding leftOf
-grew-left (refused k l) w' h = rw h (omega arith)
-grew-left (on s) (refused k l) h = omega arith
-grew-left (on s) (on s') h = omega (arith, simp length-append at (ap length (h .rest)))
-
 -- rules all of which only grow
 abbrev pub Growing : {R : Type 0} → (ℕ → ℕ → R → World → Out) → Type 0
 Growing {R} ρ = (m c : ℕ) (r : R) → Keeps Grew (ρ m c r)
@@ -218,10 +211,6 @@ module _ {R : Type 0} {g : Bool} (ρ : ℕ → ℕ → R → World → Out) (h :
   -- a refused reading stays as it is
   pub eval-refused : (k l : ℕ) → eval ρ n b p (refused k l) .world ≡ refused k l
   eval-refused k l = eval-grows (refused k l)
-
-  -- no more tokens are left than before
-  pub eval-left : (w : World) → leftOf (eval ρ n b p w .world) ≤ leftOf w
-  eval-left w = grew-left w _ (eval-grows w)
 
   -- and it is no further from the end, a refusal being the end
   pub eval-after : (w : World) → after (eval ρ n b p w .world) ≤ after w
@@ -239,18 +228,6 @@ module _ {R : Type 0} (body : R → Prog R false) where
   -- every rule only grows
   pub rule-grows : Growing (rule body)
   rule-grows n b r = rule-keeps Grew grew body n b r
-
-  -- a rule leaves a refused reading as it is
-  pub rule-refused : (n b : ℕ) (r : R) (k l : ℕ) → rule body n b r (refused k l) .world ≡ refused k l
-  rule-refused n b r k l = rule-grows n b r (refused k l)
-
-  -- a rule leaves no more tokens than before
-  pub rule-left : (n b : ℕ) (r : R) (w : World) → leftOf (rule body n b r w .world) ≤ leftOf w
-  rule-left n b r w = grew-left w _ (rule-grows n b r w)
-
-  -- where a rule goes on, the reading got longer
-  pub rule-longer : (n b : ℕ) (r : R) (s s' : Now) → rule body n b r (on s) .world ≡ on s' → Longer s s'
-  rule-longer n b r s s' e = rw e at (rule-grows n b r (on s))
 
   -- what holds of every rule whose calls it holds of
   pub rule-has : (P : R → (World → Out) → Type 0) → ((r : R) → P r (λ w. out 0 w))
