@@ -1,41 +1,48 @@
 -- The rules of dec.rs.
 use Prim.Native.Nat.{ℕ, _-_}
 use mathlib.Core.Option.{Option, none, some}
-use mathlib.Core.Bool.{Bool, true, false, not, _&&_, _||_}
+use mathlib.Core.Bool.{Bool, true, false, _&&_, _||_}
 use lib.Dec.{eqb, ltb}
 use Rattle.grammar.specs.Bytes.{ascii}
 use Rattle.grammar.specs.Env.{Infix, left, right}
-use Rattle.grammar.specs.World.{none?, negative, invalid, valid}
+use Rattle.grammar.specs.World.{negative, invalid, valid}
 use Rattle.grammar.specs.Prog.{Prog, _>>=_, _>>_, peek, bump, errorAt}
 use Rattle.grammar.specs.Prog.Prog.{ret, branch, look, lookup, act, from, close, marked, loop, scoped, attempt, call}
 use Rattle.grammar.specs.Prog.Look.{index, says, number, mode}
 use Rattle.grammar.specs.Prog.Act.{takeAs}
-use Rattle.grammar.specs.Rule.{Rule, InfixErr}
+use Rattle.grammar.specs.Rule.{Rule, PatPrec, InfixErr}
 use Rattle.grammar.specs.Rule.Rule.{dec, strExp, sigExp}
-use Rattle.grammar.specs.Util.{is, ifKind, ifNone, when, done, plain, expected, eat, bumpIf, commaSep, manySep, maybeSemiSep, isNameStar, isNameStarEq, isAscription, bumpAscription, eatNameStar, path, pathMust}
+use Rattle.grammar.specs.Util.{is, ifKind, ifNone, when, done, plain, expected, eat, want, bumpIf, commaSep, manySep, maybeSemiSep, isNameStar, isNameStarEq, isAscription, bumpAscription, eatNameStar, path, pathMust}
 use Rattle.grammar.specs.Ty.{ty, tyVarSeq, ofTy, tyAnnotation}
-use Rattle.grammar.specs.Pat.{pat, atPat, atPatMust, asPatTl}
+use Rattle.grammar.specs.Pat.{pat, patMust, atPat, atPatMust, asPatTl}
 use Rattle.grammar.specs.Exp.{exp, expOpt, eqExp}
 use Rattle.grammar.specs.SyntaxKind as SK
 use Rattle.grammar.specs.ErrorKind as EK
 
+-- dec.rs, `dec_one`: the start of its closure for ValBind. It gives `got`: whether there was `rec` or a pattern.
+unfoldable pub recPat : InfixErr → Prog Rule true
+recPat e = do
+  k ← peek 0
+  ifKind k SK.RecKw (do
+    bump
+    patMust PatPrec.Min e
+    ret 1) (do
+      v ← pat e
+      ifNone v (do
+        expected EK.Pat
+        ret 0) (ret 1))
+
 -- dec.rs, `dec_one`: its closure for ValBind
 unfoldable pub valBind : InfixErr → Prog Rule true
 valBind e = do
-  k ← peek 0
-  r ← ifKind k SK.RecKw (do
-    bump
-    ret 1) (ret 0)
-  v ← pat e
-  ifNone v (expected EK.Pat) (ret 0)
-  branch (none? r && none? v) (ret 0) (do
+  v ← recPat e
+  ifNone v (ret 0) (do
     eqExp
     ret 1)
 
--- dec.rs, `infix_fun_bind_case_head_inner`
-unfoldable pub infixHead : {g : Bool} → InfixErr → Prog Rule g
-infixHead e = do
-  atPatMust e
+-- dec.rs, `infix_fun_bind_case_head_inner`: its name
+unfoldable pub infixName : {g : Bool} → Prog Rule g
+infixName = do
   k ← peek 0
   branch (isNameStar k)
       (lookup 0 (do
@@ -44,69 +51,108 @@ infixHead e = do
         errorAt EK.NotInfix i)
       (λ _. bump))
       (expected (EK.Kind SK.Name))
+
+-- dec.rs, `infix_fun_bind_case_head_inner`
+unfoldable pub infixHead : {g : Bool} → InfixErr → Prog Rule g
+infixHead e = do
+  atPatMust e
+  infixName
   atPatMust e
 
 -- dec.rs, `dec_one`: a prefix head that starts at `op`, which is read here. `UnnecessaryOp` is reported before that.
 unfoldable pub prefixOp : {g : Bool} → Prog Rule g
 prefixOp = do
   k1 ← peek 1
-  when (isNameStar k1) (lookup 1 (plain EK.UnnecessaryOp) (λ _. ret 0))
-  bump
-  branch (isNameStar k1) bump (expected (EK.Kind SK.Name))
+  branch (isNameStar k1)
+      (lookup 1 (do
+        plain EK.UnnecessaryOp
+        bump
+        bump)
+      (λ _. do
+        bump
+        bump))
+      (do
+        bump
+        expected (EK.Kind SK.Name))
 
 -- dec.rs, `dec_one`: a prefix head without `op`
 unfoldable pub prefixName : {g : Bool} → Prog Rule g
 prefixName = do
   k ← peek 0
-  branch (isNameStar k) (do
-    lookup 0 (ret 0) (λ _. do
-      i ← look index
-      errorAt EK.InfixWithoutOp i)
-    bump)
+  branch (isNameStar k)
+      (lookup 0 bump (λ _. do
+        i ← look index
+        errorAt EK.InfixWithoutOp i
+        bump))
       (expected (EK.Kind SK.Name))
+
+-- dec.rs, `dec_one`: the head of a FunBindCase where the attempt was taken back, to its exit
+unfoldable pub otherHead : {g : Bool} → InfixErr → Prog Rule g
+otherHead e = do
+  k ← peek 0
+  ifKind k SK.LRound (do
+    bump
+    infixHead e
+    want SK.RRound
+    close SK.InfixFunBindCaseHead)
+      (ifKind k SK.OpKw (do
+        prefixOp
+        close SK.PrefixFunBindCaseHead) (do
+          prefixName
+          close SK.PrefixFunBindCaseHead))
 
 -- dec.rs, `dec_one`: the head of a FunBindCase, to its exit. 1 where it is infix and stands without parentheses.
 unfoldable pub funHead : {g : Bool} → InfixErr → Prog Rule g
 funHead e = do
   v ← attempt (infixHead e)
   ifNone v (do
-    k ← peek 0
-    ifKind k SK.LRound (do
-      bump
-      infixHead e
-      eat SK.RRound
-      close SK.InfixFunBindCaseHead) (do
-        ifKind k SK.OpKw prefixOp prefixName
-        close SK.PrefixFunBindCaseHead)
+    otherHead e
     ret 0) (done SK.InfixFunBindCaseHead)
+
+-- dec.rs, `dec_one`: the left side in its closure for FunBindCase: the head, and the patterns behind it. The scope serves no node.
+unfoldable pub funLeft : InfixErr → Prog Rule true
+funLeft e = from (do
+  v ← marked (from (funHead e))
+  ifNone v (loop (atPat e)) (ret 0))
 
 -- dec.rs, `dec_one`: its closure for FunBindCase, which always gives true
 unfoldable pub funCase : InfixErr → Prog Rule true
 funCase e = do
-  v ← marked (from (funHead e))
-  ifNone v (loop (atPat e)) (ret 0)
+  funLeft e
   tyAnnotation
   eqExp
   ret 1
 
--- dec.rs, `dec_one`: its closure for FunBind. `many_sep` found its first case, so it gives true.
+-- dec.rs, `dec_one`: its closure for FunBind. `many_sep` found its first case, so it gives true. The scope serves no node.
 unfoldable pub funBind : InfixErr → Prog Rule true
-funBind e = do
+funBind e = from (do
   bumpIf SK.Bar
   manySep SK.Bar SK.FunBindCase (funCase e)
-  ret 1
+  ret 1)
+
+-- dec.rs, `ty_binds` and `dat_binds`: the type variables and the name that their closures start with. 1 where there were any.
+unfoldable pub tyName : Prog Rule true
+tyName = do
+  s ← tyVarSeq
+  ifNone s (eat SK.Name) (do
+    eat SK.Name
+    ret 1)
+
+-- dec.rs, `ty_binds`: the type in its closure for TyBind
+unfoldable pub eqTy : Prog Rule true
+eqTy = do
+  k ← peek 0
+  when (is k SK.Eq) (marked (from (do
+    bump
+    ty
+    close SK.EqTy)))
 
 -- dec.rs, `ty_binds`: its closure for TyBind
 unfoldable pub tyBind : Prog Rule true
 tyBind = do
-  s ← tyVarSeq
-  v ← eat SK.Name
-  branch (none? s && none? v) (ret 0) (do
-    k ← peek 0
-    when (is k SK.Eq) (marked (from (do
-      bump
-      ty
-      close SK.EqTy)))
+  v ← tyName
+  ifNone v (ret 0) (do
+    eqTy
     ret 1)
 
 -- dec.rs, `ty_binds`
@@ -118,12 +164,11 @@ tyBinds = manySep SK.AndKw SK.TyBind tyBind
 unfoldable pub opName : {g : Bool} → Prog Rule g
 opName = do
   k ← peek 0
-  r ← ifKind k SK.OpKw (do
+  ifKind k SK.OpKw (do
     plain EK.UnnecessaryOp
     bump
-    ret 1) (ret 0)
-  v ← eatNameStar
-  branch (none? r && none? v) (ret 0) (ret 1)
+    eatNameStar
+    ret 1) eatNameStar
 
 -- dec.rs, `dat_binds`: its closure for ConBind. Both callers of `dat_binds` allow `op`.
 unfoldable pub conBind : Prog Rule true
@@ -133,29 +178,38 @@ conBind = do
     ofTy
     ret 1)
 
+-- dec.rs, `dat_binds`: the constructors in its closure for DatBind
+unfoldable pub eqConBinds : Prog Rule true
+eqConBinds = do
+  k ← peek 0
+  when (is k SK.Eq) (marked (from (do
+    bump
+    bumpIf SK.Bar
+    manySep SK.Bar SK.ConBind conBind
+    close SK.EqConBinds)))
+
 -- dec.rs, `dat_binds`: its closure for DatBind
 unfoldable pub datBind : Prog Rule true
 datBind = do
-  s ← tyVarSeq
-  v ← eat SK.Name
-  branch (none? s && none? v) (ret 0) (do
-    k ← peek 0
-    when (is k SK.Eq) (marked (from (do
-      bump
-      bumpIf SK.Bar
-      manySep SK.Bar SK.ConBind conBind
-      close SK.EqConBinds)))
+  v ← tyName
+  ifNone v (ret 0) (do
+    eqConBinds
     ret 1)
 
--- dec.rs, `dat_binds`
-unfoldable pub datBinds : {g : Bool} → Prog Rule g
-datBinds = do
-  manySep SK.AndKw SK.DatBind datBind
+-- dec.rs, `dat_binds`: its end
+unfoldable pub withType : Prog Rule true
+withType = do
   k ← peek 0
   when (is k SK.WithtypeKw) (marked (from (do
     bump
     tyBinds
     close SK.WithType)))
+
+-- dec.rs, `dat_binds`
+unfoldable pub datBinds : Prog Rule true
+datBinds = do
+  manySep SK.AndKw SK.DatBind datBind
+  withType
 
 -- dec.rs, `datatype`, and the exit of its node in `dec_one`
 unfoldable pub datatype : Prog Rule true
@@ -163,9 +217,9 @@ datatype = do
   bump
   k2 ← peek 2
   ifKind k2 SK.DatatypeKw (do
-    eat SK.Name
-    eat SK.Eq
-    eat SK.DatatypeKw
+    want SK.Name
+    want SK.Eq
+    want SK.DatatypeKw
     pathMust
     done SK.DatCopyDec) (do
       datBinds
@@ -177,8 +231,9 @@ exBind = do
   v ← opName
   ifNone v (ret 0) (do
     t ← ofTy
-    ifNone t eqExp (ret 0)
-    ret 1)
+    ifNone t (do
+      eqExp
+      ret 1) (ret 1))
 
 -- document 01: the mode in which a large fixity number is reported, and the largest that is not
 abbrev pub strict : ℕ
@@ -187,25 +242,41 @@ strict = 2
 abbrev pub largest : ℕ
 largest = 9
 
--- dec.rs, `fixity`: its case of a number that is there, which `numberOf` gives as `valid` more. Strict mode is document 01's.
--- A negative or an invalid one counts as 0, since the subtraction stops there.
+-- dec.rs, `fixity`: document 01's test, in the mode m at the number n
+abbrev pub isLarge : ℕ → ℕ → Bool
+isLarge m n = eqb m strict && ltb largest n
+
+-- dec.rs, `fixity`: document 01's strict mode, at the number n
+unfoldable pub largeFixity : ℕ → Prog Rule true
+largeFixity n = do
+  m ← look mode
+  when (isLarge m n) (plain EK.LargeFixity)
+
+-- dec.rs, `fixity`: its case of a number that is there, which `numberOf` gives as `valid` more
 unfoldable pub fixityNumber : Prog Rule true
 fixityNumber = do
   v ← look number
-  m ← look mode
-  branch (eqb v negative) (plain EK.NegativeFixity)
-      (branch (eqb v invalid) (plain EK.InvalidFixity)
-      (when (eqb m strict && ltb largest (v - valid)) (plain EK.LargeFixity)))
-  bump
-  ret (v - valid)
+  branch (eqb v negative) (do
+    plain EK.NegativeFixity
+    bump
+    ret 0)
+      (branch (eqb v invalid) (do
+        plain EK.InvalidFixity
+        bump
+        ret 0)
+      (do
+        largeFixity (v - valid)
+        bump
+        ret (v - valid)))
 
 -- dec.rs, `fixity`
 unfoldable pub fixity : Prog Rule true
 fixity = do
   k ← peek 0
-  ifKind k SK.IntLit fixityNumber (do
-    when (not (isNameStarEq k)) (expected EK.NameOrInt)
-    ret 0)
+  ifKind k SK.IntLit fixityNumber
+      (branch (isNameStarEq k) (ret 0) (do
+        expected EK.NameOrInt
+        ret 0))
 
 -- dec.rs, `names_star_eq`: one turn of its loop. Its closure makes the change c for each name.
 unfoldable pub namesTurn : Option Infix → Prog Rule true
@@ -219,6 +290,37 @@ namesTurn c = do
 abbrev pub namesStarEq : Option Infix → Prog Rule true
 namesStarEq c = loop (namesTurn c)
 
+-- dec.rs, `dec_one`: its cases of `infix`, `infixr` and `nonfix`
+unfoldable pub infixDec : Prog Rule true
+infixDec = do
+  bump
+  n ← fixity
+  namesStarEq (some (left n))
+  done SK.InfixDec
+
+unfoldable pub infixrDec : Prog Rule true
+infixrDec = do
+  bump
+  n ← fixity
+  namesStarEq (some (right n))
+  done SK.InfixrDec
+
+unfoldable pub nonfixDec : Prog Rule true
+nonfixDec = do
+  bump
+  namesStarEq none
+  done SK.NonfixDec
+
+-- dec.rs, `dec_one`: its case of `local`, from the second part on
+unfoldable pub localTail : InfixErr → Prog Rule true
+localTail e = do
+  marked (from (do
+    want SK.InKw
+    call (dec e)
+    close SK.LocalDecTl))
+  want SK.EndKw
+  done SK.LocalDec
+
 -- dec.rs, `dec_one`: its case of `local`
 unfoldable pub localDec : InfixErr → Prog Rule true
 localDec e = do
@@ -226,12 +328,7 @@ localDec e = do
     bump
     call (dec e)
     close SK.LocalDecHd))
-  marked (from (do
-    eat SK.InKw
-    call (dec e)
-    close SK.LocalDecTl))
-  eat SK.EndKw
-  done SK.LocalDec
+  localTail e
 
 -- dec.rs, `str_exp` and `sig_exp`: their calls, or the finding that there is none
 unfoldable pub strMust : Prog Rule true
@@ -275,7 +372,7 @@ unfoldable pub sigBind : Prog Rule true
 sigBind = do
   v ← eat SK.Name
   ifNone v (ret 0) (do
-    eat SK.Eq
+    want SK.Eq
     sigMust
     ret 1)
 
@@ -288,26 +385,37 @@ functorArg = do
     bumpAscription
     sigMust
     close SK.FunctorArgNameSigExp)))
-      (call (dec InfixErr.No))
+      (do
+        call (dec InfixErr.No)
+        ret 0)
 
 -- dec.rs, `dec_one`: its closure for FunctorBind
 unfoldable pub functorBind : Prog Rule true
 functorBind = do
   v ← eat SK.Name
   ifNone v (ret 0) (do
-    eat SK.LRound
+    want SK.LRound
     functorArg
-    eat SK.RRound
+    want SK.RRound
     ascriptionOpt
-    eat SK.Eq
+    want SK.Eq
     strMust
     ret 1)
+
+-- dec.rs, `es_import_spec`: the kinds of its name
+abbrev pub isNameOrString : ℕ → Bool
+isNameOrString k = is k SK.Name || is k SK.StringLit
+
+-- dec.rs, `es_import_spec`: its name
+unfoldable pub esImportName : Prog Rule true
+esImportName = do
+  k ← peek 0
+  branch (isNameOrString k) bump (expected EK.NameOrString)
 
 -- dec.rs, `es_import_spec`
 unfoldable pub esImportSpec : Prog Rule true
 esImportSpec = marked (from (do
-  k ← peek 0
-  branch (is k SK.Name || is k SK.StringLit) bump (expected EK.NameOrString)
+  esImportName
   asPatTl InfixErr.Yes
   tyAnnotation
   close SK.EsImportSpec))
@@ -327,7 +435,7 @@ esImportAttrs = do
   when (is k SK.LSquare) (marked (from (do
     bump
     loop attrTurn
-    eat SK.RSquare
+    want SK.RSquare
     close SK.EsImportAttrs)))
 
 -- dec.rs, `es_import`: the default import, and the comma between it and the named ones
@@ -337,8 +445,9 @@ esImportDefault = do
   when (is k SK.Name) (do
     bump
     k ← peek 0
-    k1 ← peek 1
-    when (is k SK.Comma && is k1 SK.LCurly) bump)
+    when (is k SK.Comma) (do
+      k1 ← peek 1
+      when (is k1 SK.LCurly) bump))
 
 -- dec.rs, `es_import`: the named imports
 unfoldable pub esImportSpecs : Prog Rule true
@@ -353,10 +462,11 @@ esImportSpecs = do
 unfoldable pub esImportFrom : Prog Rule true
 esImportFrom = do
   k ← peek 0
-  s ← look (says (ascii "from"))
   ifKind k SK.Name (do
-    bump
-    ifNone s (expected EK.From) (ret 0))
+    s ← look (says (ascii "from"))
+    ifNone s (do
+      bump
+      expected EK.From) bump)
       (expected (EK.Kind SK.Name))
 
 -- dec.rs, `es_import`, at its keyword
@@ -369,73 +479,65 @@ esImport = do
     esImportDefault
     esImportSpecs
     esImportFrom
-    eat SK.StringLit)
+    want SK.StringLit)
 
--- dec.rs, `dec_one`: its cases that bind values, types and exceptions
-unfoldable pub coreDec : ℕ → InfixErr → Prog Rule true → Prog Rule true
-coreDec k e other =
+-- dec.rs, `dec_one`: the kinds of its case of types
+abbrev pub isTypeKw : ℕ → Bool
+isTypeKw k = is k SK.TypeKw || is k SK.EqtypeKw
+
+-- dec.rs, `dec_one`: its cases that change fixities, and that of `es_import`
+unfoldable pub fixDec : ℕ → Prog Rule true
+fixDec k =
+    ifKind k SK.InfixKw infixDec
+    (ifKind k SK.InfixrKw infixrDec
+    (ifKind k SK.NonfixKw nonfixDec
+    (ifKind k SK.EsimportKw (do
+      esImport
+      done SK.EsImportDec)
+    (ret 0))))
+
+-- dec.rs, `dec_one`: its cases that hold no expression, structure or signature. They come first: no kind is in two cases, and `_` stays the last.
+unfoldable pub leafDec : ℕ → Prog Rule true
+leafDec k =
     ifKind k SK.DotDotDot (do
       bump
       done SK.HoleDec)
-    (ifKind k SK.ValKw (do
-      bump
-      tyVarSeq
-      manySep SK.AndKw SK.ValBind (valBind e)
-      done SK.ValDec)
-    (ifKind k SK.FunKw (do
-      bump
-      tyVarSeq
-      manySep SK.AndKw SK.FunBind (funBind e)
-      done SK.FunDec)
-    (branch (is k SK.TypeKw || is k SK.EqtypeKw) (do
+    (branch (isTypeKw k) (do
       bump
       tyBinds
       done SK.TyDec)
     (ifKind k SK.DatatypeKw datatype
-    (ifKind k SK.AbstypeKw (do
-      bump
-      datBinds
-      eat SK.WithKw
-      call (dec e)
-      eat SK.EndKw
-      done SK.AbstypeDec)
-    (ifKind k SK.ExceptionKw (do
-      bump
-      manySep SK.AndKw SK.ExBind exBind
-      done SK.ExDec)
-    other))))))
-
--- dec.rs, `dec_one`: its cases that open structures, change fixities, or hold expressions or declarations
-unfoldable pub scopeDec : ℕ → InfixErr → Prog Rule true → Prog Rule true
-scopeDec k e other =
-    ifKind k SK.OpenKw (do
+    (ifKind k SK.OpenKw (do
       bump
       loop path
       done SK.OpenDec)
-    (ifKind k SK.InfixKw (do
+    (fixDec k))))
+
+-- dec.rs, `dec_one`: the keyword of `val` and `fun`, and the type variables behind it
+unfoldable pub bumpVars : Prog Rule true
+bumpVars = do
+  bump
+  tyVarSeq
+  ret 0
+
+-- dec.rs, `dec_one`: its cases of `abstype` and `local`, and the last, an expression
+unfoldable pub otherDec : ℕ → InfixErr → Prog Rule true
+otherDec k e =
+    ifKind k SK.AbstypeKw (do
       bump
-      n ← fixity
-      namesStarEq (some (left n))
-      done SK.InfixDec)
-    (ifKind k SK.InfixrKw (do
-      bump
-      n ← fixity
-      namesStarEq (some (right n))
-      done SK.InfixrDec)
-    (ifKind k SK.NonfixKw (do
-      bump
-      namesStarEq none
-      done SK.NonfixDec)
-    (ifKind k SK.DoKw (do
-      bump
-      exp
-      done SK.DoDec)
+      datBinds
+      want SK.WithKw
+      call (dec e)
+      want SK.EndKw
+      done SK.AbstypeDec)
     (ifKind k SK.LocalKw (localDec e)
-    other)))))
+    (do
+      v ← expOpt
+      ifNone v (ret 0) (done SK.ExpDec)))
 
 -- dec.rs, `dec_one`: its cases of structures, signatures, functors and `include`
-unfoldable pub moduleDec : ℕ → Prog Rule true → Prog Rule true
-moduleDec k other =
+unfoldable pub moduleDec : ℕ → InfixErr → Prog Rule true
+moduleDec k e =
     ifKind k SK.StructureKw (do
       bump
       manySep SK.AndKw SK.StrBind strBind
@@ -452,22 +554,40 @@ moduleDec k other =
       bump
       loop (call sigExp)
       done SK.IncludeDec)
-    other)))
+    (otherDec k e))))
 
--- dec.rs, `dec_one`: its last case
-unfoldable pub otherDec : ℕ → Prog Rule true
-otherDec k =
-    ifKind k SK.EsimportKw (do
-      esImport
-      done SK.EsImportDec) (do
-        v ← expOpt
-        ifNone v (ret 0) (done SK.ExpDec))
+-- dec.rs, `dec_one`: its cases of values, functions, exceptions and `do`
+unfoldable pub coreDec : ℕ → InfixErr → Prog Rule true
+coreDec k e =
+    ifKind k SK.ValKw (do
+      bumpVars
+      manySep SK.AndKw SK.ValBind (valBind e)
+      done SK.ValDec)
+    (ifKind k SK.FunKw (do
+      bumpVars
+      manySep SK.AndKw SK.FunBind (funBind e)
+      done SK.FunDec)
+    (ifKind k SK.ExceptionKw (do
+      bump
+      manySep SK.AndKw SK.ExBind exBind
+      done SK.ExDec)
+    (ifKind k SK.DoKw (do
+      bump
+      exp
+      done SK.DoDec)
+    (moduleDec k e))))
+
+-- dec.rs, `dec_one`: its `match`, beneath its mark
+unfoldable pub decHead : ℕ → InfixErr → Prog Rule true
+decHead k e = do
+  v ← leafDec k
+  ifNone v (coreDec k e) (ret 1)
 
 -- dec.rs, `dec_one`
 unfoldable pub decOne : {g : Bool} → InfixErr → Prog Rule g
 decOne e = do
   k ← peek 0
-  ifNone k (ret 0) (marked (from (coreDec k e (scopeDec k e (moduleDec k (otherDec k))))))
+  ifNone k (ret 0) (marked (from (decHead k e)))
 
 -- dec.rs, `dec_with_tail`: one turn of its loop, a sharing tail
 unfoldable pub sharingTurn : {g : Bool} → Prog Rule g
@@ -481,26 +601,59 @@ sharingTurn = do
       close SK.SharingTail))
     ret 1) (ret 0)
 
+-- dec.rs, `dec_with_tail`: its sharing tails. 1 where there is one.
+unfoldable pub sharings : {g : Bool} → Prog Rule g
+sharings = do
+  k ← peek 0
+  ifKind k SK.SharingKw (do
+    loop sharingTurn
+    ret 1) (ret 0)
+
 -- dec.rs, `dec_with_tail`: its node stands also where it is empty
 unfoldable pub decWithTail : {g : Bool} → InfixErr → Prog Rule g
 decWithTail e = marked (from (do
   v ← maybeSemiSep SK.DecInSeq (decOne e)
-  k ← peek 0
-  loop sharingTurn
-  close SK.DecWithTail
-  ifKind k SK.SharingKw (ret 1) (ret v)))
+  ifNone v (do
+    t ← sharings
+    close SK.DecWithTail
+    ret t) (do
+      sharings
+      done SK.DecWithTail)))
 
--- dec.rs, `dec`
+-- dec.rs, `dec`. The scope serves no node.
 unfoldable pub decs : {g : Bool} → InfixErr → Prog Rule g
-decs e = maybeSemiSep SK.Dec (decWithTail e)
+decs e = from (maybeSemiSep SK.Dec (decWithTail e))
 
--- dec.rs, `str_exp`: the argument of a functor application, a structure, or declarations in an environment of their own
-unfoldable pub appArg : Prog Rule true
-appArg = do
+-- dec.rs, `str_exp`: the end of a functor application
+unfoldable pub appEnd : Prog Rule true
+appEnd = do
+  want SK.RRound
+  done SK.AppStrExp
+
+-- dec.rs, `str_exp`: a functor application. Its argument is a structure, or declarations in an environment of their own.
+unfoldable pub strApp : Prog Rule true
+strApp = do
+  bump
+  want SK.LRound
   v ← marked (from (do
     v ← call strExp
     ifNone v (ret 0) (done SK.AppStrExpArgStrExp)))
-  ifNone v (scoped (call (dec InfixErr.Yes))) (ret 0)
+  ifNone v (do
+    scoped (call (dec InfixErr.Yes))
+    appEnd) appEnd
+
+-- dec.rs, `str_exp`: its case of a path
+unfoldable pub strPath : Prog Rule true
+strPath = do
+  pathMust
+  done SK.PathStrExp
+
+-- dec.rs, `str_exp`: what stands in its case of `let` in an environment of its own
+unfoldable pub strLet : Prog Rule true
+strLet = do
+  call (dec InfixErr.Yes)
+  want SK.InKw
+  strMust
 
 -- dec.rs, `str_exp`: its `match`, beneath its mark
 unfoldable pub strHead : ℕ → Prog Rule true
@@ -508,26 +661,16 @@ strHead k =
     ifKind k SK.StructKw (do
       bump
       scoped (call (dec InfixErr.Yes))
-      eat SK.EndKw
+      want SK.EndKw
       done SK.StructStrExp)
     (ifKind k SK.LetKw (do
       bump
-      scoped (do
-        call (dec InfixErr.Yes)
-        eat SK.InKw
-        strMust)
-      eat SK.EndKw
+      scoped strLet
+      want SK.EndKw
       done SK.LetStrExp)
     (ifKind k SK.Name (do
       k1 ← peek 1
-      ifKind k1 SK.LRound (do
-        bump
-        eat SK.LRound
-        appArg
-        eat SK.RRound
-        done SK.AppStrExp) (do
-          pathMust
-          done SK.PathStrExp))
+      ifKind k1 SK.LRound strApp strPath)
     (ret 0)))
 
 -- dec.rs, `str_exp`: one turn of its loop, an ascription behind a structure
@@ -556,7 +699,7 @@ sigHead k =
     ifKind k SK.SigKw (do
       bump
       scoped (call (dec InfixErr.No))
-      eat SK.EndKw
+      want SK.EndKw
       done SK.SigSigExp)
     (ifKind k SK.Name (do
       bump
@@ -571,32 +714,40 @@ whereTail = do
     bump
     tyVarSeq
     pathMust
-    eat SK.Eq
+    want SK.Eq
     ty
     close SK.WhereTypeSigExp) (do
       pathMust
-      eat SK.Eq
+      want SK.Eq
       pathMust
       close SK.WhereSigExp)
+
+-- dec.rs, `sig_exp`: the kinds that its loop goes on at
+abbrev pub isWhereAnd : ℕ → Bool
+isWhereAnd k = is k SK.WhereKw || is k SK.AndKw
 
 -- dec.rs, `sig_exp`: one turn of its loop
 unfoldable pub sigStep : Prog Rule false
 sigStep = do
   k ← peek 0
-  branch (is k SK.WhereKw || is k SK.AndKw) (do
+  branch (isWhereAnd k) (do
     marked (do
       bump
       whereTail)
     ret 1) (ret 0)
 
--- dec.rs, `sig_exp`: the whole, in the scope of its own that `body` opens.
--- The first `where` must be one, further ones can be `and`.
+-- dec.rs, `sig_exp`: its loop. The first `where` must be one, further ones can be `and`.
+unfoldable pub wheres : Prog Rule false
+wheres = do
+  k ← peek 0
+  when (is k SK.WhereKw) (loop sigStep)
+
+-- dec.rs, `sig_exp`: the whole, in the scope of its own that `body` opens
 unfoldable pub sigScope : Prog Rule false
 sigScope = do
   k ← peek 0
   ifNone k (ret 0) (do
     v ← marked (sigHead k)
     ifNone v (ret 0) (do
-      k ← peek 0
-      when (is k SK.WhereKw) (loop sigStep)
+      wheres
       ret 1))

@@ -1,6 +1,6 @@
 -- The rules of exp.rs.
 use Prim.Native.Nat.{ℕ}
-use mathlib.Core.Bool.{Bool, true, false, _&&_, _||_}
+use mathlib.Core.Bool.{Bool, true, false, _||_}
 use lib.Dec.{eqb}
 use Rattle.grammar.specs.Env as Env
 use Rattle.grammar.specs.Prog.{Prog, Reason, _>>=_, _>>_, peek, bump, error}
@@ -8,7 +8,7 @@ use Rattle.grammar.specs.Prog.Prog.{ret, branch, lookup, act, from, clos
 use Rattle.grammar.specs.Prog.Act.{refuse}
 use Rattle.grammar.specs.Rule.{Rule, ExpPrec, InfixErr}
 use Rattle.grammar.specs.Rule.Rule.{expPrec, dec}
-use Rattle.grammar.specs.Util.{is, ifKind, ifNone, when, done, expected, eat, bumpIf, endSep, commaSep, manySep, shouldBreak, isNameStarEq, isAscription, pathInfix, pathNoInfix, lab}
+use Rattle.grammar.specs.Util.{is, ifKind, ifNone, when, done, expected, want, bumpIf, endSep, commaSep, manySep, shouldBreak, isNameStarEq, isAscription, pathInfix, pathNoInfix, lab}
 use Rattle.grammar.specs.Ty.{ty}
 use Rattle.grammar.specs.Pat.{pat, isSCon}
 use Rattle.grammar.specs.SyntaxKind as SK
@@ -44,7 +44,7 @@ arm = do
   ifNone v (do
     expected EK.Pat
     ret 0) (do
-      eat SK.EqGt
+      want SK.EqGt
       exp
       ret 1)
 
@@ -66,7 +66,17 @@ sawSemicolon = 1
 abbrev pub sawComma : ℕ
 sawComma = 2
 
--- exp.rs, `at_exp_l_round`
+-- exp.rs, `at_exp_l_round`: its end where neither `;` nor `,` is behind the first expression
+unfoldable pub parenEnd : Prog Rule true
+parenEnd = do
+  k ← peek 0
+  ifKind k SK.RRound (do
+    bump
+    done SK.ParenExp) (do
+      expected EK.LRoundExpTail
+      done SK.ParenExp)
+
+-- exp.rs, `at_exp_l_round`, behind `(`
 unfoldable pub atExpLRound : Prog Rule true
 atExpLRound = do
   k ← peek 0
@@ -89,10 +99,8 @@ atExpLRound = do
         done SK.SeqExp)
           (branch (eqb v sawComma) (do
             endSep SK.ExpArg SK.Comma SK.RRound exp
-            done SK.TupleExp) (do
-              k ← peek 0
-              ifKind k SK.RRound bump (expected EK.LRoundExpTail)
-              done SK.ParenExp)))
+            done SK.TupleExp)
+          parenEnd))
 
 -- exp.rs, `at_exp`: its case of `op`
 unfoldable pub opExp : Prog Rule true
@@ -109,17 +117,22 @@ opExp = do
           pathInfix
           done SK.PathExp))
 
+-- exp.rs, `at_exp`: the name in the start of a record update
+unfoldable pub updatePath : Prog Rule true
+updatePath = marked (from (do
+  pathNoInfix
+  close SK.PathExp))
+
 -- exp.rs, `at_exp`: the start of a record update, in its case of `{`
 unfoldable pub recordUpdate : Prog Rule true
 recordUpdate = do
   k ← peek 0
-  k1 ← peek 1
-  when (is k SK.Name && is k1 SK.WhereKw) (marked (from (do
-    marked (from (do
-      pathNoInfix
-      close SK.PathExp))
-    bump
-    close SK.RecordUpdate)))
+  when (is k SK.Name) (do
+    k1 ← peek 1
+    when (is k1 SK.WhereKw) (marked (from (do
+      updatePath
+      bump
+      close SK.RecordUpdate))))
 
 -- exp.rs, `at_exp`: a row of a record expression, in its closure for `comma_sep`
 unfoldable pub expRow : Prog Rule true
@@ -127,9 +140,10 @@ expRow = do
   lab
   eqExp
 
--- exp.rs, `at_exp`: its case of `#`, behind that token
+-- exp.rs, `at_exp`: its case of `#`
 unfoldable pub hashExp : Prog Rule true
 hashExp = do
+  bump
   k ← peek 0
   ifKind k SK.LSquare (do
     marked (from (do
@@ -140,18 +154,23 @@ hashExp = do
       lab
       done SK.SelectorExp)
 
--- exp.rs, `at_exp`: its case of `let`, behind that token
+-- exp.rs, `at_exp`: what stands in its case of `let` in an environment of its own
+unfoldable pub letBody : Prog Rule true
+letBody = do
+  call (dec InfixErr.Yes)
+  want SK.InKw
+  endSep SK.ExpInSeq SK.Semicolon SK.EndKw exp
+
+-- exp.rs, `at_exp`: its case of `let`
 unfoldable pub letExp : Prog Rule true
 letExp = do
-  scoped (do
-    call (dec InfixErr.Yes)
-    eat SK.InKw
-    endSep SK.ExpInSeq SK.Semicolon SK.EndKw exp)
+  bump
+  scoped letBody
   done SK.LetExp
 
--- exp.rs, `at_exp`: its `match`, beneath its mark
-unfoldable pub atExpHead : ℕ → Prog Rule true
-atExpHead k =
+-- exp.rs, `at_exp`: the cases of its `match` that hold no expression
+unfoldable pub atExpLeaf : ℕ → Prog Rule true
+atExpLeaf k =
     ifKind k SK.DotDotDot (do
       bump
       done SK.HoleExp)
@@ -165,14 +184,17 @@ atExpHead k =
     (branch (isNameStarEq k) (do
       pathNoInfix
       done SK.PathExp)
-    (ifKind k SK.LCurly (do
+    (ret 0)))))
+
+-- exp.rs, `at_exp`: its `match`, beneath its mark. The cases that hold expressions come first: no kind is in two cases.
+unfoldable pub atExpHead : ℕ → Prog Rule true
+atExpHead k =
+    ifKind k SK.LCurly (do
       bump
       recordUpdate
       commaSep SK.ExpRow SK.RCurly expRow
       done SK.RecordExp)
-    (ifKind k SK.Hash (do
-      bump
-      hashExp)
+    (ifKind k SK.Hash hashExp
     (ifKind k SK.LRound (do
       bump
       atExpLRound)
@@ -180,10 +202,8 @@ atExpHead k =
       bump
       expArgs
       done SK.ListExp)
-    (ifKind k SK.LetKw (do
-      bump
-      letExp)
-    (ret 0))))))))))
+    (ifKind k SK.LetKw letExp
+    (atExpLeaf k)))))
 
 -- exp.rs, `at_exp`
 unfoldable pub atExp : {g : Bool} → Prog Rule g
@@ -191,11 +211,16 @@ atExp = do
   k ← peek 0
   ifNone k (ret 0) (marked (from (atExpHead k)))
 
+-- exp.rs, `app_exp`: its call of `at_exp`, or the finding that there is none
+unfoldable pub atExpMust : Prog Rule true
+atExpMust = do
+  v ← atExp
+  ifNone v (expected EK.Exp) (ret 0)
+
 -- exp.rs, `app_exp`
 unfoldable pub appExp : {g : Bool} → Prog Rule g
 appExp = marked (do
-  v ← atExp
-  ifNone v (expected EK.Exp) (ret 0)
+  atExpMust
   close SK.AppExp)
 
 -- exp.rs, `should_break_exp`: that a case cannot happen, that the climb goes on or ends, or that two infix names decide.
@@ -246,86 +271,145 @@ decide (infixes op min) = shouldBreak op min
 abbrev pub shouldBreakExp : {g : Bool} → ExpPrec → ExpPrec → Prog Rule g
 shouldBreakExp prec min = decide (verdict prec min)
 
--- exp.rs, `exp_prec_loop`: an operator of the kind prec. Unless it ends the climb, the operator, its right side,
--- and the node of all behind `precede`.
-unfoldable pub climb : ExpPrec → ExpPrec → ℕ → Prog Rule true → Prog Rule false
-climb prec min node right = do
+-- exp.rs, `ExpPrec`: the place of a variant among them
+abbrev pub rank : ExpPrec → ℕ
+rank ExpPrec.Min = 0
+rank ExpPrec.Handle = 1
+rank ExpPrec.Orelse = 2
+rank ExpPrec.Andalso = 3
+rank ExpPrec.Ascription = 4
+rank (ExpPrec.Infix op) = 5
+
+-- exp.rs, `ExpPrec`: whether it is this variant
+abbrev pub isHandle : ExpPrec → Bool
+isHandle p = eqb (rank p) 1
+
+abbrev pub isOrelse : ExpPrec → Bool
+isOrelse p = eqb (rank p) 2
+
+abbrev pub isAndalso : ExpPrec → Bool
+isAndalso p = eqb (rank p) 3
+
+abbrev pub isAscribed : ExpPrec → Bool
+isAscribed p = eqb (rank p) 4
+
+-- exp.rs, `exp_prec`: its `infix`, whether this is the right side of an infix name
+abbrev pub isInfix : ExpPrec → Bool
+isInfix p = eqb (rank p) 5
+
+-- exp.rs, `exp_prec_loop`: the right side of an operator of the kind prec, which is not Min, and the end of the node of all behind `precede`
+unfoldable pub rightSide : ExpPrec → Prog Rule true
+rightSide prec =
+    branch (isAscribed prec) (do
+      ty
+      close SK.TypedExp)
+    (branch (isHandle prec) (do
+      matcher
+      close SK.HandleExp)
+    (branch (isAndalso prec) (do
+      expMust prec
+      close SK.AndalsoExp)
+    (branch (isOrelse prec) (do
+      expMust prec
+      close SK.OrelseExp)
+    (do
+      expMust prec
+      close SK.InfixExp))))
+
+-- exp.rs, `exp_prec_loop`: an operator of the kind prec. Unless it ends the climb, the operator and its right side.
+unfoldable pub climb : ExpPrec → ExpPrec → Prog Rule false
+climb prec min = do
   v ← shouldBreakExp prec min
   ifNone v (do
     marked (do
       bump
-      right
-      close node)
+      rightSide prec)
     ret 1) (ret 0)
 
 -- exp.rs, `exp_prec_loop`: the kinds that start an argument, names left aside
 abbrev pub isArg : ℕ → Bool
 isArg k = is k SK.DotDotDot || is k SK.Underscore || isSCon k || is k SK.OpKw || is k SK.LCurly || is k SK.Hash || is k SK.LRound || is k SK.LSquare || is k SK.LetKw
 
+-- exp.rs, `exp_prec_loop`: its case of a name, which is an argument or an infix name
+unfoldable pub nameStep : ExpPrec → Prog Rule false
+nameStep min =
+    lookup 0 (do
+      appExp
+      ret 1)
+    (λ op. climb (ExpPrec.Infix op) min)
+
 -- exp.rs, `exp_prec_loop`: one turn of its loop
 unfoldable pub expStep : ExpPrec → Prog Rule false
 expStep min = do
   k ← peek 0
-  branch (isNameStarEq k)
-      (lookup 0 (do
-        appExp
-        ret 1)
-      (λ op. climb (ExpPrec.Infix op) min SK.InfixExp (expMust (ExpPrec.Infix op))))
-      (branch (isAscription k) (climb ExpPrec.Ascription min SK.TypedExp ty)
-      (ifKind k SK.AndalsoKw (climb ExpPrec.Andalso min SK.AndalsoExp (expMust ExpPrec.Andalso))
-      (ifKind k SK.OrelseKw (climb ExpPrec.Orelse min SK.OrelseExp (expMust ExpPrec.Orelse))
-      (ifKind k SK.HandleKw (climb ExpPrec.Handle min SK.HandleExp matcher)
+  branch (isNameStarEq k) (nameStep min)
+      (branch (isAscription k) (climb ExpPrec.Ascription min)
+      (ifKind k SK.AndalsoKw (climb ExpPrec.Andalso min)
+      (ifKind k SK.OrelseKw (climb ExpPrec.Orelse min)
+      (ifKind k SK.HandleKw (climb ExpPrec.Handle min)
       (branch (isArg k) (do
         appExp
         ret 1) (ret 0))))))
 
--- exp.rs, `exp_prec`: its `infix`, whether this is the right side of an infix name
-abbrev pub isInfix : ExpPrec → Bool
-isInfix ExpPrec.Min = false
-isInfix ExpPrec.Handle = false
-isInfix ExpPrec.Orelse = false
-isInfix ExpPrec.Andalso = false
-isInfix ExpPrec.Ascription = false
-isInfix (ExpPrec.Infix op) = true
+-- exp.rs, `exp_prec`: the keywords of its cases
+abbrev pub isKeyword : ℕ → Bool
+isKeyword k = is k SK.RaiseKw || is k SK.IfKw || is k SK.WhileKw || is k SK.CaseKw || is k SK.FnKw
+
+-- exp.rs, `exp_prec`: the finding that such a keyword wants parentheses
+unfoldable pub needParens : ℕ → Prog Rule true
+needParens k =
+    ifKind k SK.RaiseKw (error EK.NeedParensAroundExpHere EK.Raise)
+    (ifKind k SK.IfKw (error EK.NeedParensAroundExpHere EK.If)
+    (ifKind k SK.WhileKw (error EK.NeedParensAroundExpHere EK.While)
+    (ifKind k SK.CaseKw (error EK.NeedParensAroundExpHere EK.Case)
+    (error EK.NeedParensAroundExpHere EK.Fn))))
 
 -- exp.rs, `exp_prec`: a keyword that is read, and that wants parentheses on the right side of an infix name
-unfoldable pub keyword : ExpPrec → ℕ → Prog Rule true
-keyword min flavor = do
-  when (isInfix min) (error EK.NeedParensAroundExpHere flavor)
-  bump
+unfoldable pub keyword : ℕ → ExpPrec → Prog Rule true
+keyword k min =
+    branch (isInfix min) (do
+      needParens k
+      bump) bump
+
+-- exp.rs, `exp_prec`: its cases behind their keywords. All but that of `fn` go on with an expression.
+unfoldable pub keyed : ℕ → Prog Rule true
+keyed k =
+    ifKind k SK.FnKw (do
+      matcher
+      close SK.FnExp)
+    (do
+      exp
+      ifKind k SK.RaiseKw (close SK.RaiseExp)
+          (ifKind k SK.IfKw (do
+            want SK.ThenKw
+            exp
+            want SK.ElseKw
+            exp
+            close SK.IfExp)
+          (ifKind k SK.WhileKw (do
+            want SK.DoKw
+            exp
+            close SK.WhileExp)
+          (do
+            want SK.OfKw
+            matcher
+            close SK.CaseExp))))
 
 -- exp.rs, `exp_prec`: its cases that start with a keyword, beneath its mark
 unfoldable pub expHead : ℕ → ExpPrec → Prog Rule true
 expHead k min =
-    ifKind k SK.RaiseKw (do
-      keyword min EK.Raise
-      exp
-      done SK.RaiseExp)
-    (ifKind k SK.IfKw (do
-      keyword min EK.If
-      exp
-      eat SK.ThenKw
-      exp
-      eat SK.ElseKw
-      exp
-      done SK.IfExp)
-    (ifKind k SK.WhileKw (do
-      keyword min EK.While
-      exp
-      eat SK.DoKw
-      exp
-      done SK.WhileExp)
-    (ifKind k SK.CaseKw (do
-      keyword min EK.Case
-      exp
-      eat SK.OfKw
-      matcher
-      done SK.CaseExp)
-    (ifKind k SK.FnKw (do
-      keyword min EK.Fn
-      matcher
-      done SK.FnExp)
-    (ret 0)))))
+    branch (isKeyword k) (do
+      keyword k min
+      keyed k
+      ret 1) (ret 0)
+
+-- exp.rs, `exp_prec`: its last case, and `exp_prec_loop`
+unfoldable pub expRest : ExpPrec → Prog Rule false
+expRest min = do
+  v ← atExp
+  ifNone v (ret 0) (do
+    loop (expStep min)
+    ret 1)
 
 -- exp.rs, `exp_prec`: the whole, in the scope of its own that `body` opens
 unfoldable pub expScope : ExpPrec → Prog Rule false
@@ -333,8 +417,4 @@ expScope min = do
   k ← peek 0
   ifNone k (ret 0) (do
     v ← marked (expHead k min)
-    ifNone v (do
-      v ← atExp
-      ifNone v (ret 0) (do
-        loop (expStep min)
-        ret 1)) (ret 1))
+    ifNone v (expRest min) (ret 1))

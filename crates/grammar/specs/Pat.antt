@@ -1,6 +1,6 @@
 -- The rules of pat.rs.
 use Prim.Native.Nat.{ℕ}
-use mathlib.Core.Bool.{Bool, true, false, _&&_, _||_}
+use mathlib.Core.Bool.{Bool, true, false, _||_}
 use lib.Dec.{eqb}
 use Rattle.grammar.specs.Env as Env
 use Rattle.grammar.specs.Prog.{Prog, _>>=_, _>>_, peek, bump, errorAt}
@@ -48,11 +48,11 @@ asPatTl e = do
 unfoldable pub patRow : InfixErr → Prog Rule true
 patRow e = marked (from (do
   k ← peek 0
-  k1 ← peek 1
   ifKind k SK.DotDotDot (do
     bump
-    close SK.RestPatRow)
-      (ifKind k1 SK.Eq (do
+    close SK.RestPatRow) (do
+      k1 ← peek 1
+      ifKind k1 SK.Eq (do
         lab
         eat SK.Eq
         patMust PatPrec.Min e
@@ -62,6 +62,16 @@ patRow e = marked (from (do
           asPatTl e
           close SK.LabPatRow))))
 
+-- pat.rs, `at_pat_l_round`: the pattern behind `(`. 1 where `)` is next and the mark is abandoned.
+unfoldable pub patArg : InfixErr → Prog Rule true
+patArg e = marked (from (do
+  patMust PatPrec.Min e
+  k ← peek 0
+  ifKind k SK.RRound (ret 1) (do
+    eat SK.Comma
+    close SK.PatArg
+    ret 0)))
+
 -- pat.rs, `at_pat_l_round`
 unfoldable pub atPatLRound : InfixErr → Prog Rule true
 atPatLRound e = do
@@ -69,18 +79,39 @@ atPatLRound e = do
   ifKind k SK.RRound (do
     bump
     done SK.TuplePat) (do
-      v ← marked (from (do
-        patMust PatPrec.Min e
-        k ← peek 0
-        ifKind k SK.RRound (ret 1) (do
-          eat SK.Comma
-          close SK.PatArg
-          ret 0)))
+      v ← patArg e
       ifNone v (do
         patArgs SK.RRound e
         done SK.TuplePat) (do
           bump
           done SK.ParenPat))
+
+-- pat.rs, `at_pat`: the list of a vector pattern, behind `#`
+unfoldable pub vector : InfixErr → Prog Rule true
+vector e = marked (from (do
+  eat SK.LSquare
+  patArgs SK.RSquare e
+  close SK.ListPat))
+
+-- pat.rs, `at_pat`: the rest of its `match`, the arms that hold others
+unfoldable pub atPatRest : ℕ → InfixErr → Prog Rule true
+atPatRest k e =
+    ifKind k SK.LCurly (do
+      bump
+      commaSep SK.PatRow SK.RCurly (patRow e)
+      done SK.RecordPat)
+    (ifKind k SK.LRound (do
+      bump
+      atPatLRound e)
+    (ifKind k SK.LSquare (do
+      bump
+      patArgs SK.RSquare e
+      done SK.ListPat)
+    (ifKind k SK.Hash (do
+      bump
+      vector e
+      done SK.VectorPat)
+    (ret 0))))
 
 -- pat.rs, `at_pat`: its `match`, beneath its mark
 unfoldable pub atPatHead : ℕ → InfixErr → Prog Rule true
@@ -97,25 +128,7 @@ atPatHead k e =
     (branch (isNameStar k) (do
       conPath e
       done SK.ConPat)
-    (ifKind k SK.LCurly (do
-      bump
-      commaSep SK.PatRow SK.RCurly (patRow e)
-      done SK.RecordPat)
-    (ifKind k SK.LRound (do
-      bump
-      atPatLRound e)
-    (ifKind k SK.LSquare (do
-      bump
-      patArgs SK.RSquare e
-      done SK.ListPat)
-    (ifKind k SK.Hash (do
-      bump
-      marked (from (do
-        eat SK.LSquare
-        patArgs SK.RSquare e
-        close SK.ListPat))
-      done SK.VectorPat)
-    (ret 0))))))))
+    (atPatRest k e))))
 
 -- pat.rs, `at_pat`
 unfoldable pub atPat : {g : Bool} → InfixErr → Prog Rule g
@@ -139,8 +152,8 @@ shouldBreakPat op PatPrec.Min = ret 0
 shouldBreakPat op PatPrec.Or = ret 0
 shouldBreakPat op (PatPrec.Infix min) = shouldBreak op min
 
--- pat.rs, `pat_prec`: how the head of a pattern leaves the first turn of the loop: to go on, to go on at an infix name
--- that was tested already, or to stop. A head that `atPat` read takes no such turn; the 1 that it gives is taken as goOn in `patScope`.
+-- pat.rs, `pat_prec`: how the head of a constructor pattern leaves the first turn of the loop: to go on, to go on at an infix name
+-- that was tested already, or to stop
 abbrev pub goOn : ℕ
 goOn = 1
 
@@ -150,8 +163,16 @@ atOp = 2
 abbrev pub stop : ℕ
 stop = 3
 
+-- pat.rs, `pat_prec`: the first turn of its loop at an infix name, in the state Entered. The name is tested while the node is open, since
+-- the source reports before it exits the node.
+unfoldable pub conOp : Env.Infix → PatPrec → Prog Rule true
+conOp op min = do
+  v ← shouldBreakPat op min
+  close SK.ConPat
+  ifNone v (ret atOp) (ret stop)
+
 -- pat.rs, `pat_prec`: the first turn of its loop in the state Entered. The mark of the constructor pattern is still open, and ends here in
--- every case. An infix name is tested while it is open, since the source reports before it exits the node.
+-- every case.
 unfoldable pub conTurn : PatPrec → InfixErr → Prog Rule true
 conTurn min e = do
   k ← peek 0
@@ -160,21 +181,25 @@ conTurn min e = do
         atPatMust e
         close SK.ConPat
         ret goOn)
-      (λ op. do
-        v ← shouldBreakPat op min
+      (λ op. conOp op min))
+      (branch (isArg k) (do
+        atPatMust e
         close SK.ConPat
-        ifNone v (ret atOp) (ret stop)))
-      (do
-        when (isArg k) (atPatMust e)
-        close SK.ConPat
-        ret goOn)
+        ret goOn) (do
+          close SK.ConPat
+          ret goOn))
 
--- pat.rs, `pat_prec`: its start in the state Entered, and the first turn of its loop
-unfoldable pub conPat : PatPrec → InfixErr → Prog Rule true
-conPat min e = do
+-- pat.rs, `pat_prec`: the path of a constructor, with `op` or without
+unfoldable pub conName : {g : Bool} → InfixErr → Prog Rule g
+conName e = do
   k ← peek 0
   ifKind k SK.OpKw pathInfix (conPath e)
-  conTurn min e
+
+-- pat.rs, `pat_prec`: its start in the state Entered, and the first turn of its loop
+unfoldable pub conHead : {g : Bool} → PatPrec → InfixErr → Prog Rule g
+conHead min e = marked (do
+  conName e
+  conTurn min e)
 
 -- pat.rs, `pat_prec`: its loop at an infix name that does not end the climb, from `precede` on
 unfoldable pub infixPat : {g : Bool} → Env.Infix → InfixErr → Prog Rule g
@@ -195,54 +220,92 @@ isInfix PatPrec.Min = false
 isInfix PatPrec.Or = false
 isInfix (PatPrec.Infix op) = true
 
+-- pat.rs, `pat_prec`: the arms of its loop in the state Exited, each behind its test of min_prec: at a name,
+unfoldable pub opStep : PatPrec → InfixErr → Prog Rule false
+opStep min e =
+    lookup 0 (do
+      i ← look index
+      errorAt EK.NotInfix i
+      ret 0)
+    (λ op. do
+      v ← shouldBreakPat op min
+      ifNone v (do
+        infixPat op e
+        ret 1) (ret 0))
+
+-- at `|`,
+unfoldable pub orStep : PatPrec → InfixErr → Prog Rule false
+orStep min e =
+    branch (isMin min) (do
+      marked (do
+        bump
+        patMust PatPrec.Or e
+        close SK.OrPat)
+      ret 1)
+    (ret 0)
+
+-- at `:` and `:>`,
+unfoldable pub typedStep : PatPrec → Prog Rule false
+typedStep min =
+    branch (isInfix min) (ret 0) (do
+      marked (do
+        bump
+        ty
+        close SK.TypedPat)
+      ret 1)
+
+-- at `as`
+unfoldable pub asStep : PatPrec → InfixErr → Prog Rule false
+asStep min e =
+    branch (isInfix min) (ret 0) (do
+      marked (do
+        v ← asPatTl e
+        ifNone v (expected EK.Pat) (ret 0)
+        close SK.AsPat)
+      ret 1)
+
 -- pat.rs, `pat_prec`: one turn of its loop in the state Exited
 unfoldable pub patStep : PatPrec → InfixErr → Prog Rule false
 patStep min e = do
   k ← peek 0
-  branch (isNameStar k)
-      (lookup 0 (do
-        i ← look index
-        errorAt EK.NotInfix i
-        ret 0)
-      (λ op. do
-        v ← shouldBreakPat op min
-        ifNone v (do
-          infixPat op e
-          ret 1) (ret 0)))
-      (ifKind k SK.Bar
-      (branch (isMin min) (do
-        marked (do
-          bump
-          patMust PatPrec.Or e
-          close SK.OrPat)
-        ret 1) (ret 0))
-      (branch (isAscription k)
-      (branch (isInfix min) (ret 0) (do
-        marked (do
-          bump
-          ty
-          close SK.TypedPat)
-        ret 1))
-      (ifKind k SK.AsKw
-      (branch (isInfix min) (ret 0) (do
-        marked (do
-          v ← asPatTl e
-          ifNone v (expected EK.Pat) (ret 0)
-          close SK.AsPat)
-        ret 1))
+  branch (isNameStar k) (opStep min e)
+      (ifKind k SK.Bar (orStep min e)
+      (branch (isAscription k) (typedStep min)
+      (ifKind k SK.AsKw (asStep min e)
       (ret 0))))
 
--- pat.rs, `pat_prec`: what follows the head of a pattern, which left by v
+-- pat.rs, `pat_prec`: behind a head that left at an infix name, the rest of its turn
+unfoldable pub opTail : InfixErr → Prog Rule false
+opTail e = lookup 0 (ret 0) (λ op. infixPat op e)
+
+-- pat.rs, `pat_prec`: what follows the head of a constructor pattern, which left by v
 unfoldable pub patTail : ℕ → PatPrec → InfixErr → Prog Rule false
-patTail v min e = do
-  when (eqb v atOp) (lookup 0 (ret 0) (λ op. infixPat op e))
-  branch (eqb v stop) (ret 0) (loop (patStep min e))
-  ret 1
+patTail v min e =
+    branch (eqb v stop) (ret 1) (do
+      when (eqb v atOp) (opTail e)
+      loop (patStep min e)
+      ret 1)
+
+-- pat.rs, `pat_prec`: where it starts in the state Entered, the whole
+unfoldable pub conPat : PatPrec → InfixErr → Prog Rule false
+conPat min e = do
+  v ← conHead min e
+  ifNone v (ret 0) (patTail v min e)
+
+-- pat.rs, `pat_prec`: where it starts in the state Exited, the whole
+unfoldable pub atomPat : PatPrec → InfixErr → Prog Rule false
+atomPat min e = do
+  v ← atPat e
+  ifNone v (ret 0) (do
+    loop (patStep min e)
+    ret 1)
 
 -- pat.rs, `pat_prec`: the whole, in the scope of its own that `body` opens
 unfoldable pub patScope : PatPrec → InfixErr → Prog Rule false
 patScope min e = do
   k ← peek 0
-  k1 ← peek 1
-  v ← branch (isNameStar k || is k SK.OpKw && isNameStar k1) (marked (conPat min e)) (atPat e)
-  ifNone v (ret 0) (patTail v min e)
+  branch (isNameStar k) (conPat min e)
+      (ifKind k SK.OpKw (do
+        k1 ← peek 1
+        branch (isNameStar k1) (conPat min e) (atomPat min e))
+      (atomPat min e))

@@ -1,6 +1,6 @@
 -- The rules of ty.rs.
 use Prim.Native.Nat.{ℕ}
-use mathlib.Core.Bool.{Bool, true, false, _&&_}
+use mathlib.Core.Bool.{Bool, true, false}
 use lib.Dec.{ltb}
 use Rattle.grammar.specs.Prog.{Prog, _>>=_, _>>_, peek, bump}
 use Rattle.grammar.specs.Prog.Prog.{ret, branch, from, close, marked, loop, call}
@@ -143,21 +143,28 @@ tyScope min = do
       loop (tyStep min)
       ret 1))
 
--- ty.rs, `ty_var_seq`: one type variable, or several in parentheses, in the node's scope
+-- ty.rs, `ty_var_seq`: a type variable that stands alone, in the node's scope
+unfoldable pub tyVarOne : Prog Rule true
+tyVarOne = do
+  marked (from (do
+    bump
+    close SK.TyVarArg))
+  done SK.TyVarSeq
+
+-- ty.rs, `ty_var_seq`: several type variables in parentheses, in the node's scope
+unfoldable pub tyVarMany : Prog Rule true
+tyVarMany = do
+  k1 ← peek 1
+  ifKind k1 SK.TyVar (do
+    bump
+    commaSep SK.TyVarArg SK.RRound (eat SK.TyVar)
+    done SK.TyVarSeq) (ret 0)
+
+-- ty.rs, `ty_var_seq`: the one or the other
 unfoldable pub tyVars : Prog Rule true
 tyVars = do
   k ← peek 0
-  k1 ← peek 1
-  ifKind k SK.TyVar (do
-    marked (from (do
-      bump
-      close SK.TyVarArg))
-    done SK.TyVarSeq)
-      (branch (is k SK.LRound && is k1 SK.TyVar) (do
-        bump
-        commaSep SK.TyVarArg SK.RRound (eat SK.TyVar)
-        done SK.TyVarSeq)
-      (ret 0))
+  ifKind k SK.TyVar tyVarOne (ifKind k SK.LRound tyVarMany (ret 0))
 
 -- ty.rs, `ty_var_seq`
 unfoldable pub tyVarSeq : {g : Bool} → Prog Rule g

@@ -51,6 +51,12 @@ eat want = do
       expected (EK.Kind want)
       ret 0)
 
+-- event_parse, `eat`, where its answer serves no one
+unfoldable pub want : {g : Bool} → ℕ → Prog Rule g
+want k = do
+  eat k
+  ret 0
+
 -- event_parse, `at` and `bump`: a token of this kind is read, where it is next
 unfoldable pub bumpIf : {g : Bool} → ℕ → Prog Rule g
 bumpIf want = do
@@ -203,8 +209,9 @@ pathMust = do
 unfoldable pub unnecessaryOp : {g : Bool} → Prog Rule g
 unnecessaryOp = do
   k2 ← peek 2
-  k1 ← peek 1
-  when (not (is k2 SK.Dot) && isNameStarEq k1) (lookup 1 (plain EK.UnnecessaryOp) (λ _. ret 0))
+  ifKind k2 SK.Dot (ret 0) (do
+    k1 ← peek 1
+    when (isNameStarEq k1) (lookup 1 (plain EK.UnnecessaryOp) (λ _. ret 0)))
 
 -- util.rs, `path_infix`, at an `op`
 unfoldable pub pathInfix : {g : Bool} → Prog Rule g
@@ -216,11 +223,12 @@ pathInfix = do
 -- util.rs, `path_no_infix`: its finding
 unfoldable pub withoutOp : {g : Bool} → Prog Rule g
 withoutOp = do
-  k ← peek 0
   k1 ← peek 1
-  when (not (is k1 SK.Dot) && isNameStarEq k) (lookup 0 (ret 0) (λ _. do
-    i ← look index
-    errorAt EK.InfixWithoutOp i))
+  ifKind k1 SK.Dot (ret 0) (do
+    k ← peek 0
+    when (isNameStarEq k) (lookup 0 (ret 0) (λ _. do
+      i ← look index
+      errorAt EK.InfixWithoutOp i)))
 
 -- util.rs, `path_no_infix`
 unfoldable pub pathNoInfix : {g : Bool} → Prog Rule g

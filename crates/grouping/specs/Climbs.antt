@@ -97,20 +97,20 @@ module _ {E : List Entry} {C n : ℕ} {ts : List Token} {f : Forest} {ps : List 
 module _ {E : List Entry} {C n : ℕ} {ts : List Token} {f : Forest} {ps : List ℕ} {Q : ℕ → List Token → Forest → List ℕ → Type 0} {g : Bool} where
   -- app_exp at an atom
   app-atom : {t : Token} → Atom E t → NoDot ts → Q 0 ts (node Forest.none SK.AppExp (atomNode t f)) ps → Goes E C n (t ∷ ts) f ps {g = g} X.appExp Q
-  unfolding X.appExp
-  app-atom a d h = g-marked (g-bind (at-atom a d (g-bind (g-false (g-ret (g-close h))))))
+  unfolding X.appExp X.atExpMust
+  app-atom a d h = g-marked (g-bind (g-bind (at-atom a d (g-false (g-ret (g-close h))))))
 
 module _ {E : List Entry} {C n : ℕ} {ts : List Token} {f : Forest} {ps : List ℕ} {Q : ℕ → List Token → Forest → List ℕ → Type 0} (m : ExpPrec) where
   -- a turn of the loop at an atom
   step-atom : {t : Token} → Atom E t → NoDot ts → Q 1 ts (node Forest.none SK.AppExp (atomNode t f)) ps → Goes E C n (t ∷ ts) f ps (X.expStep m) Q
-  unfolding X.expStep tokenIn
+  unfolding X.expStep X.nameStep tokenIn
   step-atom (Atom.literal e) d h = search (going, app-atom, Atom.literal) depth 40
   step-atom (Atom.name e) d h = search (going, g-none, app-atom, Atom.name) depth 40
 
   -- exp_prec at an atom
   pub scope-atom : {t : Token} → Atom E t → NoDot ts
       → Goes E C n ts (atomNode t f) ps (loop (X.expStep m)) (λ _ ts' f' ps'. Goes E C n ts' f' ps' {g = false} (ret 1) Q) → Goes E C n (t ∷ ts) f ps (X.expScope m) Q
-  unfolding X.expScope X.expHead tokenIn
+  unfolding X.expScope X.expRest X.expHead tokenIn
   scope-atom (Atom.literal e) d h = search (going, at-atom, Atom.literal) depth 40
   scope-atom (Atom.name e) d h = search (going, at-atom, Atom.name) depth 40
 
@@ -260,7 +260,7 @@ module _ (E : List Entry) (C : ℕ) where
   -- at an operator that ends the climb
   stop-at : (m : Op) (ex : Tree (Operand Token)) (s : Step (Operand Token)) (xs : List (Step (Operand Token))) → Operator E (s .op .token) (fixityOf (s .op)) → Below left (s .op) m
       → Runs E C (infix-of m) ex (s ∷ xs) ex false (s ∷ xs)
-  unfolding stepTokens X.expStep X.climb X.decide tokenIn
+  unfolding stepTokens X.expStep X.nameStep X.climb X.decide tokenIn
   stop-at m ex s xs o k n ps Q h =
       g-loop (exp-step-advances (minOf (infix-of m)) n)
       (g-bind (g-peek (g-on (is-sign (o .sign)) (g-some (o .fixity) (g-bind (breaks k (g-false (g-ret (h ps (told-none ps))))))))))
@@ -279,12 +279,12 @@ module _ (E : List Entry) (C : ℕ) where
   -- at an operator that it takes
   turn-at : (m : Min) (ex r t : Tree (Operand Token)) (s : Step (Operand Token)) (xs ys zs : List (Step (Operand Token))) (b c d : Bool) → Stand E (s ∷ xs) → Takes m (s .op) b
       → Runs E C (infix-of (s .op)) (Tree.leaf (s .operand)) xs r c ys → Runs E C m (Tree.node ex (s .op) r) ys t d zs → Runs E C m ex (s ∷ xs) t (or b (or c d)) zs
-  unfolding stepTokens X.expStep X.climb tokenIn nodes bare
+  unfolding stepTokens X.expStep X.nameStep X.climb X.rightSide tokenIn nodes bare
   turn-at m ex r t s xs ys zs b c d v k f g n ps Q h =
       g-loop (exp-step-advances (minOf m) n)
       (g-bind (g-peek (g-on (is-sign (v .0 .sign)) (g-some (v .0 .fixity) (g-bind (goes-on k (λ ps1 t1.
-      g-true (g-bind (g-marked (g-bind (g-take (g-bind (right-at (s .op) (s .operand) r xs ys c (v .1) (v .2) (v .3) f (n - 1) _ ps1 _ (λ ps2 t2.
-      g-close (g-ret (g n ps2 Q (λ ps3 t3. h ps3 (told-next t1 (told-next t2 t3)))))))))))))))))))
+      g-true (g-bind (g-marked (g-bind (g-take (g-false (g-false (g-false (g-false (g-bind (right-at (s .op) (s .operand) r xs ys c (v .1) (v .2) (v .3) f (n - 1) _ ps1 _ (λ ps2 t2.
+      g-close (g-ret (g n ps2 Q (λ ps3 t3. h ps3 (told-next t1 (told-next t2 t3)))))))))))))))))))))))
 
   -- The source's loop does what the climb does.
   pub climbs : {m : Min} {ex t : Tree (Operand Token)} {xs ys : List (Step (Operand Token))} {b : Bool} → Loop m ex xs t b ys → Stand E xs → Runs E C m ex xs t b ys

@@ -12,7 +12,7 @@ use Rattle.grammar.specs.Util as U
 use Rattle.grammar.specs.Dec as D
 use Rattle.grammar.specs.Root as Root
 use Rattle.grammar.specs.SyntaxKind as SK
-use Rattle.laws.specs.Progress.{dec-turn-advances, dec-one-advances, sharing-advances, root-turn-advances}
+use Rattle.laws.specs.Progress.{dec-turn-advances, dec-one-advances, root-turn-advances}
 use Rattle.laws.specs.Trees.{Forest, join}
 use Rattle.laws.specs.Trees.Forest.{leaf, node}
 use Rattle.lawful.specs.Terms.{Line, Tree}
@@ -56,8 +56,8 @@ module _ {E : List Entry} {C n : ℕ} {f : Forest} {ps : List ℕ} {Q : ℕ → 
 
 module _ {E : List Entry} {C n : ℕ} {f : Forest} {ps : List ℕ} {Q : ℕ → List Token → Forest → List ℕ → Type 0} {g : Bool} where
   -- and no sharing
-  share-end : Q 0 [] f ps → Goes E C n [] f ps {g = g} D.sharingTurn Q
-  unfolding D.sharingTurn tokenIn
+  share-end : Q 0 [] f ps → Goes E C n [] f ps {g = g} D.sharings Q
+  unfolding D.sharings tokenIn
   share-end h = search going depth 10
 
 module _ {E : List Entry} {C n : ℕ} {f : Forest} {ps : List ℕ} {Q : ℕ → List Token → Forest → List ℕ → Type 0} {g : Bool} where
@@ -65,7 +65,7 @@ module _ {E : List Entry} {C n : ℕ} {f : Forest} {ps : List ℕ} {Q : ℕ → 
   tail-end : Q 0 [] (node f SK.DecWithTail Forest.none) ps → Goes E C n [] f ps {g = g} (D.decWithTail InfixErr.Yes) Q
   unfolding D.decWithTail U.maybeSemiSep tokenIn join
   tail-end h =
-      g-marked (g-from (g-bind (g-bind (turn-end (g-true (g-ret (g-bind (g-peek (g-bind (g-loop (sharing-advances true _) (share-end (g-bind (g-close (g-false (g-ret h)))))))))))))))
+      g-marked (g-from (g-bind (g-bind (turn-end (g-true (g-ret (g-true (g-bind (share-end (g-bind (g-close (g-ret h))))))))))))
 
 module _ {E : List Entry} {C n : ℕ} {f : Forest} {ps : List ℕ} {Q : ℕ → List Token → Forest → List ℕ → Type 0} {g : Bool} where
   -- with which the turn of the outer loop ends
@@ -83,9 +83,9 @@ module _ (E : List Entry) (C : ℕ) where
   one-atom : {t : Token} → Atom E t → (ts : List Token) (n : ℕ) (f : Forest) (ps : List ℕ) (Q : ℕ → List Token → Forest → List ℕ → Type 0)
       → Goes E C (n - 1) (t ∷ ts) Forest.none ps (call (expPrec ExpPrec.Min)) (λ v ts' f' ps'. Goes E C (n - 1) ts' f' ps' {g = true} (U.ifNone v (ret 0) (U.done SK.ExpDec)) (λ v ts' f' ps'. Q v ts' (join f f') ps'))
       → Goes E C n (t ∷ ts) f ps {g = true} (D.decOne InfixErr.Yes) Q
-  unfolding D.decOne D.coreDec D.scopeDec D.moduleDec D.otherDec tokenIn
-  one-atom (Atom.literal x) ts n f ps Q h = search going depth 60
-  one-atom (Atom.name x) ts n f ps Q h = search going depth 60
+  unfolding D.decOne D.decHead D.leafDec D.fixDec D.coreDec D.moduleDec D.otherDec tokenIn
+  one-atom (Atom.literal x) ts n f ps Q h = search going depth 80
+  one-atom (Atom.name x) ts n f ps Q h = search going depth 80
 
   -- so a line is a declaration
   pub one-line : {t : Token} (ts : List Token) → Atom E t → (T : Term) (b : Bool) → Reads E C (t ∷ ts) T b → One E C (t ∷ ts) SK.ExpDec (nodes T Forest.none) b
@@ -107,7 +107,7 @@ module _ (E : List Entry) (C : ℕ) (t : Token) (ts : List Token) (k : ℕ) (c :
   unfolding D.decWithTail U.maybeSemiSep join tokenIn
   tail-file n f ps Q q = g-marked (g-from (g-bind (g-bind (seq-file (n - 1) Forest.none ps _
       (λ ps' k. g-false (g-bind (g-loop (dec-one-advances true InfixErr.Yes (n - 1)) (turn-end (g-ret
-      (g-bind (g-peek (g-bind (g-loop (sharing-advances true (n - 1)) (share-end (g-bind (g-close (g-false (g-ret (q ps' k)))))))))))))))))))
+      (g-false (g-bind (share-end (g-bind (g-close (g-ret (q ps' k))))))))))))))))
 
   -- that in Dec,
   turn-file : (n : ℕ) (f : Forest) (ps : List ℕ) (Q : ℕ → List Token → Forest → List ℕ → Type 0)
@@ -121,8 +121,8 @@ module _ (E : List Entry) (C : ℕ) (t : Token) (ts : List Token) (k : ℕ) (c :
   dec-file : (n : ℕ) (f : Forest) (ps : List ℕ) (Q : ℕ → List Token → Forest → List ℕ → Type 0)
       → ((ps' : List ℕ) → Told b ps ps' → Q 1 [] (node (node f SK.Dec (node Forest.none SK.DecWithTail (node Forest.none SK.DecInSeq (node Forest.none k c)))) SK.DecWithTail Forest.none) ps')
       → Goes E C n (t ∷ ts) f ps (call (dec InfixErr.Yes)) Q
-  unfolding Root.body D.decs U.maybeSemiSep
-  dec-file n f ps Q q = g-call (g-bind (turn-file n f ps _ (λ ps' k. g-false (g-bind (g-loop (dec-turn-advances false InfixErr.Yes n) (decs-end (g-ret (q ps' k))))))))
+  unfolding Root.body D.decs U.maybeSemiSep join
+  dec-file n f ps Q q = g-call (g-from (g-bind (turn-file n Forest.none ps _ (λ ps' k. g-false (g-bind (g-loop (dec-turn-advances false InfixErr.Yes n) (decs-end (g-ret (q ps' k)))))))))
 
   -- and Root around all.
   pub root-file : (n : ℕ) (ps : List ℕ) (Q : ℕ → List Token → Forest → List ℕ → Type 0) → ((ps' : List ℕ) → Told b ps ps' → Q 0 [] (fileOf k c) ps')

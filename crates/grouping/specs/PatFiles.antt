@@ -59,7 +59,7 @@ told-quiet {ps} {ps'} k = go (k .more) (k .all) (k .tells)
 module _ {E : List Entry} {C n : ℕ} {ts : List Token} {f : Forest} {ps : List ℕ} {Q : ℕ → List Token → Forest → List ℕ → Type 0} {g : Bool} where
   -- no type variables stand before an atom
   no-vars : {t : Token} → Atom E t → Q 0 (t ∷ ts) f ps → Goes E C n (t ∷ ts) f ps {g = g} T.tyVarSeq Q
-  unfolding T.tyVarSeq T.tyVars tokenIn join
+  unfolding T.tyVarSeq T.tyVars T.tyVarOne T.tyVarMany tokenIn join
   no-vars (Atom.literal e) h = search going depth 20
   no-vars (Atom.name e) h = search going depth 20
 
@@ -83,14 +83,14 @@ module _ (E : List Entry) (C : ℕ) {t : Token} (us : List Token) (T : Term) (b 
   bind-val : (n : ℕ) (f : Forest) (ps : List ℕ) (Q : ℕ → List Token → Forest → List ℕ → Type 0)
       → ((ps' : List ℕ) → Told b ps ps' → Q 1 [] (node (patNodes T f) SK.EqExp (atomNode x (leaf Forest.none SK.Eq j))) ps')
       → Goes E C n (t ∷ (us ++ (record { index = j; kind = SK.Eq; text = y } ∷ x ∷ []))) f ps (D.valBind InfixErr.Yes) Q
-  unfolding D.valBind tokenIn
+  unfolding D.valBind D.recPat tokenIn
   bind-val n f ps Q q =
-      g-bind (g-peek (g-bind (g-off (not-rec a) (g-ret (g-bind (h n f ps _ (λ ps' k. g-bind (g-false (g-ret (g-false (g-bind (eq-atom r (g-ret (q ps' k))))))))))))))
+      g-bind (g-bind (g-peek (g-off (not-rec a) (g-bind (h n f ps _ (λ ps' k. g-false (g-ret (g-false (g-bind (eq-atom r (g-ret (q ps' k))))))))))))
 
   -- the declaration
   pub one-val : (i : ℕ) (z : List ℕ) → One E C (record { index = i; kind = SK.ValKw; text = z } ∷ t ∷ (us ++ (record { index = j; kind = SK.Eq; text = y } ∷ x ∷ []))) SK.ValDec
       (valNodes (record { index = i; kind = SK.ValKw; text = z }) T (record { index = j; kind = SK.Eq; text = y }) x) b
-  unfolding D.decOne D.coreDec U.manySep U.manyTurn tokenIn join valNodes
+  unfolding D.decOne D.decHead D.leafDec D.fixDec D.coreDec D.bumpVars U.manySep U.manyTurn tokenIn join valNodes
   one-val i z n f ps Q q =
-      g-bind (g-peek (g-false (g-marked (g-from (g-false (g-true (g-bind (g-take (g-bind (no-vars a (g-bind (g-loop (many-turn-advances true SK.AndKw SK.ValBind (D.valBind InfixErr.Yes) (n - 1))
-      (g-marked (g-from (g-bind (bind-val (n - 1 - 1) Forest.none ps _ (λ ps' k. g-false (g-bind (g-peek (g-false (g-bind (g-close (g-ret (g-bind (g-close (g-ret (q ps' k)))))))))))))))))))))))))))
+      g-bind (g-peek (g-false (g-marked (g-from (g-bind (g-false (g-false (g-false (g-false (g-false (g-false (g-false (g-false (g-ret (g-true (g-true (g-bind (g-bind (g-take (g-bind (no-vars a (g-ret (g-bind (g-loop (many-turn-advances true SK.AndKw SK.ValBind (D.valBind InfixErr.Yes) (n - 1))
+      (g-marked (g-from (g-bind (bind-val (n - 1 - 1) Forest.none ps _ (λ ps' k. g-false (g-bind (g-peek (g-false (g-bind (g-close (g-ret (g-bind (g-close (g-ret (q ps' k)))))))))))))))))))))))))))))))))))))))

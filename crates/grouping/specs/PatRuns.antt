@@ -96,20 +96,20 @@ module _ {E : List Entry} {C n : ℕ} {ts : List Token} {f : Forest} {ps : List 
   tail-on : (m : PatPrec) → Goes E C n ts f ps (loop (P.patStep m Y)) (λ _ ts' f' ps'. Goes E C n ts' f' ps' {g = false} (ret 1) Q)
       → Goes E C n ts f ps (P.patTail P.goOn m Y) Q
   unfolding P.patTail
-  tail-on m h = g-bind (g-false (g-ret (g-bind (g-false h))))
+  tail-on m h = g-false (g-bind (g-false (g-ret (g-bind h))))
 
   -- the head at a Name
   con-scope : (m : PatPrec) {i : ℕ} {x : List ℕ} → find x E ≡ none → NoDot ts
       → Goes E C (n - 1) ts (join f (conPath (word i x))) ps (P.conTurn m Y) (λ v ts' f' ps'. Goes E C n ts' f' ps' (U.ifNone v (ret 0) (P.patTail v m Y)) Q)
       → Goes E C n (word i x ∷ ts) f ps (P.patScope m Y) Q
-  unfolding P.patScope P.conPat P.conPath tokenIn join
-  con-scope m e d h = g-bind (g-peek (g-bind (g-peek (g-bind (g-true (g-marked (g-bind (g-peek (g-bind (g-false (g-true (no-infix-word e d h))))))))))))
+  unfolding P.patScope P.conPat P.conHead P.conName P.conPath tokenIn join
+  con-scope m e d h = g-bind (g-peek (g-true (g-bind (g-marked (g-bind (g-bind (g-peek (g-false (g-true (no-infix-word e d h))))))))))
 
 module _ {E : List Entry} {C n : ℕ} {ts : List Token} {f : Forest} {ps : List ℕ} {Q : ℕ → List Token → Forest → List ℕ → Type 0} where
   -- behind a Name, its argument
   con-arg : (m : PatPrec) {t : Token} → Atom E t → NoDot ts → Q P.goOn ts (node Forest.none SK.ConPat (patAtom t f)) ps → Goes E C n (t ∷ ts) f ps (P.conTurn m Y) Q
   unfolding P.conTurn tokenIn
-  con-arg m (Atom.literal e) d h = g-bind (g-peek (g-false (g-bind (g-true (at-pat-must (Atom.literal e) d (g-bind (g-close (g-ret h))))))))
+  con-arg m (Atom.literal e) d h = g-bind (g-peek (g-false (g-true (g-bind (at-pat-must (Atom.literal e) d (g-bind (g-close (g-ret h))))))))
   con-arg m (Atom.name e) d h = g-bind (g-peek (g-true (g-none e (g-bind (at-pat-must (Atom.name e) d (g-bind (g-close (g-ret h))))))))
 
 -- an operator other than Eq has one of the kinds that the loop looks up
@@ -174,7 +174,7 @@ module _ (E : List Entry) (C : ℕ) (j : ℕ) (y : List ℕ) (zs : List Token) w
   -- at an operator that ends the climb
   stop-at : (m : Op) (ex : Tree (Operand Token)) (s : Step (Operand Token)) (xs : List (Step (Operand Token))) → PatStand E (s ∷ xs) → Below left (s .op) m
       → PatRuns (infix-of m) ex (s ∷ xs) ex false (s ∷ xs)
-  unfolding stepTokens P.patStep P.shouldBreakPat tokenIn
+  unfolding stepTokens P.patStep P.opStep P.shouldBreakPat tokenIn
   stop-at m ex s xs v k n ps Q h =
       g-loop (pat-step-advances (patMin (infix-of m)) Y n)
       (g-bind (g-peek (g-on (is-pat-sign (v .0 .sign) (v .1)) (g-some (v .0 .fixity) (g-bind (breaks k (g-false (g-ret (h ps (told-none ps))))))))))
@@ -182,7 +182,7 @@ module _ (E : List Entry) (C : ℕ) (j : ℕ) (y : List ℕ) (zs : List Token) w
   -- at an operator that it takes
   turn-at : (m : Min) (ex r t : Tree (Operand Token)) (s : Step (Operand Token)) (xs ys zs : List (Step (Operand Token))) (b c d : Bool) → PatStand E (s ∷ xs) → Takes m (s .op) b
       → PatScope (infix-of (s .op)) (s .operand) xs r c ys → PatRuns m (Tree.node ex (s .op) r) ys t d zs → PatRuns m ex (s ∷ xs) t (or b (or c d)) zs
-  unfolding stepTokens P.patStep tokenIn patNodes bare
+  unfolding stepTokens P.patStep P.opStep tokenIn patNodes bare
   turn-at m ex r t s xs ys zs b c d v k f g n ps Q h =
       g-loop (pat-step-advances (patMin m) Y n)
       (g-bind (g-peek (g-on (is-pat-sign (v .0 .sign) (v .1)) (g-some (v .0 .fixity) (g-bind (pat-on k (λ ps1 t1.
@@ -191,9 +191,9 @@ module _ (E : List Entry) (C : ℕ) (j : ℕ) (y : List ℕ) (zs : List Token) w
   -- the rule at an IntLit
   scope-literal : (m : Min) (i : ℕ) (x : List ℕ) (t : Tree (Operand Token)) (xs ys : List (Step (Operand Token))) (b : Bool) → find x E ≡ none → PatStand E xs
       → PatRuns m (Tree.leaf (record { fun = int i x; args = [] })) xs t b ys → PatScope m (record { fun = int i x; args = [] }) xs t b ys
-  unfolding P.patScope tokenIn patNodes bare
+  unfolding P.patScope P.atomPat tokenIn patNodes bare
   scope-literal m i x t xs ys b e v r n ps Q h =
-      g-bind (g-peek (g-bind (g-peek (g-bind (g-false (at-pat (Atom.literal e) (no-dot xs v) (g-false (tail-on (patMin m) (r n ps _ (λ ps' k. g-ret (h ps' k)))))))))))
+      g-bind (g-peek (g-false (g-false (g-bind (at-pat (Atom.literal e) (no-dot xs v) (g-false (g-bind (r n ps _ (λ ps' k. g-ret (h ps' k))))))))))
 
   -- at a Name that is applied
   scope-applied : (m : Min) (i : ℕ) (x : List ℕ) {u : Token} (t : Tree (Operand Token)) (xs ys : List (Step (Operand Token))) (b : Bool) → find x E ≡ none → Atom E u → PatStand E xs
@@ -207,26 +207,26 @@ module _ (E : List Entry) (C : ℕ) (j : ℕ) (y : List ℕ) (zs : List Token) w
       → PatScope m (record { fun = word i x; args = [] }) [] (Tree.leaf (record { fun = word i x; args = [] })) false []
   unfolding P.conTurn tokenIn patNodes patAtom bare join stepTokens
   name-end m i x e n ps Q h =
-      con-scope (patMin m) e refl (g-bind (g-peek (g-false (g-bind (g-false (g-ret (g-bind (g-close (g-ret (g-false (tail-on (patMin m)
-      (stop-end m (Tree.leaf (record { fun = word i x; args = [] })) n ps _ (λ ps' k. g-ret (h ps' k))))))))))))))
+      con-scope (patMin m) e refl (g-bind (g-peek (g-false (g-false (g-bind (g-close (g-ret (g-false (tail-on (patMin m)
+      (stop-end m (Tree.leaf (record { fun = word i x; args = [] })) n ps _ (λ ps' k. g-ret (h ps' k))))))))))))
 
   -- before an operator that ends the climb
   name-stop : (m : Op) (i : ℕ) (x : List ℕ) (s : Step (Operand Token)) (xs : List (Step (Operand Token))) → find x E ≡ none → PatStand E (s ∷ xs) → Below left (s .op) m
       → PatScope (infix-of m) (record { fun = word i x; args = [] }) (s ∷ xs) (Tree.leaf (record { fun = word i x; args = [] })) false (s ∷ xs)
-  unfolding P.conTurn P.patTail P.shouldBreakPat tokenIn patNodes patAtom bare join stepTokens
+  unfolding P.conTurn P.conOp P.patTail P.shouldBreakPat tokenIn patNodes patAtom bare join stepTokens
   name-stop m i x s xs e v k n ps Q h =
       con-scope (patMin (infix-of m)) e (no-dot (s ∷ xs) v) (g-bind (g-peek (g-on (is-pat-sign (v .0 .sign) (v .1)) (g-some (v .0 .fixity) (g-bind (breaks k
-      (g-bind (g-close (g-false (g-ret (g-false (g-bind (g-false (g-ret (g-bind (g-true (g-ret (g-ret (h ps (told-none ps))))))))))))))))))))
+      (g-bind (g-close (g-false (g-ret (g-false (g-true (g-ret (h ps (told-none ps)))))))))))))))
 
   -- before one that it takes
   name-turn : (m : Min) (i : ℕ) (x : List ℕ) (r t : Tree (Operand Token)) (s : Step (Operand Token)) (xs ys ws : List (Step (Operand Token))) (b c d : Bool) → find x E ≡ none → PatStand E (s ∷ xs) → Takes m (s .op) b
       → PatScope (infix-of (s .op)) (s .operand) xs r c ys → PatRuns m (Tree.node (Tree.leaf (record { fun = word i x; args = [] })) (s .op) r) ys t d ws
       → PatScope m (record { fun = word i x; args = [] }) (s ∷ xs) t (or b (or c d)) ws
-  unfolding P.conTurn P.patTail tokenIn patNodes patAtom bare join stepTokens
+  unfolding P.conTurn P.conOp P.patTail P.opTail tokenIn patNodes patAtom bare join stepTokens
   name-turn m i x r t s xs ys ws b c d e v k f g n ps Q h =
       con-scope (patMin m) e (no-dot (s ∷ xs) v) (g-bind (g-peek (g-on (is-pat-sign (v .0 .sign) (v .1)) (g-some (v .0 .fixity) (g-bind (pat-on k (λ ps1 t1.
-      g-bind (g-close (g-true (g-ret (g-false (g-bind (g-true (g-some (v .0 .fixity) (infix-at (s .op) (s .operand) r xs ys c f n _ ps1 _ (λ ps2 t2.
-      g-bind (g-false (g n ps2 _ (λ ps3 t3. g-ret (h ps3 (told-next t1 (told-next t2 t3))))))))))))))))))))))
+      g-bind (g-close (g-true (g-ret (g-false (g-false (g-bind (g-true (g-some (v .0 .fixity) (infix-at (s .op) (s .operand) r xs ys c f n _ ps1 _ (λ ps2 t2.
+      g-bind (g n ps2 _ (λ ps3 t3. g-ret (h ps3 (told-next t1 (told-next t2 t3))))))))))))))))))))))
 
   -- The rule's loop does what the climb does, and so does the whole rule, where it starts at an operand.
   pub record Both (m : Min) (ex : Tree (Operand Token)) (xs : List (Step (Operand Token))) (t : Tree (Operand Token)) (b : Bool) (ys : List (Step (Operand Token))) : Type 1 where

@@ -29,6 +29,10 @@ eat-still : {g : Bool} (k : ℕ) → Still Kind g (U.eat k)
 unfolding U.eat
 eat-still k = search stills depth 40
 
+want-still : {g : Bool} (k : ℕ) → Still Kind g (U.want k)
+unfolding U.want
+want-still k = search (stills, eat-still) depth 40
+
 path-still : {g : Bool} → Still Kind g U.path
 unfolding U.path U.partEnd U.pathPart U.eatNameStar U.pathStart U.pathHere
 path-still = search stills depth 40
@@ -75,7 +79,7 @@ unfolding P.conPath
 con-still e = search (stills, no-infix-still, path-still) depth 40
 
 at-pat-still : {g : Bool} (e : InfixErr) → Still Kind g (P.atPat e)
-unfolding P.atPat P.atPatHead P.atPatLRound
+unfolding P.atPat P.atPatHead P.atPatRest P.atPatLRound P.patArg P.vector
 at-pat-still e = search (stills, eat-still, infix-still, con-still, end-still, row-still, pat-still) depth 60 fits 10000
 
 break-still : {g : Bool} (op min : Env.Infix) → Still Kind g (U.shouldBreak op min)
@@ -89,7 +93,7 @@ break-pat-still op PatPrec.Or = search stills
 break-pat-still op (PatPrec.Infix min) = break-still op min
 
 pat-scope-still : (min : PatPrec) (e : InfixErr) → Still Kind false (P.patScope min e)
-unfolding P.patScope P.conPat P.conTurn P.atPatMust P.patTail P.infixPat P.patStep P.asPatTl
+unfolding P.patScope P.conPat P.conHead P.conName P.conTurn P.conOp P.atPatMust P.atomPat P.patTail P.opTail P.infixPat P.patStep P.opStep P.orStep P.typedStep P.asStep P.asPatTl
 pat-scope-still min e = search (stills, infix-still, con-still, at-pat-still, break-pat-still, pat-still, ty-still) depth 60 fits 10000
 
 exp-still : (min : ExpPrec) → Still Kind true (E.expMust min)
@@ -98,11 +102,11 @@ exp-still min = search stills depth 40
 
 match-still : {g : Bool} → Still Kind g E.matcher
 unfolding E.matcher U.bumpIf E.arm
-match-still = search (stills, many-still, eat-still, exp-still) depth 40 fits 10000
+match-still = search (stills, many-still, want-still, exp-still) depth 40 fits 10000
 
 at-exp-still : {g : Bool} → Still Kind g E.atExp
-unfolding E.atExp E.atExpHead E.atExpLRound E.opExp E.recordUpdate E.expRow E.hashExp E.letExp E.eqExp U.lab
-at-exp-still = search (stills, infix-still, no-infix-still, end-still, exp-still) depth 60 fits 10000
+unfolding E.atExp E.atExpHead E.atExpLeaf E.atExpLRound E.parenEnd E.opExp E.recordUpdate E.updatePath E.expRow E.hashExp E.letExp E.letBody E.eqExp U.lab
+at-exp-still = search (stills, infix-still, no-infix-still, end-still, want-still, exp-still) depth 60 fits 10000
 
 -- one case for each verdict
 decide-still : {g : Bool} (v : E.Verdict) → Still Kind g (E.decide v)
@@ -113,20 +117,20 @@ decide-still E.ends = search stills
 decide-still (E.infixes op min) = break-still op min
 
 exp-scope-still : (min : ExpPrec) → Still Kind false (E.expScope min)
-unfolding E.expScope E.expHead E.keyword E.expStep E.climb E.appExp
-exp-scope-still min = search (stills, at-exp-still, decide-still, exp-still, ty-still, match-still, eat-still) depth 60 fits 10000
+unfolding E.expScope E.expRest E.expHead E.keyword E.needParens E.keyed E.expStep E.nameStep E.climb E.rightSide E.appExp E.atExpMust
+exp-scope-still min = search (stills, at-exp-still, decide-still, exp-still, ty-still, match-still, want-still) depth 60 fits 10000
 
 str-scope-still : Still Kind false D.strScope
-unfolding D.strScope D.strHead D.appArg D.strStep D.ascriptionTail D.sigMust
-str-scope-still = search (stills, eat-still, must-still) depth 60 fits 10000
+unfolding D.strScope D.strHead D.strApp D.appEnd D.strPath D.strLet D.strMust D.strStep D.ascriptionTail D.sigMust
+str-scope-still = search (stills, want-still, must-still) depth 60 fits 10000
 
 var-seq-still : {g : Bool} → Still Kind g T.tyVarSeq
-unfolding T.tyVarSeq T.tyVars
+unfolding T.tyVarSeq T.tyVars T.tyVarOne T.tyVarMany
 var-seq-still = search (stills, end-still, eat-still) depth 40
 
 sig-scope-still : Still Kind false D.sigScope
-unfolding D.sigScope D.sigHead D.sigStep D.whereTail
-sig-scope-still = search (stills, eat-still, must-still, var-seq-still, ty-still) depth 60 fits 10000
+unfolding D.sigScope D.sigHead D.wheres D.sigStep D.whereTail
+sig-scope-still = search (stills, want-still, must-still, var-seq-still, ty-still) depth 60 fits 10000
 
 -- the body of each of these rules
 body-still : (r : Rule) → Kind r → Still Kind false (Root.body r)

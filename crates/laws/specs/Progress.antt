@@ -6,7 +6,7 @@ use mathlib.Core.Bool.{Bool, true, false}
 use Rattle.grammar.specs.Env as Env
 use Rattle.grammar.specs.World.{World, Out}
 use Rattle.grammar.specs.Prog.{Prog, _>>_, eval, rule}
-use Rattle.grammar.specs.Prog.Prog.{ret, branch}
+use Rattle.grammar.specs.Prog.Prog.{ret, branch, call}
 use Rattle.grammar.specs.Rule.{Rule, PatPrec, InfixErr, ExpPrec}
 use Rattle.grammar.specs.Rule.Rule.{tyPrec, patPrec, expPrec, dec, strExp, sigExp}
 use Rattle.grammar.specs.Util as U
@@ -78,18 +78,18 @@ module _ (ρ : ℕ → ℕ → Rule → World → Out) (grows : Growing ρ) (adv
   path-infix n k K z = search moving depth 24
 
   at-pat : {g : Bool} (n : ℕ) (k : ℕ) (e : InfixErr) (K : ℕ → Type 0) → K 0 → Moves {g = g} ρ n (P.atPat e) k K
-  unfolding P.atPat P.atPatHead
+  unfolding P.atPat P.atPatHead P.atPatRest
   at-pat n k e K z = search (moving, path-infix, con-path) depth 30
 
   pat-step : (n : ℕ) (k : ℕ) (e : InfixErr) (min : PatPrec) → Moves ρ n (P.patStep min e) k Idle
-  unfolding P.patStep P.infixPat P.asPatTl P.patMust
+  unfolding P.patStep P.opStep P.orStep P.typedStep P.asStep P.infixPat P.asPatTl P.patMust
   pat-step n k e min = search (moving, breaks, test (P.isMin min), test (P.isInfix min)) depth 40 fits 10000
     where
       breaks : (op : Env.Infix) → Opaque {g = false} (P.shouldBreakPat op min)
       breaks op = opaque (P.shouldBreakPat op min)
 
   pat-scope : (n : ℕ) (k : ℕ) (e : InfixErr) (min : PatPrec) → Moves ρ n (P.patScope min e) k Idle
-  unfolding P.patScope P.conPat P.patTail
+  unfolding P.patScope P.conPat P.conHead P.conName P.atomPat P.patTail
   pat-scope n k e min = search (moving, path-infix, con-path, at-pat) depth 24
 
   path-no-infix : {g : Bool} (n k : ℕ) (K : ℕ → Type 0) → U.isNameStarEq k ≡ true → Moves {g = g} ρ n U.pathNoInfix k K
@@ -98,11 +98,11 @@ module _ (ρ : ℕ → ℕ → Rule → World → Out) (grows : Growing ρ) (adv
 
   -- an application takes a token where an argument starts, or a name is next: by cases of the kind, and as the searches use it
   app-arg : {g : Bool} (n k : ℕ) (K : ℕ → Type 0) → When (E.isArg k) (Moves {g = g} ρ n E.appExp k K)
-  unfolding E.appExp E.atExp E.atExpHead E.opExp
-  app-arg n k K = search (moving, path-infix, path-no-infix) depth 40 fits 10000
+  unfolding E.appExp E.atExpMust E.atExp E.atExpHead E.atExpLeaf E.opExp E.hashExp E.letExp
+  app-arg n k K = search (moving, path-infix) depth 40 fits 10000
 
   app-name : {g : Bool} (n k : ℕ) (K : ℕ → Type 0) → When (U.isNameStarEq k) (Moves {g = g} ρ n E.appExp k K)
-  unfolding E.appExp E.atExp E.atExpHead E.opExp
+  unfolding E.appExp E.atExpMust E.atExp E.atExpHead E.atExpLeaf E.opExp E.hashExp E.letExp
   app-name n k K = search (moving, path-infix, path-no-infix) depth 40 fits 10000
 
   app-takes-arg : {g : Bool} (n k : ℕ) (K : ℕ → Type 0) → E.isArg k ≡ true → Moves {g = g} ρ n E.appExp k K
@@ -116,18 +116,18 @@ module _ (ρ : ℕ → ℕ → Rule → World → Out) (grows : Growing ρ) (adv
   arg-step n k = moves-branch (E.isArg k) (record { holds = λ e. moves-bind grows (app-takes-arg n k _ e) }) (λ _. search moving)
 
   exp-step : (n : ℕ) (k : ℕ) (min : ExpPrec) → Moves ρ n (E.expStep min) k Idle
-  unfolding E.expStep E.climb
+  unfolding E.expStep E.nameStep E.climb
   exp-step n k min = search (moving, breaks, arg-step, app-takes-name) depth 40 fits 10000
     where
       breaks : (v : E.Verdict) → Opaque {g = false} (E.decide v)
       breaks v = opaque (E.decide v)
 
   at-exp : {g : Bool} (n k : ℕ) (K : ℕ → Type 0) → K 0 → Moves {g = g} ρ n E.atExp k K
-  unfolding E.atExp E.atExpHead E.opExp
+  unfolding E.atExp E.atExpHead E.atExpLeaf E.opExp E.hashExp E.letExp
   at-exp n k K z = search (moving, path-infix, path-no-infix) depth 40 fits 10000
 
   exp-scope : (n : ℕ) (k : ℕ) (min : ExpPrec) → Moves ρ n (E.expScope min) k Idle
-  unfolding E.expScope E.expHead E.keyword
+  unfolding E.expScope E.expRest E.expHead E.keyword E.needParens
   exp-scope n k min = search (moving, at-exp, test (E.isInfix min)) depth 40 fits 10000
 
   -- where what is wrapped takes a token unless it gives 0, so does a turn, and so does the whole
@@ -141,26 +141,30 @@ module _ (ρ : ℕ → ℕ → Rule → World → Out) (grows : Growing ρ) (adv
   unfolding U.maybeSemiSep
   semi-sep {g} wrap f h n k K z = search (moving, semi-turn {g = g} wrap f h) depth 40 fits 10000
 
-  -- the four parts of `decOne`; the first three move where the part after them does
-  other-dec : (k : ℕ) (K : ℕ → Type 0) (n : ℕ) → K 0 → Moves ρ n (D.otherDec k) k K
-  unfolding D.otherDec D.esImport
-  other-dec k K n z = search moving depth 40 fits 10000
+  -- the parts of `decOne`
+  fix-dec : (k : ℕ) (K : ℕ → Type 0) (n : ℕ) → K 0 → Moves ρ n (D.fixDec k) k K
+  unfolding D.fixDec D.infixDec D.infixrDec D.nonfixDec D.esImport
+  fix-dec k K n z = search moving depth 40 fits 10000
 
-  module-dec : (k : ℕ) (p : Prog Rule true) (n : ℕ) (K : ℕ → Type 0) → Moves ρ n p k K → Moves ρ n (D.moduleDec k p) k K
+  leaf-dec : (k : ℕ) (K : ℕ → Type 0) (n : ℕ) → K 0 → Moves ρ n (D.leafDec k) k K
+  unfolding D.leafDec D.datatype
+  leaf-dec k K n z = search (moving, fix-dec) depth 40 fits 10000
+
+  other-dec : (k : ℕ) (e : InfixErr) (K : ℕ → Type 0) (n : ℕ) → K 0 → Moves ρ n (D.otherDec k e) k K
+  unfolding D.otherDec D.localDec
+  other-dec k e K n z = search moving depth 40 fits 10000
+
+  module-dec : (k : ℕ) (e : InfixErr) (K : ℕ → Type 0) (n : ℕ) → K 0 → Moves ρ n (D.moduleDec k e) k K
   unfolding D.moduleDec
-  module-dec k p n K h = search moving depth 40 fits 10000
+  module-dec k e K n z = search (moving, other-dec) depth 40 fits 10000
 
-  scope-dec : (k : ℕ) (e : InfixErr) (p : Prog Rule true) (n : ℕ) (K : ℕ → Type 0) → Moves ρ n p k K → Moves ρ n (D.scopeDec k e p) k K
-  unfolding D.scopeDec D.localDec
-  scope-dec k e p n K h = search moving depth 40 fits 10000
-
-  core-dec : (k : ℕ) (e : InfixErr) (p : Prog Rule true) (n : ℕ) (K : ℕ → Type 0) → Moves ρ n p k K → Moves ρ n (D.coreDec k e p) k K
-  unfolding D.coreDec D.datatype
-  core-dec k e p n K h = search moving depth 40 fits 10000
+  core-dec : (k : ℕ) (e : InfixErr) (K : ℕ → Type 0) (n : ℕ) → K 0 → Moves ρ n (D.coreDec k e) k K
+  unfolding D.coreDec D.bumpVars
+  core-dec k e K n z = search (moving, module-dec) depth 40 fits 10000
 
   dec-one : {g : Bool} (e : InfixErr) (n k : ℕ) (K : ℕ → Type 0) → K 0 → Moves {g = g} ρ n (D.decOne e) k K
-  unfolding D.decOne
-  dec-one e n k K z = search (moving, core-dec, scope-dec, module-dec, other-dec) depth 40 fits 10000
+  unfolding D.decOne D.decHead
+  dec-one e n k K z = search (moving, core-dec, leaf-dec) depth 40 fits 10000
 
   share-turn : {g : Bool} (n k : ℕ) → Moves {g = g} ρ n D.sharingTurn k Idle
   unfolding D.sharingTurn
@@ -172,14 +176,14 @@ module _ (ρ : ℕ → ℕ → Rule → World → Out) (grows : Growing ρ) (adv
 
   -- where `sharing` is next the tail takes a token, whatever the declarations before it did
   dec-tail : {g : Bool} (e : InfixErr) (n k : ℕ) (K : ℕ → Type 0) → K 0 → Moves {g = g} ρ n (D.decWithTail e) k K
-  unfolding D.decWithTail
+  unfolding D.decWithTail D.sharings
   dec-tail e n k K z = moves-cases (U.is k SK.SharingKw)
       (search (moving, semi-sep {g = true} SK.DecInSeq (D.decOne e) (dec-one e), moves-turn, share-takes) depth 40 fits 10000)
       (λ h. search (moving, semi-sep {g = true} SK.DecInSeq (D.decOne e) (dec-one e)) depth 40 fits 10000)
 
   decs : (e : InfixErr) (n k : ℕ) → Moves {g = false} ρ n (D.decs e) k Idle
   unfolding D.decs
-  decs e n k = semi-sep SK.Dec (D.decWithTail e) (dec-tail e) n k Idle refl
+  decs e n k = moves-from (semi-sep SK.Dec (D.decWithTail e) (dec-tail e) n k Idle refl)
 
   names-turn : (c : Option Env.Infix) (n k : ℕ) → Moves ρ n (D.namesTurn c) k Idle
   unfolding D.namesTurn
@@ -194,7 +198,7 @@ module _ (ρ : ℕ → ℕ → Rule → World → Out) (grows : Growing ρ) (adv
   str-step n k = search moving depth 40 fits 10000
 
   str-scope : (n k : ℕ) → Moves ρ n D.strScope k Idle
-  unfolding D.strScope D.strHead
+  unfolding D.strScope D.strHead D.strApp D.strPath
   str-scope n k = search (moving, must-takes) depth 40 fits 10000
 
   sig-step : (n k : ℕ) → Moves ρ n D.sigStep k Idle
@@ -202,7 +206,7 @@ module _ (ρ : ℕ → ℕ → Rule → World → Out) (grows : Growing ρ) (adv
   sig-step n k = search moving depth 40 fits 10000
 
   sig-scope : (n k : ℕ) → Moves ρ n D.sigScope k Idle
-  unfolding D.sigScope D.sigHead
+  unfolding D.sigScope D.sigHead D.wheres
   sig-scope n k = search moving depth 40 fits 10000
 
   root-turn : (n k : ℕ) → Moves ρ n Root.rootTurn k Idle
@@ -278,6 +282,10 @@ str-step-advances = turns D.strStep str-step
 
 pub sig-step-advances : (n b : ℕ) → Advances (eval (rule Root.body) n b D.sigStep)
 sig-step-advances = turns D.sigStep sig-step
+
+pub sig-exp-advances : (n b : ℕ) → Advances (eval (rule Root.body) n b (call sigExp))
+unfolding eval
+sig-exp-advances n b = rules-advance n b sigExp
 
 pub root-turn-advances : (n b : ℕ) → Advances (eval (rule Root.body) n b Root.rootTurn)
 root-turn-advances = turns Root.rootTurn root-turn
