@@ -1,3 +1,4 @@
+-- by hand: a loop over bytes, whose invariant is its own.
 -- `basis::copy` meets its contract. The loop's invariant: storing what is left of the name ends in what storing all of it would.
 use Prim.Native.Nat.{_+_, _-_, _≤_}
 use native.Mathlib.Nat.{add-zero, add-suc}

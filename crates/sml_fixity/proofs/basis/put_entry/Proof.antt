@@ -1,3 +1,4 @@
+-- by hand: it stores an entry's bytes: a list of stores.
 -- `basis::put_entry` meets its contract: its stores, one behind the other, are those of the entry's bytes.
 use Prim.Native.Nat.{ℕ, suc, _+_}
 use native.Mathlib.Numerals.{towards-suc}

@@ -1,3 +1,4 @@
+-- by hand: a constant table, whose rules are computed tests.
 -- `basis::put_name` meets its contract: the table's rules are tests at each of the eighteen names.
 use Prim.Native.Nat.{ℕ, suc, _+_, _*_, _-_, _≤_, _<_}
 use native.Mathlib.Omega.{arith}

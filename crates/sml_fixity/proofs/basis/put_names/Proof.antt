@@ -1,3 +1,4 @@
+-- by hand: a loop over a constant table, whose invariant is its own.
 -- `basis::put_names` meets its contract. The loop's invariant: storing the entries that are left ends in what storing all of them would.
 use Prim.Native.Nat.{ℕ, _+_, _-_, _≤_, _<_}
 use native.Mathlib.Omega.{arith}

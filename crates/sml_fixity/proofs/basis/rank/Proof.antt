@@ -1,3 +1,4 @@
+-- by hand: a constant table, whose rule is a computed test.
 -- `basis::rank` meets its contract: the table's rule is a test at each of the six ranks.
 use Prim.Native.Nat.{ℕ, _<_}
 use mathlib.Core.Path.{_≡_, refl, _∙_}

@@ -1,3 +1,4 @@
+-- by hand: a loop over the bytes of two names, whose invariant is its own.
 -- `form::before` meets its contract. The loop's invariant: what is left of the two names compares as they do.
 use Prim.Native.Nat.{ℕ, _+_, _-_, _≤_, _<_}
 use native.Mathlib.Numerals.{add-one}

@@ -1,3 +1,4 @@
+-- by hand: tests of an entry's bytes: a conjunction.
 -- `form::entry_fits` meets its contract: its tests are the definition's, in their order.
 use Prim.Native.Nat.{ℕ, _+_, _-_, _≤_, _<_}
 use native.Mathlib.Omega.{arith}

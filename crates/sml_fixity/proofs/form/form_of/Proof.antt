@@ -1,3 +1,4 @@
+-- by hand: a loop over an environment's entries, whose invariant is its own.
 -- `form::form_of` meets its contract. The loop's invariant: the entries that are left, and those that were passed, are the environment's.
 use Prim.Native.Nat.{ℕ, zero, suc, _+_, _-_, _≤_, _<_}
 use native.Mathlib.Nat.{add-zero, zero-add}

@@ -1,3 +1,4 @@
+-- by hand: tests of three names: the cases of `closestOf`.
 -- `out::closest` meets its contract: its tests are the definition's, in their order.
 use Prim.Native.Nat.{ℕ}
 use mathlib.Core.Path.{_≡_, sym, _∙_}

@@ -1,3 +1,4 @@
+-- by hand: tests of two names: the cases of `nearer`.
 -- `out::comes_first` meets its contract: the empty name comes after none.
 use Prim.Native.Nat.{ℕ}
 use native.Mathlib.Omega.{arith}

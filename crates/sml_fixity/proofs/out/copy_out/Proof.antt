@@ -1,3 +1,4 @@
+-- by hand: a loop over names in their order, whose invariant and measure are its own.
 -- `out::copy_out` meets its contract. The loop's invariant: storing the entries from the first of `e` and `c` on at `at` ends in what storing all of them at the front would.
 use Prim.Native.Nat.{ℕ}
 use mathlib.Core.Path.{_≡_, sym, _∙_, ap}

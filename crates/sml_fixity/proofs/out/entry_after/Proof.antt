@@ -1,3 +1,4 @@
+-- by hand: a choice between two names: the laws of `firstOf`.
 -- `out::entry_after` meets its contract, by which of the two is first.
 use mathlib.Core.Path.{sym, _∙_}
 use borrow.Author.Needs.{needs}

@@ -1,3 +1,4 @@
+-- by hand: a loop over the journal, whose invariant is its own.
 -- `out::next_change` meets its contract. The loop's invariant: no name of the first `i` changes is nearer than `best`, which is empty, or comes after `last` and is a change's.
 use Prim.Native.Nat.{ℕ, _+_, _-_, _≤_, _<_}
 use native.Mathlib.Omega.{arith}

@@ -1,3 +1,4 @@
+-- by hand: a loop over an environment's entries, whose invariant is its own.
 -- `out::next_entry` meets its contract. The loop's invariant: of the names that are nearer than `best`, the entries from `at` on say what all say; and `best` is empty, or comes after `last` and has an entry.
 use Prim.Native.Nat.{ℕ, _+_, _-_, _<_}
 use native.Mathlib.Omega.{arith}

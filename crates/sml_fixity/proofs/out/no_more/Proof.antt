@@ -1,3 +1,4 @@
+-- by hand: a test of two names: the laws of `firstOf`.
 -- `out::no_more` meets its contract: the first of the two is empty where both are.
 use Prim.Native.Nat.{ℕ}
 use native.Mathlib.Omega.{arith}

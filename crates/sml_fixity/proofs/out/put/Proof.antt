@@ -1,3 +1,4 @@
+-- by hand: it stores an entry, if that fits: by what the fixity is.
 -- `out::put` meets its contract: an entry takes four bytes and its name.
 use Prim.Native.Nat.{ℕ, _+_, _≤_}
 use native.Mathlib.Omega.{arith}

@@ -1,3 +1,4 @@
+-- by hand: a choice between two names: the laws of `firstOf`, and of names that are in force.
 -- `out::put_first` meets its contract, by which of the two is first.
 use Prim.Native.Nat.{ℕ}
 use mathlib.Core.Path.{_≡_, sym, _∙_}

@@ -1,3 +1,4 @@
+-- by hand: one law of tables, for every environment.
 -- `table::begin` meets its contract.
 use Rattle.sml_fixity.proofs.Scopes.{begins}
 use Rattle.sml_fixity.proofs.table.begin.Statement.{statement}

@@ -1,3 +1,4 @@
+-- by hand: it writes the journal: the laws of the table's entries and their count.
 -- `table::change` meets its contract: the entries are counted by what the name had and by what it gets.
 use Prim.Native.Nat.{_+_, _-_}
 use mathlib.Core.Path.{_≡_, sym, _∙_}

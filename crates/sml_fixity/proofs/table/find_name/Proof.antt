@@ -1,3 +1,4 @@
+-- by hand: a loop over the journal, whose invariant is its own.
 -- `table::find_name` meets its contract. The loop's invariant: the name has the fixity that it has without the last `k` changes.
 use Prim.Native.Nat.{_+_, _-_, _≤_}
 use native.Mathlib.Nat.{sub-zero}

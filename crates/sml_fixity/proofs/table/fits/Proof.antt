@@ -1,3 +1,4 @@
+-- by hand: tests of two numbers: the cases of `fitsIn`.
 -- `table::fits` meets its contract.
 use borrow.Author.Tests.{lt-leb, le-leb}
 use borrow.Author.Needs.{needs}

@@ -1,3 +1,4 @@
+-- by hand: one law of tables, for every journal.
 -- `table::leave` meets its contract.
 use Rattle.sml_fixity.proofs.Scopes.{leaves}
 use Rattle.sml_fixity.proofs.table.leave.Statement.{statement}

@@ -1,3 +1,4 @@
+-- by hand: a loop over an environment's entries, whose invariant is its own.
 -- `table::look` meets its contract. The loop's invariant: the bytes from `at` on are entries, among which the name has the fixity that it has among all.
 use Prim.Native.Nat.{_+_, _-_}
 use mathlib.Core.Path.{_≡_, refl, sym, _∙_}

@@ -1,3 +1,4 @@
+-- by hand: the bounds of two bytes, which `search needs` does not find.
 -- `table::pair` meets its contract: a byte is below 256.
 use Prim.Native.Nat.{_+_}
 use native.Mathlib.Omega.{arith}

@@ -1,3 +1,4 @@
+-- by hand: it stores eight bytes: a list of stores.
 -- `table::put` meets its contract: a store for each byte of the record.
 use native.Mathlib.Omega.{arith}
 use native.Mathlib.Numerals.{towards-suc}

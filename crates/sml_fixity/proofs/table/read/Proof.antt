@@ -1,3 +1,4 @@
+-- by hand: tests of one byte: the laws of `fixIn`.
 -- `table::read` meets its contract, by what the third byte is.
 use mathlib.Core.Path.{sym}
 use native.Mathlib.Omega.{arith}

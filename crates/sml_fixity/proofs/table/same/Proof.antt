@@ -1,3 +1,4 @@
+-- by hand: a loop over the bytes of two parts, whose invariant is its own.
 -- `table::same` meets its contract. The loop's invariant: what is left of the two parts is the same exactly where they are.
 use Prim.Native.Nat.{_+_, _-_, _≤_}
 use native.Mathlib.Nat.{add-zero, sub-zero}
