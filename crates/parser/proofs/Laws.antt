@@ -112,15 +112,15 @@ module _ {toks : List ℕ} {s : State} {n want : ℕ} where
 module _ {s : State} where
   pub spells-off : (s .stop ≡ 0 → ⊥) → Spells s noName
   unfolding seen indexAhead
-  spells-off h = record { same = λ x t e j l f o. rw (token-off (mem x t e j l f s) 0 h, seen, indexAhead) }
+  spells-off h = record { small = λ p. omega arith; same = λ x t e j l f o. rw (token-off (mem x t e j l f s) 0 h, seen, indexAhead) }
 
   pub spells-none : s .stop ≡ 0 → s .count ≤ s .at → Spells s noName
   unfolding seen indexAhead tokenIn
-  spells-none h p = record { same = λ x t e j l f o. rw (token-on (mem x t e j l f s) 0 h, live-none x t (s .count) (s .at) p, seen, indexAhead) }
+  spells-none h p = record { small = λ p. omega arith; same = λ x t e j l f o. rw (token-on (mem x t e j l f s) 0 h, live-none x t (s .count) (s .at) p, seen, indexAhead) }
 
   pub spells-at : s .stop ≡ 0 → s .at < s .count → Spells s (s .at)
   unfolding seen indexAhead tokenIn
-  spells-at h p = record { same = λ x t e j l f o. rw (token-on (mem x t e j l f s) 0 h, live-token x t (s .count) (s .at) p (o .reads .ready p), seen, indexAhead) }
+  spells-at h p = record { small = λ q. omega arith; same = λ x t e j l f o. rw (token-on (mem x t e j l f s) 0 h, live-token x t (s .count) (s .at) p (o .reads .ready p), seen, indexAhead) }
 
 -- ---- what `ok_since` leaves
 

@@ -1,5 +1,5 @@
 -- The laws of `attempt` and `scoped`: an old state over buffers that were written since still means the old reading, since what stood there stays.
-use Prim.Native.Nat.{ℕ, zero, suc, _+_, _-_, _*_, _≤_}
+use Prim.Native.Nat.{ℕ, zero, suc, _+_, _≤_}
 use native.Mathlib.Nat.{le-refl}
 use native.Mathlib.Omega.{arith}
 use mathlib.Core.Path.{_≡_, refl, ap, _∙_, sym}
@@ -17,12 +17,13 @@ use Rattle.grammar.specs.Rule.{Rule}
 use Rattle.grammar.specs.Root.{body}
 use Rattle.laws.specs.Choice.{if-both}
 use Rattle.laws.specs.Grows.{Grew, Longer, eval-grows, rule-grows}
-use Rattle.sml_fixity.specs.Table.{Stands, changeSize, entriesIn, inForce}
+use Rattle.sml_fixity.specs.Table.{Stands, entriesIn, inForce}
 use Rattle.sml_fixity.specs.Names.{by-test}
 use Rattle.sml_fixity.proofs.Journals.{force-kept, journal-kept}
 use Rattle.parser.specs.View.{Mem, mem, Sound, seenIn, nowOf, chunks, recOf, findOf, Kept, outState, outVal, sinceOf, backOf, tableIn, restOf}
-use Rattle.parser.specs.Runs.{RunsIn, Runs, Left, Nth, Steps, then-steps, ran, runs-in, shut, length-chunks}
-use Rattle.parser.specs.Runs.Left.{done, then}
+use Rattle.parser.specs.Runs.{RunsIn, Runs, runs-in, shut, length-chunks}
+use Rattle.parser.specs.Plans.{Plan, Steps, s-run}
+use Rattle.parser.specs.Plans.Plan.{runs}
 use Rattle.parser.specs.declared.State.{State}
 use Rattle.parser.specs.declared.Found.{Found}
 use Rattle.parser.specs.declared.Found.the-variants.{At, Missing}
@@ -204,36 +205,16 @@ module _ {g : Bool} {n b u : ℕ} {p : Prog Rule g} {x t e j l f j' l' f' : List
   runs-attempt : {w : Found} → w ≡ sinceOf s s' → RunsIn n b (attempt p) (mem x t e j l f s) (mem x t e j' l' f' (outState w)) (outVal w)
   runs-attempt q = rw q since
 
--- an attempt, and `ok_since` behind it: r is what it left
-module _ {g h : Bool} {i n b m d : ℕ} {f : ℕ → Prog Rule h} {k : Left} {x t e j l y j' l' y' : List ℕ} {s s' : State} {r : Found} {u : ℕ} {c : Mem} {v : ℕ} where
-  pub step-attempt : {p : Prog Rule g} → Nth i (RunsIn n b p (mem x t e j l y s) (mem x t e j' l' y' s') u) → Nth (suc i) (r ≡ sinceOf s s')
-      → Steps (suc (suc i)) m d (f (outVal r)) k (mem x t e j' l' y' (outState r)) c v → Steps i n b (attempt p) (then m d f k) (mem x t e j l y s) c v
-  step-attempt q w p = record { run = λ o. then-steps (runs-attempt o (q .is) (w .is)) p .run o }
+module _ {g : Bool} {n b : ℕ} {p : Prog Rule g} {f : ℕ → ℕ → Plan} {x t e j l y j' l' y' : List ℕ} {s s' : State} {u : ℕ} {c : Mem} {v : ℕ} where
+  -- an attempt, and `ok_since` behind it: r is what it left
+  pub s-attempt : {r : Found} → RunsIn n b p (mem x t e j l y s) (mem x t e j' l' y' s') u → r ≡ sinceOf s s'
+      → Steps (f (outVal r) (outState r .len)) (mem x t e j' l' y' (outState r)) c v → Steps (runs n b (attempt p) f) (mem x t e j l y s) c v
+  s-attempt q w p = record { go = λ o. s-run (runs-attempt o q w) p .go o }
 
-  pub any-attempt : {p : Prog Rule g} → Nth i (Runs n p (mem x t e j l y s) (mem x t e j' l' y' s') u) → Nth (suc i) (r ≡ sinceOf s s')
-      → Steps (suc (suc i)) m d (f (outVal r)) k (mem x t e j' l' y' (outState r)) c v → Steps i n b (attempt p) (then m d f k) (mem x t e j l y s) c v
-  any-attempt q w p = record { run = λ o. then-steps (runs-attempt o (runs-in (q .is)) (w .is)) p .run o }
-
--- a scope, and the fixities given back behind it: r is what that left
-module _ {g : Bool} {i n b : ℕ} {x t e j l y j' l' y' : List ℕ} {s s' r : State} {u : ℕ} where
-  pub step-scoped : {h : Bool} {m d : ℕ} {p : Prog Rule g} {f : ℕ → Prog Rule h} {k : Left} {c : Mem} {v : ℕ}
-      → Nth i (RunsIn n b p (mem x t e j l y s) (mem x t e j' l' y' s') u) → Nth (suc i) (r ≡ backOf s s')
-      → Steps (suc (suc i)) m d (f u) k (mem x t e j' l' y' r) c v → Steps i n b (scoped p) (then m d f k) (mem x t e j l y s) c v
-  step-scoped q w p = record { run = λ o. then-steps (runs-scoped o (q .is) (w .is)) p .run o }
-
-  pub any-scoped : {h : Bool} {m d : ℕ} {p : Prog Rule g} {f : ℕ → Prog Rule h} {k : Left} {c : Mem} {v : ℕ}
-      → Nth i (Runs n p (mem x t e j l y s) (mem x t e j' l' y' s') u) → Nth (suc i) (r ≡ backOf s s')
-      → Steps (suc (suc i)) m d (f u) k (mem x t e j' l' y' r) c v → Steps i n b (scoped p) (then m d f k) (mem x t e j l y s) c v
-  any-scoped q w p = record { run = λ o. then-steps (runs-scoped o (runs-in (q .is)) (w .is)) p .run o }
-
-  -- at the end of a program
-  pub last-scoped : {p : Prog Rule g} → Nth i (RunsIn n b p (mem x t e j l y s) (mem x t e j' l' y' s') u) → Nth (suc i) (r ≡ backOf s s')
-      → Steps i n b (scoped p) done (mem x t e j l y s) (mem x t e j' l' y' r) u
-  last-scoped q w = record { run = λ o. ran (runs-scoped o (q .is) (w .is)) }
-
-  pub last-any-scoped : {p : Prog Rule g} → Nth i (Runs n p (mem x t e j l y s) (mem x t e j' l' y' s') u) → Nth (suc i) (r ≡ backOf s s')
-      → Steps i n b (scoped p) done (mem x t e j l y s) (mem x t e j' l' y' r) u
-  last-any-scoped q w = record { run = λ o. ran (runs-scoped o (runs-in (q .is)) (w .is)) }
+  -- a scope, and the fixities given back behind it: r is what that left
+  pub s-scoped : {r : State} → RunsIn n b p (mem x t e j l y s) (mem x t e j' l' y' s') u → r ≡ backOf s s'
+      → Steps (f u (r .len)) (mem x t e j' l' y' r) c v → Steps (runs n b (scoped p) f) (mem x t e j l y s) c v
+  s-scoped q w p = record { go = λ o. s-run (runs-scoped o q w) p .go o }
 
 -- ---- what a call behind them requires
 
@@ -258,6 +239,3 @@ module _ {g : Bool} {n u : ℕ} {p : Prog Rule g} {x t e j l y j' l' y' : List �
 
 -- for a search beside `asks`
 pub ruleset back-asks = (ok-scoped, ok-tried, ok-any-tried, ok-failed, ok-any-failed)
-
--- the steps of attempts and scopes, for a search beside `rules`
-pub ruleset backs = (step-attempt, any-attempt, step-scoped, any-scoped, last-scoped, last-any-scoped)

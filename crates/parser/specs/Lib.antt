@@ -1,4 +1,5 @@
 pub mod Backs
+pub mod Plans
 pub mod Checks
 pub mod Kinds
 pub mod Runs

@@ -13,6 +13,7 @@ use Rattle.grammar.specs.World.World.{refused, on}
 use Rattle.grammar.specs.World.Rec.{took, ended}
 use Rattle.grammar.specs.Prog.{Look as Ask, seen}
 use Rattle.grammar.specs.Prog.Look.{index}
+use Rattle.grammar.specs.Rule as Rule
 use Rattle.grammar.specs.SyntaxKind as SK
 use Rattle.sml_fixity.specs.Fix.{fixityOf}
 use Rattle.sml_fixity.specs.Table.{Stands, tableOf, changeSize}
@@ -23,6 +24,8 @@ use Rattle.parser.specs.declared.Look.{Look}
 use Rattle.parser.specs.declared.Look.the-variants.{Kind, Nothing}
 use Rattle.parser.specs.declared.Found.{Found}
 use Rattle.parser.specs.declared.Found.the-variants.{At, Missing}
+use Rattle.parser.specs.declared.util.InfixErr.{InfixErr}
+use Rattle.parser.specs.declared.util.InfixErr.the-variants.{No, Yes}
 
 -- A record of the log or of the findings, 8 bytes: a tag, a kind, a number of four bytes, two zeroes.
 abbrev pub chunkSize : ℕ
@@ -142,6 +145,11 @@ abbrev pub kindOf : Look → ℕ
 kindOf (Kind k) = suc k
 kindOf Nothing = 0
 
+-- whether infix names without `op` are reported
+abbrev pub errOf : InfixErr → Rule.InfixErr
+errOf No = Rule.InfixErr.No
+errOf Yes = Rule.InfixErr.Yes
+
 abbrev pub outState : Found → State
 outState (At s) = s
 outState (Missing s) = s
@@ -211,8 +219,9 @@ pub record Saw (q : Ask) (toks : List ℕ) (s : State) (u : ℕ) : Type 0 where
 pub record Says (q : Ask) (text toks : List ℕ) (s : State) (u : ℕ) : Type 0 where
   pub same : (e j l f : List ℕ) → u ≡ seen q (seenIn (mem text toks e j l f s))
 
--- The next token's index is u, whatever the buffers are.
+-- The next token's index is u, whatever the buffers are, and a finding has room for it.
 pub record Spells (s : State) (u : ℕ) : Type 0 where
+  pub small : s .count ≤ maxRecords → u ≤ 65535
   pub same : (x t e j l f : List ℕ) → Sound (mem x t e j l f s) → u ≡ seen index (seenIn (mem x t e j l f s))
 
 -- The token n ahead is of the kind `want`, or not, as r says.

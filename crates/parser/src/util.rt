@@ -5,19 +5,34 @@ use crate::NO_NAME;
 use crate::State;
 use crate::TOO_DEEP;
 use crate::at;
+use crate::at_n;
 use crate::bump;
 use crate::close;
 use crate::finding;
+use crate::index;
 use crate::kind;
+use crate::names::fixity_at;
 use crate::peek;
+use crate::peek_n;
 use crate::report;
+use sml_fixity::Assoc;
+use sml_fixity::Fixity;
+use sml_fixity::Infix;
 ghost use mathlib.Core.Path.{_≡_};
 ghost use Prim.Native.Nat.{ℕ, suc, _+_, _-_, _*_, _<_};
-ghost use mathlib.Core.Bool.{true};
+ghost use mathlib.Core.Bool.{Bool, true, not};
+ghost use lib.Dec.{eqb};
 ghost use Rattle.grammar.specs.Prog.{Prog};
 ghost use Rattle.grammar.specs.Util as util;
+ghost use Rattle.sml_fixity.specs.Fix.{assocOf, infixOf};
 ghost use Rattle.parser.specs.View.{Sound, mem, outState, outVal};
 ghost use Rattle.parser.specs.Runs.{Always, Runs, RunsIn};
+
+// Whether to report infix names that stand without `op`.
+pub enum InfixErr {
+    No,
+    Yes,
+}
 
 // The kinds of `name_star`.
 pub fn name_star(k: u8) -> bool
@@ -351,4 +366,164 @@ pub fn path_must(
             s1,
         )),
     }
+}
+
+// Equal precedence with unlike association.
+fn tie(op: Infix, min: Infix) -> bool
+    ensures { λ r. ⌜ r ≡ util.tie (infixOf op) (infixOf min) ⌝ }
+{
+    let x = op.assoc;
+    let y = min.assoc;
+    if op.prec == min.prec {
+        return unlike(x, y);
+    }
+    false
+}
+
+// Whether two associations differ.
+fn unlike(x: Assoc, y: Assoc) -> bool
+    ensures { λ r. ⌜ r ≡ not (eqb (assocOf x) (assocOf y)) ⌝ }
+{
+    match x {
+        Assoc::Left => match y {
+            Assoc::Left => false,
+            Assoc::Right => true,
+        },
+        Assoc::Right => match y {
+            Assoc::Left => true,
+            Assoc::Right => false,
+        },
+    }
+}
+
+// Whether the next name binds weaker than `min`, or as strong where `min` associates to the left.
+fn weaker(op: Infix, min: Infix) -> bool
+    ensures { λ r. ⌜ r ≡ util.weaker (infixOf op) (infixOf min) ⌝ }
+{
+    let y = min.assoc;
+    match y {
+        Assoc::Left => op.prec <= min.prec,
+        Assoc::Right => op.prec < min.prec,
+    }
+}
+
+// Whether the infix name `op`, which is next, ends the climb in which the right side of `min` is open.
+pub fn should_break(
+    text: &[u8],
+    toks: &[u8],
+    env: &[u8],
+    table: &[u8],
+    scratch: &mut [u8],
+    finds: &mut [u8],
+    op: Infix,
+    min: Infix,
+    s: State,
+) -> Found
+    requires { ⌜ Sound (mem (now text) (now toks) (now env) (now table) (now scratch) (now finds) s) ⌝ }
+    ensures { λ r. ⌜ ((g : Bool) → Always (util.shouldBreak {g = g} (infixOf op) (infixOf min)) (mem (now (text .entry)) (now (toks .entry)) (now (env .entry)) (now (table .entry)) (now (scratch .entry)) (now (finds .entry)) s) (mem (now (text .entry)) (now (toks .entry)) (now (env .entry)) (now (table .entry)) (now (scratch .exit)) (now (finds .exit)) (outState r)) (outVal r)) ⌝ }
+{
+    if tie(op, min) {
+        return Found::Missing(report(finds, finding::SAME_FIXITY_DIFF_ASSOC, 0, NO_NAME, s));
+    }
+    if weaker(op, min) {
+        Found::At(s)
+    } else {
+        Found::Missing(s)
+    }
+}
+
+// The finding that an `op` stands before a name that is not infix.
+fn unnecessary_op(
+    text: &[u8],
+    toks: &[u8],
+    env: &[u8],
+    table: &[u8],
+    scratch: &mut [u8],
+    finds: &mut [u8],
+    s: State,
+) -> State
+    requires { ⌜ Sound (mem (now text) (now toks) (now env) (now table) (now scratch) (now finds) s) ⌝ }
+    ensures { λ r. ⌜ Always (util.unnecessaryOp {g = true}) (mem (now (text .entry)) (now (toks .entry)) (now (env .entry)) (now (table .entry)) (now (scratch .entry)) (now (finds .entry)) s) (mem (now (text .entry)) (now (toks .entry)) (now (env .entry)) (now (table .entry)) (now (scratch .exit)) (now (finds .exit)) r) 0 ⌝ }
+{
+    if at_n(toks, 2, kind::DOT, s) {
+        return s;
+    }
+    let Look::Kind(k) = peek_n(toks, 1, s) else {
+        return s;
+    };
+    if name_star_eq(k) {
+        match fixity_at(text, toks, env, table, 1, s) {
+            Fixity::Nonfix => report(finds, finding::UNNECESSARY_OP, 0, NO_NAME, s),
+            Fixity::Is(_) => s,
+        }
+    } else {
+        s
+    }
+}
+
+// A path behind `op`.
+pub fn path_infix(
+    text: &[u8],
+    toks: &[u8],
+    env: &[u8],
+    table: &[u8],
+    scratch: &mut [u8],
+    finds: &mut [u8],
+    left: usize,
+    s: State,
+) -> Found
+    requires { ⌜ Sound (mem (now text) (now toks) (now env) (now table) (now scratch) (now finds) s) ⌝ }
+    ensures { λ r. ⌜ Runs left (util.pathInfix {g = true}) (mem (now (text .entry)) (now (toks .entry)) (now (env .entry)) (now (table .entry)) (now (scratch .entry)) (now (finds .entry)) s) (mem (now (text .entry)) (now (toks .entry)) (now (env .entry)) (now (table .entry)) (now (scratch .exit)) (now (finds .exit)) (outState r)) (outVal r) ⌝ }
+{
+    let s1 = unnecessary_op(text, toks, env, table, scratch, finds, s);
+    let got = eat(text, toks, env, table, scratch, finds, kind::OP_KW, s1);
+    let s2 = got.state();
+    path_must(text, toks, env, table, scratch, finds, left, s2)
+}
+
+// The finding that an infix name stands without `op`.
+fn without_op(
+    text: &[u8],
+    toks: &[u8],
+    env: &[u8],
+    table: &[u8],
+    scratch: &mut [u8],
+    finds: &mut [u8],
+    s: State,
+) -> State
+    requires { ⌜ Sound (mem (now text) (now toks) (now env) (now table) (now scratch) (now finds) s) ⌝ }
+    ensures { λ r. ⌜ Always (util.withoutOp {g = true}) (mem (now (text .entry)) (now (toks .entry)) (now (env .entry)) (now (table .entry)) (now (scratch .entry)) (now (finds .entry)) s) (mem (now (text .entry)) (now (toks .entry)) (now (env .entry)) (now (table .entry)) (now (scratch .exit)) (now (finds .exit)) r) 0 ⌝ }
+{
+    if at_n(toks, 1, kind::DOT, s) {
+        return s;
+    }
+    let Look::Kind(k) = peek(toks, s) else {
+        return s;
+    };
+    if name_star_eq(k) {
+        match fixity_at(text, toks, env, table, 0, s) {
+            Fixity::Nonfix => s,
+            Fixity::Is(_) => report(finds, finding::INFIX_WITHOUT_OP, 0, index(s), s),
+        }
+    } else {
+        s
+    }
+}
+
+// A path that stands without `op`.
+pub fn path_no_infix(
+    text: &[u8],
+    toks: &[u8],
+    env: &[u8],
+    table: &[u8],
+    scratch: &mut [u8],
+    finds: &mut [u8],
+    left: usize,
+    s: State,
+) -> Found
+    requires { ⌜ Sound (mem (now text) (now toks) (now env) (now table) (now scratch) (now finds) s) ⌝ }
+    ensures { λ r. ⌜ Runs left (util.pathNoInfix {g = true}) (mem (now (text .entry)) (now (toks .entry)) (now (env .entry)) (now (table .entry)) (now (scratch .entry)) (now (finds .entry)) s) (mem (now (text .entry)) (now (toks .entry)) (now (env .entry)) (now (table .entry)) (now (scratch .exit)) (now (finds .exit)) (outState r)) (outVal r) ⌝ }
+{
+    let s1 = without_op(text, toks, env, table, scratch, finds, s);
+    path_must(text, toks, env, table, scratch, finds, left, s1)
 }

@@ -1,3 +1,4 @@
+-- by hand: a look, of which programs are made: the laws of `Saw` and `Is`.
 -- `at` meets its contract: a look 0 ahead, which is where it starts.
 use mathlib.Core.Path.{refl}
 use borrow.Author.Needs.{needs}

@@ -1,3 +1,4 @@
+-- by hand: a look, of which programs are made: what `peek_n` saw, by the laws of `Is`.
 -- `at_n` meets its contract: what `peek_n` found, told of its variant.
 use mathlib.Core.Path.{refl}
 use borrow.Author.Needs.{needs}

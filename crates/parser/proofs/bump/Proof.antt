@@ -1,3 +1,4 @@
+-- by hand: it writes the log: an operation that programs are made of, by the laws of `Bumps`.
 -- `bump` meets its contract: one law for each return.
 use borrow.Author.Needs.{needs}
 use Rattle.parser.proofs.Laws.{bumps-off, bumps-none, bumps-full, bumps-goes}

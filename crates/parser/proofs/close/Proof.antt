@@ -1,3 +1,4 @@
+-- by hand: it writes the log: an operation that programs are made of, by the laws of `Adds`.
 -- `close` meets its contract: one law for each return.
 use borrow.Author.Needs.{needs}
 use Rattle.parser.proofs.Laws.{adds-off, adds-full, adds-goes}

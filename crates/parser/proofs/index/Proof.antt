@@ -1,3 +1,4 @@
+-- by hand: a look at the state alone: the laws of `Spells`.
 -- `index` meets its contract: one law for each return.
 use Rattle.parser.proofs.Laws.{spells-off, spells-at, spells-none}
 use Rattle.parser.proofs.index.Statement.{statement}

@@ -1,3 +1,4 @@
+-- by hand: a loop over tokens, whose invariant is its own.
 -- `next_live` meets its contract. The loop's invariant: the tokens from `i` on that are no trivia are those from `from` on.
 use Prim.Native.Nat.{ℕ, _≤_, _-_}
 use mathlib.Core.Path.{_≡_, sym, _∙_}

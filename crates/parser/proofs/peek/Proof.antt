@@ -1,3 +1,4 @@
+-- by hand: a look, of which programs are made: the laws of `Saw`.
 -- `peek` meets its contract: a look 0 ahead, which is where it starts.
 use borrow.Author.Needs.{needs}
 use Rattle.parser.proofs.Laws.{ahead-starts, saw-off, saw-kind, saw-none}

@@ -1,3 +1,4 @@
+-- by hand: a loop over tokens, whose invariant is its own.
 -- `peek_n` meets its contract. The loop's invariant: the token `left` ahead of `i` is the one `n` ahead. The measure is the tokens still to pass.
 use borrow.Author.Needs.{needs}
 use Rattle.parser.proofs.Laws.{Ahead, ahead-starts, ahead-next, saw-off, saw-kind, saw-none}

@@ -1,3 +1,4 @@
+-- by hand: it stores eight bytes: no program, but a list of stores.
 -- `put` meets its contract: its eight stores are the record's bytes, one after the other.
 use native.Mathlib.Omega.{arith}
 use native.Mathlib.Numerals.{towards-suc}

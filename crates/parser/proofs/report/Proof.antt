@@ -1,3 +1,4 @@
+-- by hand: it writes the findings: an operation that programs are made of, by the laws of `Tells`.
 -- `report` meets its contract: one law for each return.
 use borrow.Author.Needs.{needs}
 use Rattle.parser.proofs.Laws.{tells-off, tells-full, tells-goes}

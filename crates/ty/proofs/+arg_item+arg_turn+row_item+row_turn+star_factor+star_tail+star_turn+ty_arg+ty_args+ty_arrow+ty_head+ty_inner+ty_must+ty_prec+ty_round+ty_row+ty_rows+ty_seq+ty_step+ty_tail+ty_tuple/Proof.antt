@@ -1,10 +1,13 @@
+-- by tools/prove
 use Rattle.grammar.specs.Util as util
 use Rattle.grammar.specs.Ty as types
 use Rattle.grammar.specs.Root as root
 use Rattle.grammar.specs.SyntaxKind as SK
 use Rattle.laws.specs.Progress.{end-turn-advances, star-advances, ty-step-advances}
 use Rattle.parser.specs.View.{mem}
-use Rattle.parser.specs.Runs.{rules, asks, nth, in-steps, by-steps, always, ok-bumps, ok-adds, ok-tells, ok-marks, ok-refused, ok-state, runs-in, Loops, turns, loop-starts, loop-goes, loop-falls, loop-ends}
+use Rattle.parser.specs.Runs.{asks, runs-in, runs-always, kind-at, kind-off, kind-is, kind-not, ok-bumps, ok-marks, ok-state, Loops, turns, loop-starts, loop-goes, loop-falls, loop-ends}
+use Rattle.parser.specs.Plans.{plan, choose, chosen, in-steps, by-steps, s-rule, s-look, s-kind, s-true, s-false, s-bump, s-close, s-report, s-mark, s-deep, s-by, s-run, settled, s-end}
+use borrow.Author.Tests.{lt-ltb, le-ltb}
 use borrow.Author.Needs.{needs}
 use mathlib.Core.Path.{_≡_, refl, _∙_}
 use lib.ListN.{length}
@@ -297,7 +300,6 @@ abbrev ty-tuple-below : ℕ → In 6 ty-tuple-kinds.ps
 ty-tuple-below t =
     and 6 ty-tuple-kinds.ps (falls 6 ty-tuple-kinds.ps _<_ μ-ty-tuple t) ty-tuple.Pre
 
--- src/lib.rt:418:31
 arg-item-refuse-requires : (t : ℕ) → arg-item-lts.Need-refuse-requires (
   refuse-reads.Asked,
   refuse-reads.Learnt,
@@ -318,7 +320,6 @@ arg-item-refuse-requires t c κs =
     let if1 = c .if1 .taken in
     search asks depth 8
 
--- src/lib.rt:418:9
 arg-item-returns : (t : ℕ) → arg-item-lts.Need-returns (
   refuse-reads.Asked,
   refuse-reads.Learnt,
@@ -333,16 +334,14 @@ arg-item-returns : (t : ℕ) → arg-item-lts.Need-returns (
   close-reads.Asked,
   close-reads.Learnt,
 ) (arg-item-at t) arg-item.Post
-unfolding util.endItem types.tyMust
+unfolding util.endItem plan choose chosen
 arg-item-returns t c =
     let falls = c .before .before .before .before .before .before .before .before .pre .0 in
     let pre0 = c .before .before .before .before .before .before .before .before .pre .1 in
     let if1 = c .before .if1 .taken in
-    let refuse-is = c .refuse .ensures in
-    let refuse = nth 0 refuse-is in
-    by-steps pre0 (λ b. search rules depth 60 fits 4000)
+    let refuse = c .refuse .ensures in
+    by-steps pre0 (λ b. s-deep if1 refuse s-end)
 
--- src/lib.rt:420:9
 arg-item-mark-requires : (t : ℕ) → arg-item-lts.Need-mark-requires (
   refuse-reads.Asked,
   refuse-reads.Learnt,
@@ -363,7 +362,6 @@ arg-item-mark-requires t c κs =
     let if1 = c .if1 .left in
     search asks depth 8
 
--- src/lib.rt:422:62
 arg-item-sub-ty-must : (t : ℕ) → arg-item-lts.Need-sub-ty-must (
   refuse-reads.Asked,
   refuse-reads.Learnt,
@@ -384,7 +382,6 @@ arg-item-sub-ty-must t c =
     let if1 = c .before .before .before .if1 .left in
     search needs
 
--- src/lib.rt:422:9
 arg-item-ty-must-requires : (t : ℕ) → arg-item-lts.Need-ty-must-requires (
   refuse-reads.Asked,
   refuse-reads.Learnt,
@@ -407,7 +404,6 @@ arg-item-ty-must-requires t c κs =
     let mark-ok = ok-marks mark pre0 in
     search asks depth 8
 
--- src/lib.rt:423:8
 arg-item-at-requires : (t : ℕ) → arg-item-lts.Need-at-requires (
   refuse-reads.Asked,
   refuse-reads.Learnt,
@@ -432,7 +428,6 @@ arg-item-at-requires t c κs =
     let ty-must-ok = ty-must .ok in
     search asks depth 8
 
--- src/lib.rt:424:13
 arg-item-bump-requires : (t : ℕ) → arg-item-lts.Need-bump-requires (
   refuse-reads.Asked,
   refuse-reads.Learnt,
@@ -459,7 +454,6 @@ arg-item-bump-requires t c κs =
     let if2 = c .before .if2 .taken in
     search asks depth 8
 
--- src/lib.rt:425:26
 arg-item-close-requires : (t : ℕ) → arg-item-lts.Need-close-requires (
   refuse-reads.Asked,
   refuse-reads.Learnt,
@@ -488,7 +482,6 @@ arg-item-close-requires t c κs =
     let bump-ok = ok-bumps bump ty-must-ok in
     search asks depth 8
 
--- src/lib.rt:425:9
 arg-item-same-length : (t : ℕ) → arg-item-lts.Need-same-length (
   refuse-reads.Asked,
   refuse-reads.Learnt,
@@ -506,7 +499,6 @@ arg-item-same-length : (t : ℕ) → arg-item-lts.Need-same-length (
 arg-item-same-length t c =
     c .before .before .close .kept .0 ∙ c .before .before .before .before .before .before .bump .kept .1 .0 ∙ c .before .before .before .before .before .before .before .before .before .before .before .before .before .before .ty-must .kept .1 .1 .1 .1 .0
 
--- src/lib.rt:425:9
 arg-item-same-length-2 : (t : ℕ) → arg-item-lts.Need-same-length-2 (
   refuse-reads.Asked,
   refuse-reads.Learnt,
@@ -524,7 +516,6 @@ arg-item-same-length-2 : (t : ℕ) → arg-item-lts.Need-same-length-2 (
 arg-item-same-length-2 t c =
     c .before .before .before .before .before .before .before .before .before .before .before .before .before .before .ty-must .kept .1 .1 .1 .1 .1 .0
 
--- src/lib.rt:425:9
 arg-item-returns-2 : (t : ℕ) → arg-item-lts.Need-returns-2 (
   refuse-reads.Asked,
   refuse-reads.Learnt,
@@ -539,25 +530,19 @@ arg-item-returns-2 : (t : ℕ) → arg-item-lts.Need-returns-2 (
   close-reads.Asked,
   close-reads.Learnt,
 ) (arg-item-at t) arg-item.Post
-unfolding util.endItem types.tyMust
+unfolding util.endItem plan choose chosen
 arg-item-returns-2 t c =
     let falls = c .before .before .before .before .before .before .before .before .before .before .before .before .before .before .before .before .before .before .before .before .before .before .before .before .before .pre .0 in
     let pre0 = c .before .before .before .before .before .before .before .before .before .before .before .before .before .before .before .before .before .before .before .before .before .before .before .before .before .pre .1 in
     let if1 = c .before .before .before .before .before .before .before .before .before .before .before .before .before .before .before .before .before .before .if1 .left in
-    let mark-is = c .before .before .before .before .before .before .before .before .before .before .before .before .before .before .before .before .before .mark .ensures in
-    let mark = nth 0 mark-is in
-    let ty-must-is = c .before .before .before .before .before .before .before .before .before .before .before .before .before .before .ty-must .ensures in
-    let ty-must = nth 1 ty-must-is in
-    let at-is = c .before .before .before .before .before .before .before .before .before .at .ensures in
-    let at = nth 2 at-is in
+    let mark = c .before .before .before .before .before .before .before .before .before .before .before .before .before .before .before .before .before .mark .ensures in
+    let ty-must = c .before .before .before .before .before .before .before .before .before .before .before .before .before .before .ty-must .ensures in
+    let at = c .before .before .before .before .before .before .before .before .before .at .ensures in
     let if2 = c .before .before .before .before .before .before .before .before .if2 .taken in
-    let bump-is = c .before .before .before .before .before .before .bump .ensures in
-    let bump = nth 3 bump-is in
-    let close-is = c .before .before .close .ensures in
-    let close = nth 4 close-is in
-    by-steps pre0 (λ b. search rules depth 60 fits 4000)
+    let bump = c .before .before .before .before .before .before .bump .ensures in
+    let close = c .before .before .close .ensures in
+    by-steps pre0 (λ b. s-mark if1 mark (s-by _ (runs-in ty-must) (s-kind (s-true _ _ (kind-at _ _ _ _ at if2) (s-bump bump (s-close close s-end))))))
 
--- src/lib.rt:427:20
 arg-item-close-requires-2 : (t : ℕ) → arg-item-lts.Need-close-requires-2 (
   refuse-reads.Asked,
   refuse-reads.Learnt,
@@ -584,7 +569,6 @@ arg-item-close-requires-2 t c κs =
     let if2 = c .before .if2 .left in
     search asks depth 8
 
--- src/lib.rt:413:1
 arg-item-same-length-3 : (t : ℕ) → arg-item-lts.Need-same-length-3 (
   refuse-reads.Asked,
   refuse-reads.Learnt,
@@ -602,7 +586,6 @@ arg-item-same-length-3 : (t : ℕ) → arg-item-lts.Need-same-length-3 (
 arg-item-same-length-3 t c =
     c .before .before .close2 .kept .0 ∙ c .before .before .before .before .before .before .before .before .before .before .ty-must .kept .1 .1 .1 .1 .0
 
--- src/lib.rt:413:1
 arg-item-same-length-4 : (t : ℕ) → arg-item-lts.Need-same-length-4 (
   refuse-reads.Asked,
   refuse-reads.Learnt,
@@ -620,7 +603,6 @@ arg-item-same-length-4 : (t : ℕ) → arg-item-lts.Need-same-length-4 (
 arg-item-same-length-4 t c =
     c .before .before .before .before .before .before .before .before .before .before .ty-must .kept .1 .1 .1 .1 .1 .0
 
--- src/lib.rt:413:1
 arg-item-returns-3 : (t : ℕ) → arg-item-lts.Need-returns-3 (
   refuse-reads.Asked,
   refuse-reads.Learnt,
@@ -635,23 +617,18 @@ arg-item-returns-3 : (t : ℕ) → arg-item-lts.Need-returns-3 (
   close-reads.Asked,
   close-reads.Learnt,
 ) (arg-item-at t) arg-item.Post
-unfolding util.endItem types.tyMust
+unfolding util.endItem plan choose chosen
 arg-item-returns-3 t c =
     let falls = c .before .before .before .before .before .before .before .before .before .before .before .before .before .before .before .before .before .before .before .before .before .pre .0 in
     let pre0 = c .before .before .before .before .before .before .before .before .before .before .before .before .before .before .before .before .before .before .before .before .before .pre .1 in
     let if1 = c .before .before .before .before .before .before .before .before .before .before .before .before .before .before .if1 .left in
-    let mark-is = c .before .before .before .before .before .before .before .before .before .before .before .before .before .mark .ensures in
-    let mark = nth 0 mark-is in
-    let ty-must-is = c .before .before .before .before .before .before .before .before .before .before .ty-must .ensures in
-    let ty-must = nth 1 ty-must-is in
-    let at-is = c .before .before .before .before .before .at .ensures in
-    let at = nth 2 at-is in
+    let mark = c .before .before .before .before .before .before .before .before .before .before .before .before .before .mark .ensures in
+    let ty-must = c .before .before .before .before .before .before .before .before .before .before .ty-must .ensures in
+    let at = c .before .before .before .before .before .at .ensures in
     let if2 = c .before .before .before .before .if2 .left in
-    let close2-is = c .before .before .close2 .ensures in
-    let close2 = nth 3 close2-is in
-    by-steps pre0 (λ b. search rules depth 60 fits 4000)
+    let close2 = c .before .before .close2 .ensures in
+    by-steps pre0 (λ b. s-mark if1 mark (s-by _ (runs-in ty-must) (s-kind (s-false _ _ (kind-off _ _ _ _ at if2) (s-close close2 s-end)))))
 
--- src/lib.rt:397:8
 arg-turn-at-requires : (t : ℕ) → arg-turn-lts.Need-at-requires (
   at-reads.Asked,
   at-reads.Learnt,
@@ -669,7 +646,6 @@ arg-turn-at-requires t c κs =
     let pre0 = c .before .before .before .before .before .before .pre .1 in
     search asks depth 8
 
--- src/lib.rt:398:31
 arg-turn-bump-requires : (t : ℕ) → arg-turn-lts.Need-bump-requires (
   at-reads.Asked,
   at-reads.Learnt,
@@ -689,7 +665,6 @@ arg-turn-bump-requires t c κs =
     let if1 = c .before .if1 .taken in
     search asks depth 8
 
--- src/lib.rt:398:9
 arg-turn-same-length : (t : ℕ) → arg-turn-lts.Need-same-length (
   at-reads.Asked,
   at-reads.Learnt,
@@ -705,7 +680,6 @@ arg-turn-same-length : (t : ℕ) → arg-turn-lts.Need-same-length (
 arg-turn-same-length t c =
     c .before .before .bump .kept .1 .0
 
--- src/lib.rt:398:9
 arg-turn-returns : (t : ℕ) → arg-turn-lts.Need-returns (
   at-reads.Asked,
   at-reads.Learnt,
@@ -718,18 +692,15 @@ arg-turn-returns : (t : ℕ) → arg-turn-lts.Need-returns (
   state-reads.Asked,
   state-reads.Learnt,
 ) (arg-turn-at t) arg-turn.Post
-unfolding util.endTurn types.tyMust
+unfolding util.endTurn plan choose chosen
 arg-turn-returns t c =
     let falls = c .before .before .before .before .before .before .before .before .before .before .before .before .pre .0 in
     let pre0 = c .before .before .before .before .before .before .before .before .before .before .before .before .pre .1 in
-    let at-is = c .before .before .before .before .before .at .ensures in
-    let at = nth 0 at-is in
+    let at = c .before .before .before .before .before .at .ensures in
     let if1 = c .before .before .before .before .if1 .taken in
-    let bump-is = c .before .before .bump .ensures in
-    let bump = nth 1 bump-is in
-    by-steps pre0 (λ b. search rules depth 60 fits 4000)
+    let bump = c .before .before .bump .ensures in
+    by-steps pre0 (λ b. s-kind (s-true _ _ (kind-at _ _ _ _ at if1) (s-bump bump s-end)))
 
--- src/lib.rt:400:9
 arg-turn-arg-item-requires : (t : ℕ) → arg-turn-lts.Need-arg-item-requires (
   at-reads.Asked,
   at-reads.Learnt,
@@ -749,7 +720,6 @@ arg-turn-arg-item-requires t c κs =
     let if1 = c .before .before .if1 .left in
     search asks depth 8
 
--- src/lib.rt:402:19
 arg-turn-enum-known-item : (t : ℕ) → arg-turn-lts.Need-enum-known-item (
   at-reads.Asked,
   at-reads.Learnt,
@@ -768,7 +738,6 @@ arg-turn-enum-known-item t c =
     let if1 = c .before .before .before .before .before .before .before .before .if1 .left in
     search needs
 
--- src/lib.rt:403:24
 arg-turn-enum-known-item-2 : (t : ℕ) → arg-turn-lts.Need-enum-known-item-2 (
   at-reads.Asked,
   at-reads.Learnt,
@@ -787,7 +756,6 @@ arg-turn-enum-known-item-2 t c =
     let if1 = c .before .before .before .before .before .before .before .before .if1 .left in
     search needs
 
--- src/lib.rt:404:17
 arg-turn-eat-requires : (t : ℕ) → arg-turn-lts.Need-eat-requires (
   at-reads.Asked,
   at-reads.Learnt,
@@ -809,7 +777,6 @@ arg-turn-eat-requires t c κs =
     let arg-item-ok = arg-item .ok in
     search asks depth 8
 
--- src/lib.rt:405:17
 arg-turn-state-requires : (t : ℕ) → arg-turn-lts.Need-state-requires (
   at-reads.Asked,
   at-reads.Learnt,
@@ -833,7 +800,6 @@ arg-turn-state-requires t c κs =
     let eat-ok = eat .ok in
     search asks depth 8
 
--- src/lib.rt:393:1
 arg-turn-same-length-2 : (t : ℕ) → arg-turn-lts.Need-same-length-2 (
   at-reads.Asked,
   at-reads.Learnt,
@@ -849,7 +815,6 @@ arg-turn-same-length-2 : (t : ℕ) → arg-turn-lts.Need-same-length-2 (
 arg-turn-same-length-2 t c =
     c .before .before .before .before .before .before .before .arg-item .kept .1 .1 .1 .1 .0
 
--- src/lib.rt:393:1
 arg-turn-same-length-3 : (t : ℕ) → arg-turn-lts.Need-same-length-3 (
   at-reads.Asked,
   at-reads.Learnt,
@@ -865,7 +830,6 @@ arg-turn-same-length-3 : (t : ℕ) → arg-turn-lts.Need-same-length-3 (
 arg-turn-same-length-3 t c =
     c .before .before .before .before .before .before .before .arg-item .kept .1 .1 .1 .1 .1 .0
 
--- src/lib.rt:393:1
 arg-turn-returns-2 : (t : ℕ) → arg-turn-lts.Need-returns-2 (
   at-reads.Asked,
   at-reads.Learnt,
@@ -878,18 +842,15 @@ arg-turn-returns-2 : (t : ℕ) → arg-turn-lts.Need-returns-2 (
   state-reads.Asked,
   state-reads.Learnt,
 ) (arg-turn-at t) arg-turn.Post
-unfolding util.endTurn types.tyMust
+unfolding util.endTurn plan choose chosen
 arg-turn-returns-2 t c =
     let falls = c .before .before .before .before .before .before .before .before .before .before .before .before .before .before .before .before .before .before .pre .0 in
     let pre0 = c .before .before .before .before .before .before .before .before .before .before .before .before .before .before .before .before .before .before .pre .1 in
-    let at-is = c .before .before .before .before .before .before .before .before .before .before .before .at .ensures in
-    let at = nth 0 at-is in
+    let at = c .before .before .before .before .before .before .before .before .before .before .before .at .ensures in
     let if1 = c .before .before .before .before .before .before .before .before .before .before .if1 .left in
-    let arg-item-is = rw (c .before .item .given .1) at (c .before .before .before .before .before .before .before .arg-item .ensures) in
-    let arg-item = nth 1 arg-item-is in
-    by-steps pre0 (λ b. search rules depth 60 fits 4000)
+    let arg-item = rw (c .before .item .given .1) at (c .before .before .before .before .before .before .before .arg-item .ensures) in
+    by-steps pre0 (λ b. s-kind (s-false _ _ (kind-off _ _ _ _ at if1) (s-by _ (runs-in arg-item) s-end)))
 
--- src/lib.rt:393:1
 arg-turn-same-length-4 : (t : ℕ) → arg-turn-lts.Need-same-length-4 (
   at-reads.Asked,
   at-reads.Learnt,
@@ -905,7 +866,6 @@ arg-turn-same-length-4 : (t : ℕ) → arg-turn-lts.Need-same-length-4 (
 arg-turn-same-length-4 t c =
     c .before .before .before .before .before .eat .kept .1 .1 .1 .1 .0 ∙ c .before .before .before .before .before .before .before .before .before .before .before .before .before .before .before .arg-item .kept .1 .1 .1 .1 .0
 
--- src/lib.rt:393:1
 arg-turn-same-length-5 : (t : ℕ) → arg-turn-lts.Need-same-length-5 (
   at-reads.Asked,
   at-reads.Learnt,
@@ -921,7 +881,6 @@ arg-turn-same-length-5 : (t : ℕ) → arg-turn-lts.Need-same-length-5 (
 arg-turn-same-length-5 t c =
     c .before .before .before .before .before .eat .kept .1 .1 .1 .1 .1 .0 ∙ c .before .before .before .before .before .before .before .before .before .before .before .before .before .before .before .arg-item .kept .1 .1 .1 .1 .1 .0
 
--- src/lib.rt:393:1
 arg-turn-returns-3 : (t : ℕ) → arg-turn-lts.Need-returns-3 (
   at-reads.Asked,
   at-reads.Learnt,
@@ -934,22 +893,17 @@ arg-turn-returns-3 : (t : ℕ) → arg-turn-lts.Need-returns-3 (
   state-reads.Asked,
   state-reads.Learnt,
 ) (arg-turn-at t) arg-turn.Post
-unfolding util.endTurn types.tyMust
+unfolding util.endTurn plan choose chosen
 arg-turn-returns-3 t c =
     let falls = c .before .before .before .before .before .before .before .before .before .before .before .before .before .before .before .before .before .before .before .before .before .before .before .before .before .before .pre .0 in
     let pre0 = c .before .before .before .before .before .before .before .before .before .before .before .before .before .before .before .before .before .before .before .before .before .before .before .before .before .before .pre .1 in
-    let at-is = c .before .before .before .before .before .before .before .before .before .before .before .before .before .before .before .before .before .before .before .at .ensures in
-    let at = nth 0 at-is in
+    let at = c .before .before .before .before .before .before .before .before .before .before .before .before .before .before .before .before .before .before .before .at .ensures in
     let if1 = c .before .before .before .before .before .before .before .before .before .before .before .before .before .before .before .before .before .before .if1 .left in
-    let arg-item-is = rw (c .before .before .before .before .before .before .before .before .before .item2 .given .1) at (c .before .before .before .before .before .before .before .before .before .before .before .before .before .before .before .arg-item .ensures) in
-    let arg-item = nth 1 arg-item-is in
-    let eat-is = c .before .before .before .before .before .eat .ensures in
-    let eat = nth 2 eat-is in
-    let state-is = c .state .ensures in
-    let state = nth 3 state-is in
-    by-steps pre0 (λ b. search rules depth 60 fits 4000)
+    let arg-item = rw (c .before .before .before .before .before .before .before .before .before .item2 .given .1) at (c .before .before .before .before .before .before .before .before .before .before .before .before .before .before .before .arg-item .ensures) in
+    let eat = c .before .before .before .before .before .eat .ensures in
+    let state = c .state .ensures in
+    by-steps pre0 (λ b. s-kind (s-false _ _ (kind-off _ _ _ _ at if1) (s-by _ (runs-in arg-item) (s-by _ (settled state (runs-always eat)) s-end))))
 
--- src/lib.rt:351:31
 row-item-refuse-requires : (t : ℕ) → row-item-lts.Need-refuse-requires (
   refuse-reads.Asked,
   refuse-reads.Learnt,
@@ -970,7 +924,6 @@ row-item-refuse-requires t c κs =
     let if1 = c .if1 .taken in
     search asks depth 8
 
--- src/lib.rt:351:9
 row-item-returns : (t : ℕ) → row-item-lts.Need-returns (
   refuse-reads.Asked,
   refuse-reads.Learnt,
@@ -985,16 +938,14 @@ row-item-returns : (t : ℕ) → row-item-lts.Need-returns (
   close-reads.Asked,
   close-reads.Learnt,
 ) (row-item-at t) row-item.Post
-unfolding util.endItem types.tyRow
+unfolding util.endItem plan choose chosen
 row-item-returns t c =
     let falls = c .before .before .before .before .before .before .before .before .pre .0 in
     let pre0 = c .before .before .before .before .before .before .before .before .pre .1 in
     let if1 = c .before .if1 .taken in
-    let refuse-is = c .refuse .ensures in
-    let refuse = nth 0 refuse-is in
-    by-steps pre0 (λ b. search rules depth 60 fits 4000)
+    let refuse = c .refuse .ensures in
+    by-steps pre0 (λ b. s-deep if1 refuse s-end)
 
--- src/lib.rt:353:9
 row-item-mark-requires : (t : ℕ) → row-item-lts.Need-mark-requires (
   refuse-reads.Asked,
   refuse-reads.Learnt,
@@ -1015,7 +966,6 @@ row-item-mark-requires t c κs =
     let if1 = c .if1 .left in
     search asks depth 8
 
--- src/lib.rt:355:61
 row-item-sub-ty-row : (t : ℕ) → row-item-lts.Need-sub-ty-row (
   refuse-reads.Asked,
   refuse-reads.Learnt,
@@ -1036,7 +986,6 @@ row-item-sub-ty-row t c =
     let if1 = c .before .before .before .if1 .left in
     search needs
 
--- src/lib.rt:355:9
 row-item-ty-row-requires : (t : ℕ) → row-item-lts.Need-ty-row-requires (
   refuse-reads.Asked,
   refuse-reads.Learnt,
@@ -1059,7 +1008,6 @@ row-item-ty-row-requires t c κs =
     let mark-ok = ok-marks mark pre0 in
     search asks depth 8
 
--- src/lib.rt:356:8
 row-item-at-requires : (t : ℕ) → row-item-lts.Need-at-requires (
   refuse-reads.Asked,
   refuse-reads.Learnt,
@@ -1084,7 +1032,6 @@ row-item-at-requires t c κs =
     let ty-row-ok = ty-row .ok in
     search asks depth 8
 
--- src/lib.rt:357:13
 row-item-bump-requires : (t : ℕ) → row-item-lts.Need-bump-requires (
   refuse-reads.Asked,
   refuse-reads.Learnt,
@@ -1111,7 +1058,6 @@ row-item-bump-requires t c κs =
     let if2 = c .before .if2 .taken in
     search asks depth 8
 
--- src/lib.rt:358:26
 row-item-close-requires : (t : ℕ) → row-item-lts.Need-close-requires (
   refuse-reads.Asked,
   refuse-reads.Learnt,
@@ -1140,7 +1086,6 @@ row-item-close-requires t c κs =
     let bump-ok = ok-bumps bump ty-row-ok in
     search asks depth 8
 
--- src/lib.rt:358:9
 row-item-same-length : (t : ℕ) → row-item-lts.Need-same-length (
   refuse-reads.Asked,
   refuse-reads.Learnt,
@@ -1158,7 +1103,6 @@ row-item-same-length : (t : ℕ) → row-item-lts.Need-same-length (
 row-item-same-length t c =
     c .before .before .close .kept .0 ∙ c .before .before .before .before .before .before .bump .kept .1 .0 ∙ c .before .before .before .before .before .before .before .before .before .before .before .before .before .before .ty-row .kept .1 .1 .1 .1 .0
 
--- src/lib.rt:358:9
 row-item-same-length-2 : (t : ℕ) → row-item-lts.Need-same-length-2 (
   refuse-reads.Asked,
   refuse-reads.Learnt,
@@ -1176,7 +1120,6 @@ row-item-same-length-2 : (t : ℕ) → row-item-lts.Need-same-length-2 (
 row-item-same-length-2 t c =
     c .before .before .before .before .before .before .before .before .before .before .before .before .before .before .ty-row .kept .1 .1 .1 .1 .1 .0
 
--- src/lib.rt:358:9
 row-item-returns-2 : (t : ℕ) → row-item-lts.Need-returns-2 (
   refuse-reads.Asked,
   refuse-reads.Learnt,
@@ -1191,25 +1134,19 @@ row-item-returns-2 : (t : ℕ) → row-item-lts.Need-returns-2 (
   close-reads.Asked,
   close-reads.Learnt,
 ) (row-item-at t) row-item.Post
-unfolding util.endItem types.tyRow
+unfolding util.endItem plan choose chosen
 row-item-returns-2 t c =
     let falls = c .before .before .before .before .before .before .before .before .before .before .before .before .before .before .before .before .before .before .before .before .before .before .before .before .before .pre .0 in
     let pre0 = c .before .before .before .before .before .before .before .before .before .before .before .before .before .before .before .before .before .before .before .before .before .before .before .before .before .pre .1 in
     let if1 = c .before .before .before .before .before .before .before .before .before .before .before .before .before .before .before .before .before .before .if1 .left in
-    let mark-is = c .before .before .before .before .before .before .before .before .before .before .before .before .before .before .before .before .before .mark .ensures in
-    let mark = nth 0 mark-is in
-    let ty-row-is = c .before .before .before .before .before .before .before .before .before .before .before .before .before .before .ty-row .ensures in
-    let ty-row = nth 1 ty-row-is in
-    let at-is = c .before .before .before .before .before .before .before .before .before .at .ensures in
-    let at = nth 2 at-is in
+    let mark = c .before .before .before .before .before .before .before .before .before .before .before .before .before .before .before .before .before .mark .ensures in
+    let ty-row = c .before .before .before .before .before .before .before .before .before .before .before .before .before .before .ty-row .ensures in
+    let at = c .before .before .before .before .before .before .before .before .before .at .ensures in
     let if2 = c .before .before .before .before .before .before .before .before .if2 .taken in
-    let bump-is = c .before .before .before .before .before .before .bump .ensures in
-    let bump = nth 3 bump-is in
-    let close-is = c .before .before .close .ensures in
-    let close = nth 4 close-is in
-    by-steps pre0 (λ b. search rules depth 60 fits 4000)
+    let bump = c .before .before .before .before .before .before .bump .ensures in
+    let close = c .before .before .close .ensures in
+    by-steps pre0 (λ b. s-mark if1 mark (s-by _ (runs-in ty-row) (s-kind (s-true _ _ (kind-at _ _ _ _ at if2) (s-bump bump (s-close close s-end))))))
 
--- src/lib.rt:360:20
 row-item-close-requires-2 : (t : ℕ) → row-item-lts.Need-close-requires-2 (
   refuse-reads.Asked,
   refuse-reads.Learnt,
@@ -1236,7 +1173,6 @@ row-item-close-requires-2 t c κs =
     let if2 = c .before .if2 .left in
     search asks depth 8
 
--- src/lib.rt:346:1
 row-item-same-length-3 : (t : ℕ) → row-item-lts.Need-same-length-3 (
   refuse-reads.Asked,
   refuse-reads.Learnt,
@@ -1254,7 +1190,6 @@ row-item-same-length-3 : (t : ℕ) → row-item-lts.Need-same-length-3 (
 row-item-same-length-3 t c =
     c .before .before .close2 .kept .0 ∙ c .before .before .before .before .before .before .before .before .before .before .ty-row .kept .1 .1 .1 .1 .0
 
--- src/lib.rt:346:1
 row-item-same-length-4 : (t : ℕ) → row-item-lts.Need-same-length-4 (
   refuse-reads.Asked,
   refuse-reads.Learnt,
@@ -1272,7 +1207,6 @@ row-item-same-length-4 : (t : ℕ) → row-item-lts.Need-same-length-4 (
 row-item-same-length-4 t c =
     c .before .before .before .before .before .before .before .before .before .before .ty-row .kept .1 .1 .1 .1 .1 .0
 
--- src/lib.rt:346:1
 row-item-returns-3 : (t : ℕ) → row-item-lts.Need-returns-3 (
   refuse-reads.Asked,
   refuse-reads.Learnt,
@@ -1287,23 +1221,18 @@ row-item-returns-3 : (t : ℕ) → row-item-lts.Need-returns-3 (
   close-reads.Asked,
   close-reads.Learnt,
 ) (row-item-at t) row-item.Post
-unfolding util.endItem types.tyRow
+unfolding util.endItem plan choose chosen
 row-item-returns-3 t c =
     let falls = c .before .before .before .before .before .before .before .before .before .before .before .before .before .before .before .before .before .before .before .before .before .pre .0 in
     let pre0 = c .before .before .before .before .before .before .before .before .before .before .before .before .before .before .before .before .before .before .before .before .before .pre .1 in
     let if1 = c .before .before .before .before .before .before .before .before .before .before .before .before .before .before .if1 .left in
-    let mark-is = c .before .before .before .before .before .before .before .before .before .before .before .before .before .mark .ensures in
-    let mark = nth 0 mark-is in
-    let ty-row-is = c .before .before .before .before .before .before .before .before .before .before .ty-row .ensures in
-    let ty-row = nth 1 ty-row-is in
-    let at-is = c .before .before .before .before .before .at .ensures in
-    let at = nth 2 at-is in
+    let mark = c .before .before .before .before .before .before .before .before .before .before .before .before .before .mark .ensures in
+    let ty-row = c .before .before .before .before .before .before .before .before .before .before .ty-row .ensures in
+    let at = c .before .before .before .before .before .at .ensures in
     let if2 = c .before .before .before .before .if2 .left in
-    let close2-is = c .before .before .close2 .ensures in
-    let close2 = nth 3 close2-is in
-    by-steps pre0 (λ b. search rules depth 60 fits 4000)
+    let close2 = c .before .before .close2 .ensures in
+    by-steps pre0 (λ b. s-mark if1 mark (s-by _ (runs-in ty-row) (s-kind (s-false _ _ (kind-off _ _ _ _ at if2) (s-close close2 s-end)))))
 
--- src/lib.rt:330:8
 row-turn-at-requires : (t : ℕ) → row-turn-lts.Need-at-requires (
   at-reads.Asked,
   at-reads.Learnt,
@@ -1321,7 +1250,6 @@ row-turn-at-requires t c κs =
     let pre0 = c .before .before .before .before .before .before .pre .1 in
     search asks depth 8
 
--- src/lib.rt:331:31
 row-turn-bump-requires : (t : ℕ) → row-turn-lts.Need-bump-requires (
   at-reads.Asked,
   at-reads.Learnt,
@@ -1341,7 +1269,6 @@ row-turn-bump-requires t c κs =
     let if1 = c .before .if1 .taken in
     search asks depth 8
 
--- src/lib.rt:331:9
 row-turn-same-length : (t : ℕ) → row-turn-lts.Need-same-length (
   at-reads.Asked,
   at-reads.Learnt,
@@ -1357,7 +1284,6 @@ row-turn-same-length : (t : ℕ) → row-turn-lts.Need-same-length (
 row-turn-same-length t c =
     c .before .before .bump .kept .1 .0
 
--- src/lib.rt:331:9
 row-turn-returns : (t : ℕ) → row-turn-lts.Need-returns (
   at-reads.Asked,
   at-reads.Learnt,
@@ -1370,18 +1296,15 @@ row-turn-returns : (t : ℕ) → row-turn-lts.Need-returns (
   state-reads.Asked,
   state-reads.Learnt,
 ) (row-turn-at t) row-turn.Post
-unfolding util.endTurn types.tyRow
+unfolding util.endTurn plan choose chosen
 row-turn-returns t c =
     let falls = c .before .before .before .before .before .before .before .before .before .before .before .before .pre .0 in
     let pre0 = c .before .before .before .before .before .before .before .before .before .before .before .before .pre .1 in
-    let at-is = c .before .before .before .before .before .at .ensures in
-    let at = nth 0 at-is in
+    let at = c .before .before .before .before .before .at .ensures in
     let if1 = c .before .before .before .before .if1 .taken in
-    let bump-is = c .before .before .bump .ensures in
-    let bump = nth 1 bump-is in
-    by-steps pre0 (λ b. search rules depth 60 fits 4000)
+    let bump = c .before .before .bump .ensures in
+    by-steps pre0 (λ b. s-kind (s-true _ _ (kind-at _ _ _ _ at if1) (s-bump bump s-end)))
 
--- src/lib.rt:333:9
 row-turn-row-item-requires : (t : ℕ) → row-turn-lts.Need-row-item-requires (
   at-reads.Asked,
   at-reads.Learnt,
@@ -1401,7 +1324,6 @@ row-turn-row-item-requires t c κs =
     let if1 = c .before .before .if1 .left in
     search asks depth 8
 
--- src/lib.rt:335:19
 row-turn-enum-known-item : (t : ℕ) → row-turn-lts.Need-enum-known-item (
   at-reads.Asked,
   at-reads.Learnt,
@@ -1420,7 +1342,6 @@ row-turn-enum-known-item t c =
     let if1 = c .before .before .before .before .before .before .before .before .if1 .left in
     search needs
 
--- src/lib.rt:336:24
 row-turn-enum-known-item-2 : (t : ℕ) → row-turn-lts.Need-enum-known-item-2 (
   at-reads.Asked,
   at-reads.Learnt,
@@ -1439,7 +1360,6 @@ row-turn-enum-known-item-2 t c =
     let if1 = c .before .before .before .before .before .before .before .before .if1 .left in
     search needs
 
--- src/lib.rt:337:17
 row-turn-eat-requires : (t : ℕ) → row-turn-lts.Need-eat-requires (
   at-reads.Asked,
   at-reads.Learnt,
@@ -1461,7 +1381,6 @@ row-turn-eat-requires t c κs =
     let row-item-ok = row-item .ok in
     search asks depth 8
 
--- src/lib.rt:338:17
 row-turn-state-requires : (t : ℕ) → row-turn-lts.Need-state-requires (
   at-reads.Asked,
   at-reads.Learnt,
@@ -1485,7 +1404,6 @@ row-turn-state-requires t c κs =
     let eat-ok = eat .ok in
     search asks depth 8
 
--- src/lib.rt:326:1
 row-turn-same-length-2 : (t : ℕ) → row-turn-lts.Need-same-length-2 (
   at-reads.Asked,
   at-reads.Learnt,
@@ -1501,7 +1419,6 @@ row-turn-same-length-2 : (t : ℕ) → row-turn-lts.Need-same-length-2 (
 row-turn-same-length-2 t c =
     c .before .before .before .before .before .before .before .row-item .kept .1 .1 .1 .1 .0
 
--- src/lib.rt:326:1
 row-turn-same-length-3 : (t : ℕ) → row-turn-lts.Need-same-length-3 (
   at-reads.Asked,
   at-reads.Learnt,
@@ -1517,7 +1434,6 @@ row-turn-same-length-3 : (t : ℕ) → row-turn-lts.Need-same-length-3 (
 row-turn-same-length-3 t c =
     c .before .before .before .before .before .before .before .row-item .kept .1 .1 .1 .1 .1 .0
 
--- src/lib.rt:326:1
 row-turn-returns-2 : (t : ℕ) → row-turn-lts.Need-returns-2 (
   at-reads.Asked,
   at-reads.Learnt,
@@ -1530,18 +1446,15 @@ row-turn-returns-2 : (t : ℕ) → row-turn-lts.Need-returns-2 (
   state-reads.Asked,
   state-reads.Learnt,
 ) (row-turn-at t) row-turn.Post
-unfolding util.endTurn types.tyRow
+unfolding util.endTurn plan choose chosen
 row-turn-returns-2 t c =
     let falls = c .before .before .before .before .before .before .before .before .before .before .before .before .before .before .before .before .before .before .pre .0 in
     let pre0 = c .before .before .before .before .before .before .before .before .before .before .before .before .before .before .before .before .before .before .pre .1 in
-    let at-is = c .before .before .before .before .before .before .before .before .before .before .before .at .ensures in
-    let at = nth 0 at-is in
+    let at = c .before .before .before .before .before .before .before .before .before .before .before .at .ensures in
     let if1 = c .before .before .before .before .before .before .before .before .before .before .if1 .left in
-    let row-item-is = rw (c .before .item .given .1) at (c .before .before .before .before .before .before .before .row-item .ensures) in
-    let row-item = nth 1 row-item-is in
-    by-steps pre0 (λ b. search rules depth 60 fits 4000)
+    let row-item = rw (c .before .item .given .1) at (c .before .before .before .before .before .before .before .row-item .ensures) in
+    by-steps pre0 (λ b. s-kind (s-false _ _ (kind-off _ _ _ _ at if1) (s-by _ (runs-in row-item) s-end)))
 
--- src/lib.rt:326:1
 row-turn-same-length-4 : (t : ℕ) → row-turn-lts.Need-same-length-4 (
   at-reads.Asked,
   at-reads.Learnt,
@@ -1557,7 +1470,6 @@ row-turn-same-length-4 : (t : ℕ) → row-turn-lts.Need-same-length-4 (
 row-turn-same-length-4 t c =
     c .before .before .before .before .before .eat .kept .1 .1 .1 .1 .0 ∙ c .before .before .before .before .before .before .before .before .before .before .before .before .before .before .before .row-item .kept .1 .1 .1 .1 .0
 
--- src/lib.rt:326:1
 row-turn-same-length-5 : (t : ℕ) → row-turn-lts.Need-same-length-5 (
   at-reads.Asked,
   at-reads.Learnt,
@@ -1573,7 +1485,6 @@ row-turn-same-length-5 : (t : ℕ) → row-turn-lts.Need-same-length-5 (
 row-turn-same-length-5 t c =
     c .before .before .before .before .before .eat .kept .1 .1 .1 .1 .1 .0 ∙ c .before .before .before .before .before .before .before .before .before .before .before .before .before .before .before .row-item .kept .1 .1 .1 .1 .1 .0
 
--- src/lib.rt:326:1
 row-turn-returns-3 : (t : ℕ) → row-turn-lts.Need-returns-3 (
   at-reads.Asked,
   at-reads.Learnt,
@@ -1586,22 +1497,17 @@ row-turn-returns-3 : (t : ℕ) → row-turn-lts.Need-returns-3 (
   state-reads.Asked,
   state-reads.Learnt,
 ) (row-turn-at t) row-turn.Post
-unfolding util.endTurn types.tyRow
+unfolding util.endTurn plan choose chosen
 row-turn-returns-3 t c =
     let falls = c .before .before .before .before .before .before .before .before .before .before .before .before .before .before .before .before .before .before .before .before .before .before .before .before .before .before .pre .0 in
     let pre0 = c .before .before .before .before .before .before .before .before .before .before .before .before .before .before .before .before .before .before .before .before .before .before .before .before .before .before .pre .1 in
-    let at-is = c .before .before .before .before .before .before .before .before .before .before .before .before .before .before .before .before .before .before .before .at .ensures in
-    let at = nth 0 at-is in
+    let at = c .before .before .before .before .before .before .before .before .before .before .before .before .before .before .before .before .before .before .before .at .ensures in
     let if1 = c .before .before .before .before .before .before .before .before .before .before .before .before .before .before .before .before .before .before .if1 .left in
-    let row-item-is = rw (c .before .before .before .before .before .before .before .before .before .item2 .given .1) at (c .before .before .before .before .before .before .before .before .before .before .before .before .before .before .before .row-item .ensures) in
-    let row-item = nth 1 row-item-is in
-    let eat-is = c .before .before .before .before .before .eat .ensures in
-    let eat = nth 2 eat-is in
-    let state-is = c .state .ensures in
-    let state = nth 3 state-is in
-    by-steps pre0 (λ b. search rules depth 60 fits 4000)
+    let row-item = rw (c .before .before .before .before .before .before .before .before .before .item2 .given .1) at (c .before .before .before .before .before .before .before .before .before .before .before .before .before .before .before .row-item .ensures) in
+    let eat = c .before .before .before .before .before .eat .ensures in
+    let state = c .state .ensures in
+    by-steps pre0 (λ b. s-kind (s-false _ _ (kind-off _ _ _ _ at if1) (s-by _ (runs-in row-item) (s-by _ (settled state (runs-always eat)) s-end))))
 
--- src/lib.rt:298:9
 star-factor-refuse-requires : (t : ℕ) → star-factor-lts.Need-refuse-requires (
   refuse-reads.Asked,
   refuse-reads.Learnt,
@@ -1620,7 +1526,6 @@ star-factor-refuse-requires t c κs =
     let if1 = c .if1 .taken in
     search asks depth 8
 
--- src/lib.rt:298:9
 star-factor-returns : (t : ℕ) → star-factor-lts.Need-returns (
   refuse-reads.Asked,
   refuse-reads.Learnt,
@@ -1633,16 +1538,14 @@ star-factor-returns : (t : ℕ) → star-factor-lts.Need-returns (
   close-reads.Asked,
   close-reads.Learnt,
 ) (star-factor-at t) star-factor.Post
-unfolding types.starFactor
+unfolding types.starFactor plan choose chosen
 star-factor-returns t c =
     let falls = c .before .before .before .before .before .before .before .before .pre .0 in
     let pre0 = c .before .before .before .before .before .before .before .before .pre .1 in
     let if1 = c .before .if1 .taken in
-    let refuse-is = c .refuse .ensures in
-    let refuse = nth 0 refuse-is in
-    by-steps pre0 (λ b. search rules depth 60 fits 4000)
+    let refuse = c .refuse .ensures in
+    by-steps pre0 (λ b. s-deep if1 refuse s-end)
 
--- src/lib.rt:300:9
 star-factor-mark-requires : (t : ℕ) → star-factor-lts.Need-mark-requires (
   refuse-reads.Asked,
   refuse-reads.Learnt,
@@ -1661,7 +1564,6 @@ star-factor-mark-requires t c κs =
     let if1 = c .if1 .left in
     search asks depth 8
 
--- src/lib.rt:302:9
 star-factor-bump-requires : (t : ℕ) → star-factor-lts.Need-bump-requires (
   refuse-reads.Asked,
   refuse-reads.Learnt,
@@ -1682,7 +1584,6 @@ star-factor-bump-requires t c κs =
     let mark-ok = ok-marks mark pre0 in
     search asks depth 8
 
--- src/lib.rt:303:62
 star-factor-sub-ty-must : (t : ℕ) → star-factor-lts.Need-sub-ty-must (
   refuse-reads.Asked,
   refuse-reads.Learnt,
@@ -1701,7 +1602,6 @@ star-factor-sub-ty-must t c =
     let if1 = c .before .before .before .before .before .before .before .if1 .left in
     search needs
 
--- src/lib.rt:303:9
 star-factor-ty-must-requires : (t : ℕ) → star-factor-lts.Need-ty-must-requires (
   refuse-reads.Asked,
   refuse-reads.Learnt,
@@ -1724,7 +1624,6 @@ star-factor-ty-must-requires t c κs =
     let bump-ok = ok-bumps bump mark-ok in
     search asks depth 8
 
--- src/lib.rt:304:5
 star-factor-close-requires : (t : ℕ) → star-factor-lts.Need-close-requires (
   refuse-reads.Asked,
   refuse-reads.Learnt,
@@ -1749,7 +1648,6 @@ star-factor-close-requires t c κs =
     let ty-must-ok = ty-must .ok in
     search asks depth 8
 
--- src/lib.rt:293:1
 star-factor-same-length : (t : ℕ) → star-factor-lts.Need-same-length (
   refuse-reads.Asked,
   refuse-reads.Learnt,
@@ -1765,7 +1663,6 @@ star-factor-same-length : (t : ℕ) → star-factor-lts.Need-same-length (
 star-factor-same-length t c =
     c .before .before .close .kept .0 ∙ c .before .before .before .before .before .before .before .before .ty-must .kept .1 .1 .1 .1 .0 ∙ c .before .before .before .before .before .before .before .before .before .before .before .before .before .bump .kept .1 .0
 
--- src/lib.rt:293:1
 star-factor-same-length-2 : (t : ℕ) → star-factor-lts.Need-same-length-2 (
   refuse-reads.Asked,
   refuse-reads.Learnt,
@@ -1781,7 +1678,6 @@ star-factor-same-length-2 : (t : ℕ) → star-factor-lts.Need-same-length-2 (
 star-factor-same-length-2 t c =
     c .before .before .before .before .before .before .before .before .ty-must .kept .1 .1 .1 .1 .1 .0
 
--- src/lib.rt:293:1
 star-factor-returns-2 : (t : ℕ) → star-factor-lts.Need-returns-2 (
   refuse-reads.Asked,
   refuse-reads.Learnt,
@@ -1794,20 +1690,16 @@ star-factor-returns-2 : (t : ℕ) → star-factor-lts.Need-returns-2 (
   close-reads.Asked,
   close-reads.Learnt,
 ) (star-factor-at t) star-factor.Post
-unfolding types.starFactor
+unfolding types.starFactor plan choose chosen
 star-factor-returns-2 t c =
     let falls = c .before .before .before .before .before .before .before .before .before .before .before .before .before .before .before .before .before .before .before .before .before .before .before .pre .0 in
     let pre0 = c .before .before .before .before .before .before .before .before .before .before .before .before .before .before .before .before .before .before .before .before .before .before .before .pre .1 in
     let if1 = c .before .before .before .before .before .before .before .before .before .before .before .before .before .before .before .before .if1 .left in
-    let mark-is = c .before .before .before .before .before .before .before .before .before .before .before .before .before .before .before .mark .ensures in
-    let mark = nth 0 mark-is in
-    let bump-is = c .before .before .before .before .before .before .before .before .before .before .before .before .before .bump .ensures in
-    let bump = nth 1 bump-is in
-    let ty-must-is = c .before .before .before .before .before .before .before .before .ty-must .ensures in
-    let ty-must = nth 2 ty-must-is in
-    let close-is = c .before .before .close .ensures in
-    let close = nth 3 close-is in
-    by-steps pre0 (λ b. search rules depth 60 fits 4000)
+    let mark = c .before .before .before .before .before .before .before .before .before .before .before .before .before .before .before .mark .ensures in
+    let bump = c .before .before .before .before .before .before .before .before .before .before .before .before .before .bump .ensures in
+    let ty-must = c .before .before .before .before .before .before .before .before .ty-must .ensures in
+    let close = c .before .before .close .ensures in
+    by-steps pre0 (λ b. s-mark if1 mark (s-bump bump (s-by _ (runs-in ty-must) (s-close close s-end))))
 
 abbrev star-tail-Inv-loop : star-tail-lts.InvT-loop
 star-tail-Inv-loop text toks env table scratch₀ finds₀ left b s1₀ scratch finds s1 =
@@ -1816,7 +1708,6 @@ star-tail-Inv-loop text toks env table scratch₀ finds₀ left b s1₀ scratch 
 abbrev star-tail-μ-loop : star-tail-lts.MeasureT-loop
 star-tail-μ-loop text toks env table scratch₀ finds₀ left b s1₀ scratch finds s1 = turns (mem text toks env table scratch finds s1)
 
--- src/lib.rt:269:5
 star-tail-loop-holds :
     (t : ℕ) →
     star-tail-lts.Need-loop-holds
@@ -1830,7 +1721,6 @@ star-tail-loop-holds t c =
     let pre0 = c .before .before .before .before .before .before .pre .1 in
     (loop-starts pre0, refl, refl)
 
--- src/lib.rt:270:13
 star-tail-star-turn-requires : (t : ℕ) → star-tail-lts.Need-star-turn-requires (
   star-turn-below t,
   star-turn.Post,
@@ -1841,7 +1731,6 @@ star-tail-star-turn-requires t c κs =
     let inv = c .before .before .loop .inv .0 .ok in
     search asks depth 8
 
--- src/lib.rt:272:23
 star-tail-enum-known-turn : (t : ℕ) → star-tail-lts.Need-enum-known-turn (
   star-turn-below t,
   star-turn.Post,
@@ -1851,7 +1740,6 @@ star-tail-enum-known-turn t c =
     let pre0 = c .before .before .before .before .before .before .before .before .before .before .before .before .before .before .before .pre .1 in
     search needs
 
--- src/lib.rt:269:5
 star-tail-loop-less :
     (t : ℕ) →
     star-tail-lts.Need-loop-less
@@ -1864,7 +1752,6 @@ star-tail-loop-less t c =
     let star-turn = runs-in {b = 0} (rw (c .before .turn .given .1) at (c .before .before .before .before .before .before .before .star-turn .ensures)) in
     loop-falls (star-advances _ _) star-turn
 
--- src/lib.rt:269:5
 star-tail-loop-again :
     (t : ℕ) →
     star-tail-lts.Need-loop-again
@@ -1877,7 +1764,6 @@ star-tail-loop-again t c =
     let star-turn = runs-in (rw (c .before .turn .given .1) at (c .before .before .before .before .before .before .before .star-turn .ensures)) in
     (loop-goes (star-advances _ _) (c .before .before .before .before .before .before .before .before .before .before .loop .inv .0) star-turn, c .before .before .before .before .before .before .before .star-turn .kept .1 .1 .1 .1 .0 ∙ c .before .before .before .before .before .before .before .before .before .before .loop .inv .1, c .before .before .before .before .before .before .before .star-turn .kept .1 .1 .1 .1 .1 .0 ∙ c .before .before .before .before .before .before .before .before .before .before .loop .inv .2)
 
--- src/lib.rt:273:28
 star-tail-enum-known-turn-2 : (t : ℕ) → star-tail-lts.Need-enum-known-turn-2 (
   star-turn-below t,
   star-turn.Post,
@@ -1887,7 +1773,6 @@ star-tail-enum-known-turn-2 t c =
     let pre0 = c .before .before .before .before .before .before .before .before .before .before .before .before .before .before .before .pre .1 in
     search needs
 
--- src/lib.rt:273:35
 star-tail-same-length : (t : ℕ) → star-tail-lts.Need-same-length (
   star-turn-below t,
   star-turn.Post,
@@ -1895,7 +1780,6 @@ star-tail-same-length : (t : ℕ) → star-tail-lts.Need-same-length (
 star-tail-same-length t c =
     c .before .before .before .before .before .before .before .star-turn .kept .1 .1 .1 .1 .0 ∙ c .before .before .before .before .before .before .before .before .before .before .loop .inv .1
 
--- src/lib.rt:273:35
 star-tail-same-length-2 : (t : ℕ) → star-tail-lts.Need-same-length-2 (
   star-turn-below t,
   star-turn.Post,
@@ -1903,7 +1787,6 @@ star-tail-same-length-2 : (t : ℕ) → star-tail-lts.Need-same-length-2 (
 star-tail-same-length-2 t c =
     c .before .before .before .before .before .before .before .star-turn .kept .1 .1 .1 .1 .1 .0 ∙ c .before .before .before .before .before .before .before .before .before .before .loop .inv .2
 
--- src/lib.rt:273:35
 star-tail-returns :
     (t : ℕ) →
     star-tail-lts.Need-returns
@@ -1916,7 +1799,6 @@ star-tail-returns t c =
     let star-turn = runs-in (rw (c .before .turn2 .given .1) at (c .before .before .before .before .before .before .before .star-turn .ensures)) in
     loop-ends (star-advances _ _) (c .before .before .before .before .before .before .before .before .before .before .loop .inv .0) star-turn
 
--- src/lib.rt:284:8
 star-turn-at-requires : (t : ℕ) → star-turn-lts.Need-at-requires (
   at-reads.Asked,
   at-reads.Learnt,
@@ -1928,7 +1810,6 @@ star-turn-at-requires t c κs =
     let pre0 = c .before .before .before .before .before .before .pre .1 in
     search asks depth 8
 
--- src/lib.rt:285:19
 star-turn-star-factor-requires : (t : ℕ) → star-turn-lts.Need-star-factor-requires (
   at-reads.Asked,
   at-reads.Learnt,
@@ -1942,7 +1823,6 @@ star-turn-star-factor-requires t c κs =
     let if1 = c .before .before .if1 .taken in
     search asks depth 8
 
--- src/lib.rt:280:1
 star-turn-same-length : (t : ℕ) → star-turn-lts.Need-same-length (
   at-reads.Asked,
   at-reads.Learnt,
@@ -1952,7 +1832,6 @@ star-turn-same-length : (t : ℕ) → star-turn-lts.Need-same-length (
 star-turn-same-length t c =
     c .before .before .before .before .star-factor .kept .1 .1 .1 .1 .0
 
--- src/lib.rt:280:1
 star-turn-same-length-2 : (t : ℕ) → star-turn-lts.Need-same-length-2 (
   at-reads.Asked,
   at-reads.Learnt,
@@ -1962,41 +1841,35 @@ star-turn-same-length-2 : (t : ℕ) → star-turn-lts.Need-same-length-2 (
 star-turn-same-length-2 t c =
     c .before .before .before .before .star-factor .kept .1 .1 .1 .1 .1 .0
 
--- src/lib.rt:280:1
 star-turn-returns : (t : ℕ) → star-turn-lts.Need-returns (
   at-reads.Asked,
   at-reads.Learnt,
   star-factor-below t,
   star-factor.Post,
 ) (star-turn-at t) star-turn.Post
-unfolding types.starTurn
+unfolding types.starTurn plan choose chosen
 star-turn-returns t c =
     let falls = c .before .before .before .before .before .before .before .before .before .before .before .before .before .before .before .pre .0 in
     let pre0 = c .before .before .before .before .before .before .before .before .before .before .before .before .before .before .before .pre .1 in
-    let at-is = c .before .before .before .before .before .before .before .before .at .ensures in
-    let at = nth 0 at-is in
+    let at = c .before .before .before .before .before .before .before .before .at .ensures in
     let if1 = c .before .before .before .before .before .before .before .if1 .taken in
-    let star-factor-is = c .before .before .before .before .star-factor .ensures in
-    let star-factor = nth 1 star-factor-is in
-    by-steps pre0 (λ b. search rules depth 60 fits 4000)
+    let star-factor = c .before .before .before .before .star-factor .ensures in
+    by-steps pre0 (λ b. s-kind (s-true _ _ (kind-at _ _ _ _ at if1) (s-by _ (runs-in star-factor) s-end)))
 
--- src/lib.rt:280:1
 star-turn-returns-2 : (t : ℕ) → star-turn-lts.Need-returns-2 (
   at-reads.Asked,
   at-reads.Learnt,
   star-factor-below t,
   star-factor.Post,
 ) (star-turn-at t) star-turn.Post
-unfolding types.starTurn
+unfolding types.starTurn plan choose chosen
 star-turn-returns-2 t c =
     let falls = c .before .before .before .before .before .before .before .before .pre .0 in
     let pre0 = c .before .before .before .before .before .before .before .before .pre .1 in
-    let at-is = c .before .at .ensures in
-    let at = nth 0 at-is in
+    let at = c .before .at .ensures in
     let if1 = c .if1 .left in
-    by-steps pre0 (λ b. search rules depth 60 fits 4000)
+    by-steps pre0 (λ b. s-kind (s-false _ _ (kind-off _ _ _ _ at if1) s-end))
 
--- src/lib.rt:164:31
 ty-arg-refuse-requires : (t : ℕ) → ty-arg-lts.Need-refuse-requires (
   refuse-reads.Asked,
   refuse-reads.Learnt,
@@ -2019,7 +1892,6 @@ ty-arg-refuse-requires t c κs =
     let if1 = c .if1 .taken in
     search asks depth 8
 
--- src/lib.rt:164:9
 ty-arg-returns : (t : ℕ) → ty-arg-lts.Need-returns (
   refuse-reads.Asked,
   refuse-reads.Learnt,
@@ -2036,16 +1908,14 @@ ty-arg-returns : (t : ℕ) → ty-arg-lts.Need-returns (
   close-reads.Asked,
   close-reads.Learnt,
 ) (ty-arg-at t) ty-arg.Post
-unfolding types.tyArg
+unfolding types.tyArg plan choose chosen
 ty-arg-returns t c =
     let falls = c .before .before .before .before .before .before .before .before .pre .0 in
     let pre0 = c .before .before .before .before .before .before .before .before .pre .1 in
     let if1 = c .before .if1 .taken in
-    let refuse-is = c .refuse .ensures in
-    let refuse = nth 0 refuse-is in
-    by-steps pre0 (λ b. search rules depth 60 fits 4000)
+    let refuse = c .refuse .ensures in
+    by-steps pre0 (λ b. s-deep if1 refuse s-end)
 
--- src/lib.rt:166:9
 ty-arg-mark-requires : (t : ℕ) → ty-arg-lts.Need-mark-requires (
   refuse-reads.Asked,
   refuse-reads.Learnt,
@@ -2068,7 +1938,6 @@ ty-arg-mark-requires t c κs =
     let if1 = c .if1 .left in
     search asks depth 8
 
--- src/lib.rt:168:62
 ty-arg-sub-ty-must : (t : ℕ) → ty-arg-lts.Need-sub-ty-must (
   refuse-reads.Asked,
   refuse-reads.Learnt,
@@ -2091,7 +1960,6 @@ ty-arg-sub-ty-must t c =
     let if1 = c .before .before .before .if1 .left in
     search needs
 
--- src/lib.rt:168:9
 ty-arg-ty-must-requires : (t : ℕ) → ty-arg-lts.Need-ty-must-requires (
   refuse-reads.Asked,
   refuse-reads.Learnt,
@@ -2116,7 +1984,6 @@ ty-arg-ty-must-requires t c κs =
     let mark-ok = ok-marks mark pre0 in
     search asks depth 8
 
--- src/lib.rt:169:8
 ty-arg-at-requires : (t : ℕ) → ty-arg-lts.Need-at-requires (
   refuse-reads.Asked,
   refuse-reads.Learnt,
@@ -2143,7 +2010,6 @@ ty-arg-at-requires t c κs =
     let ty-must-ok = ty-must .ok in
     search asks depth 8
 
--- src/lib.rt:170:9
 ty-arg-same-length : (t : ℕ) → ty-arg-lts.Need-same-length (
   refuse-reads.Asked,
   refuse-reads.Learnt,
@@ -2163,7 +2029,6 @@ ty-arg-same-length : (t : ℕ) → ty-arg-lts.Need-same-length (
 ty-arg-same-length t c =
     c .before .before .before .before .before .before .ty-must .kept .1 .1 .1 .1 .0
 
--- src/lib.rt:170:9
 ty-arg-same-length-2 : (t : ℕ) → ty-arg-lts.Need-same-length-2 (
   refuse-reads.Asked,
   refuse-reads.Learnt,
@@ -2183,7 +2048,6 @@ ty-arg-same-length-2 : (t : ℕ) → ty-arg-lts.Need-same-length-2 (
 ty-arg-same-length-2 t c =
     c .before .before .before .before .before .before .ty-must .kept .1 .1 .1 .1 .1 .0
 
--- src/lib.rt:170:9
 ty-arg-returns-2 : (t : ℕ) → ty-arg-lts.Need-returns-2 (
   refuse-reads.Asked,
   refuse-reads.Learnt,
@@ -2200,21 +2064,17 @@ ty-arg-returns-2 : (t : ℕ) → ty-arg-lts.Need-returns-2 (
   close-reads.Asked,
   close-reads.Learnt,
 ) (ty-arg-at t) ty-arg.Post
-unfolding types.tyArg
+unfolding types.tyArg plan choose chosen
 ty-arg-returns-2 t c =
     let falls = c .before .before .before .before .before .before .before .before .before .before .before .before .before .before .before .before .before .pre .0 in
     let pre0 = c .before .before .before .before .before .before .before .before .before .before .before .before .before .before .before .before .before .pre .1 in
     let if1 = c .before .before .before .before .before .before .before .before .before .before .if1 .left in
-    let mark-is = c .before .before .before .before .before .before .before .before .before .mark .ensures in
-    let mark = nth 0 mark-is in
-    let ty-must-is = c .before .before .before .before .before .before .ty-must .ensures in
-    let ty-must = nth 1 ty-must-is in
-    let at-is = c .before .at .ensures in
-    let at = nth 2 at-is in
+    let mark = c .before .before .before .before .before .before .before .before .before .mark .ensures in
+    let ty-must = c .before .before .before .before .before .before .ty-must .ensures in
+    let at = c .before .at .ensures in
     let if2 = c .if2 .taken in
-    by-steps pre0 (λ b. search rules depth 60 fits 4000)
+    by-steps pre0 (λ b. s-mark if1 mark (s-by _ (runs-in ty-must) (s-kind (s-true _ _ (kind-at _ _ _ _ at if2) s-end))))
 
--- src/lib.rt:172:9
 ty-arg-eat-requires : (t : ℕ) → ty-arg-lts.Need-eat-requires (
   refuse-reads.Asked,
   refuse-reads.Learnt,
@@ -2243,7 +2103,6 @@ ty-arg-eat-requires t c κs =
     let if2 = c .before .before .if2 .left in
     search asks depth 8
 
--- src/lib.rt:173:9
 ty-arg-state-requires : (t : ℕ) → ty-arg-lts.Need-state-requires (
   refuse-reads.Asked,
   refuse-reads.Learnt,
@@ -2274,7 +2133,6 @@ ty-arg-state-requires t c κs =
     let eat-ok = eat .ok in
     search asks depth 8
 
--- src/lib.rt:174:20
 ty-arg-close-requires : (t : ℕ) → ty-arg-lts.Need-close-requires (
   refuse-reads.Asked,
   refuse-reads.Learnt,
@@ -2307,7 +2165,6 @@ ty-arg-close-requires t c κs =
     let state-ok = ok-state state eat-ok in
     search asks depth 8
 
--- src/lib.rt:159:1
 ty-arg-same-length-3 : (t : ℕ) → ty-arg-lts.Need-same-length-3 (
   refuse-reads.Asked,
   refuse-reads.Learnt,
@@ -2327,7 +2184,6 @@ ty-arg-same-length-3 : (t : ℕ) → ty-arg-lts.Need-same-length-3 (
 ty-arg-same-length-3 t c =
     c .before .before .close .kept .0 ∙ c .before .before .before .before .before .before .before .before .before .eat .kept .1 .1 .1 .1 .0 ∙ c .before .before .before .before .before .before .before .before .before .before .before .before .before .before .before .before .before .before .ty-must .kept .1 .1 .1 .1 .0
 
--- src/lib.rt:159:1
 ty-arg-same-length-4 : (t : ℕ) → ty-arg-lts.Need-same-length-4 (
   refuse-reads.Asked,
   refuse-reads.Learnt,
@@ -2347,7 +2203,6 @@ ty-arg-same-length-4 : (t : ℕ) → ty-arg-lts.Need-same-length-4 (
 ty-arg-same-length-4 t c =
     c .before .before .before .before .before .before .before .before .before .eat .kept .1 .1 .1 .1 .1 .0 ∙ c .before .before .before .before .before .before .before .before .before .before .before .before .before .before .before .before .before .before .ty-must .kept .1 .1 .1 .1 .1 .0
 
--- src/lib.rt:159:1
 ty-arg-returns-3 : (t : ℕ) → ty-arg-lts.Need-returns-3 (
   refuse-reads.Asked,
   refuse-reads.Learnt,
@@ -2364,25 +2219,19 @@ ty-arg-returns-3 : (t : ℕ) → ty-arg-lts.Need-returns-3 (
   close-reads.Asked,
   close-reads.Learnt,
 ) (ty-arg-at t) ty-arg.Post
-unfolding types.tyArg
+unfolding types.tyArg plan choose chosen
 ty-arg-returns-3 t c =
     let falls = c .before .before .before .before .before .before .before .before .before .before .before .before .before .before .before .before .before .before .before .before .before .before .before .before .before .before .before .before .before .pre .0 in
     let pre0 = c .before .before .before .before .before .before .before .before .before .before .before .before .before .before .before .before .before .before .before .before .before .before .before .before .before .before .before .before .before .pre .1 in
     let if1 = c .before .before .before .before .before .before .before .before .before .before .before .before .before .before .before .before .before .before .before .before .before .before .if1 .left in
-    let mark-is = c .before .before .before .before .before .before .before .before .before .before .before .before .before .before .before .before .before .before .before .before .before .mark .ensures in
-    let mark = nth 0 mark-is in
-    let ty-must-is = c .before .before .before .before .before .before .before .before .before .before .before .before .before .before .before .before .before .before .ty-must .ensures in
-    let ty-must = nth 1 ty-must-is in
-    let at-is = c .before .before .before .before .before .before .before .before .before .before .before .before .before .at .ensures in
-    let at = nth 2 at-is in
+    let mark = c .before .before .before .before .before .before .before .before .before .before .before .before .before .before .before .before .before .before .before .before .before .mark .ensures in
+    let ty-must = c .before .before .before .before .before .before .before .before .before .before .before .before .before .before .before .before .before .before .ty-must .ensures in
+    let at = c .before .before .before .before .before .before .before .before .before .before .before .before .before .at .ensures in
     let if2 = c .before .before .before .before .before .before .before .before .before .before .before .before .if2 .left in
-    let eat-is = c .before .before .before .before .before .before .before .before .before .eat .ensures in
-    let eat = nth 3 eat-is in
-    let state-is = c .before .before .before .before .state .ensures in
-    let state = nth 4 state-is in
-    let close-is = c .before .before .close .ensures in
-    let close = nth 5 close-is in
-    by-steps pre0 (λ b. search rules depth 60 fits 4000)
+    let eat = c .before .before .before .before .before .before .before .before .before .eat .ensures in
+    let state = c .before .before .before .before .state .ensures in
+    let close = c .before .before .close .ensures in
+    by-steps pre0 (λ b. s-mark if1 mark (s-by _ (runs-in ty-must) (s-kind (s-false _ _ (kind-off _ _ _ _ at if2) (s-by _ (settled state (runs-always eat)) (s-close close s-end))))))
 
 abbrev ty-args-Inv-loop : ty-args-lts.InvT-loop
 ty-args-Inv-loop text toks env table scratch₀ finds₀ left b s1₀ scratch finds s1 =
@@ -2391,7 +2240,6 @@ ty-args-Inv-loop text toks env table scratch₀ finds₀ left b s1₀ scratch fi
 abbrev ty-args-μ-loop : ty-args-lts.MeasureT-loop
 ty-args-μ-loop text toks env table scratch₀ finds₀ left b s1₀ scratch finds s1 = turns (mem text toks env table scratch finds s1)
 
--- src/lib.rt:382:5
 ty-args-loop-holds :
     (t : ℕ) →
     ty-args-lts.Need-loop-holds
@@ -2405,7 +2253,6 @@ ty-args-loop-holds t c =
     let pre0 = c .before .before .before .before .before .before .pre .1 in
     (loop-starts pre0, refl, refl)
 
--- src/lib.rt:383:13
 ty-args-arg-turn-requires : (t : ℕ) → ty-args-lts.Need-arg-turn-requires (
   arg-turn-below t,
   arg-turn.Post,
@@ -2416,7 +2263,6 @@ ty-args-arg-turn-requires t c κs =
     let inv = c .before .before .loop .inv .0 .ok in
     search asks depth 8
 
--- src/lib.rt:385:23
 ty-args-enum-known-turn : (t : ℕ) → ty-args-lts.Need-enum-known-turn (
   arg-turn-below t,
   arg-turn.Post,
@@ -2426,7 +2272,6 @@ ty-args-enum-known-turn t c =
     let pre0 = c .before .before .before .before .before .before .before .before .before .before .before .before .before .before .before .pre .1 in
     search needs
 
--- src/lib.rt:382:5
 ty-args-loop-less :
     (t : ℕ) →
     ty-args-lts.Need-loop-less
@@ -2439,7 +2284,6 @@ ty-args-loop-less t c =
     let arg-turn = runs-in {b = 0} (rw (c .before .turn .given .1) at (c .before .before .before .before .before .before .before .arg-turn .ensures)) in
     loop-falls (end-turn-advances true _ _ _ _ _ _) arg-turn
 
--- src/lib.rt:382:5
 ty-args-loop-again :
     (t : ℕ) →
     ty-args-lts.Need-loop-again
@@ -2452,7 +2296,6 @@ ty-args-loop-again t c =
     let arg-turn = runs-in (rw (c .before .turn .given .1) at (c .before .before .before .before .before .before .before .arg-turn .ensures)) in
     (loop-goes (end-turn-advances true _ _ _ _ _ _) (c .before .before .before .before .before .before .before .before .before .before .loop .inv .0) arg-turn, c .before .before .before .before .before .before .before .arg-turn .kept .1 .1 .1 .1 .0 ∙ c .before .before .before .before .before .before .before .before .before .before .loop .inv .1, c .before .before .before .before .before .before .before .arg-turn .kept .1 .1 .1 .1 .1 .0 ∙ c .before .before .before .before .before .before .before .before .before .before .loop .inv .2)
 
--- src/lib.rt:386:28
 ty-args-enum-known-turn-2 : (t : ℕ) → ty-args-lts.Need-enum-known-turn-2 (
   arg-turn-below t,
   arg-turn.Post,
@@ -2462,7 +2305,6 @@ ty-args-enum-known-turn-2 t c =
     let pre0 = c .before .before .before .before .before .before .before .before .before .before .before .before .before .before .before .pre .1 in
     search needs
 
--- src/lib.rt:386:35
 ty-args-same-length :
     (t : ℕ) →
     ty-args-lts.Need-same-length
@@ -2474,7 +2316,6 @@ ty-args-same-length :
 ty-args-same-length t c =
     c .before .before .before .before .before .before .before .arg-turn .kept .1 .1 .1 .1 .0 ∙ c .before .before .before .before .before .before .before .before .before .before .loop .inv .1
 
--- src/lib.rt:386:35
 ty-args-same-length-2 :
     (t : ℕ) →
     ty-args-lts.Need-same-length-2
@@ -2486,7 +2327,6 @@ ty-args-same-length-2 :
 ty-args-same-length-2 t c =
     c .before .before .before .before .before .before .before .arg-turn .kept .1 .1 .1 .1 .1 .0 ∙ c .before .before .before .before .before .before .before .before .before .before .loop .inv .2
 
--- src/lib.rt:386:35
 ty-args-returns :
     (t : ℕ) →
     ty-args-lts.Need-returns
@@ -2499,7 +2339,6 @@ ty-args-returns t c =
     let arg-turn = runs-in (rw (c .before .turn2 .given .1) at (c .before .before .before .before .before .before .before .arg-turn .ensures)) in
     loop-ends (end-turn-advances true _ _ _ _ _ _) (c .before .before .before .before .before .before .before .before .before .before .loop .inv .0) arg-turn
 
--- src/lib.rt:228:9
 ty-arrow-refuse-requires : (t : ℕ) → ty-arrow-lts.Need-refuse-requires (
   refuse-reads.Asked,
   refuse-reads.Learnt,
@@ -2519,7 +2358,6 @@ ty-arrow-refuse-requires t c κs =
     let if1 = c .if1 .taken in
     search asks depth 8
 
--- src/lib.rt:228:9
 ty-arrow-returns : (t : ℕ) → ty-arrow-lts.Need-returns (
   refuse-reads.Asked,
   refuse-reads.Learnt,
@@ -2532,17 +2370,15 @@ ty-arrow-returns : (t : ℕ) → ty-arrow-lts.Need-returns (
   close-reads.Asked,
   close-reads.Learnt,
 ) (ty-arrow-at t) ty-arrow.Post
-unfolding types.tyArrow
+unfolding types.tyArrow plan choose chosen
 ty-arrow-returns t c =
     let falls = c .before .before .before .before .before .before .before .before .pre .0 in
     let pre0 = c .before .before .before .before .before .before .before .before .pre .1 .0 in
     let pre1 = c .before .before .before .before .before .before .before .before .pre .1 .1 in
     let if1 = c .before .if1 .taken in
-    let refuse-is = c .refuse .ensures in
-    let refuse = nth 0 refuse-is in
-    in-steps pre0 (search rules depth 60 fits 4000)
+    let refuse = c .refuse .ensures in
+    in-steps pre0 (s-deep if1 refuse s-end)
 
--- src/lib.rt:230:34
 ty-arrow-mark-requires : (t : ℕ) → ty-arrow-lts.Need-mark-requires (
   refuse-reads.Asked,
   refuse-reads.Learnt,
@@ -2562,7 +2398,6 @@ ty-arrow-mark-requires t c κs =
     let if1 = c .before .if1 .left in
     search asks depth 8
 
--- src/lib.rt:230:9
 ty-arrow-bump-requires : (t : ℕ) → ty-arrow-lts.Need-bump-requires (
   refuse-reads.Asked,
   refuse-reads.Learnt,
@@ -2584,7 +2419,6 @@ ty-arrow-bump-requires t c κs =
     let mark-ok = ok-marks mark pre0 in
     search asks depth 8
 
--- src/lib.rt:231:62
 ty-arrow-sub-ty-must : (t : ℕ) → ty-arrow-lts.Need-sub-ty-must (
   refuse-reads.Asked,
   refuse-reads.Learnt,
@@ -2604,7 +2438,6 @@ ty-arrow-sub-ty-must t c =
     let if1 = c .before .before .before .before .before .before .before .if1 .left in
     search needs
 
--- src/lib.rt:231:9
 ty-arrow-ty-must-requires : (t : ℕ) → ty-arrow-lts.Need-ty-must-requires (
   refuse-reads.Asked,
   refuse-reads.Learnt,
@@ -2628,7 +2461,6 @@ ty-arrow-ty-must-requires t c κs =
     let bump-ok = ok-bumps bump mark-ok in
     search asks depth 8
 
--- src/lib.rt:232:5
 ty-arrow-close-requires : (t : ℕ) → ty-arrow-lts.Need-close-requires (
   refuse-reads.Asked,
   refuse-reads.Learnt,
@@ -2654,7 +2486,6 @@ ty-arrow-close-requires t c κs =
     let ty-must-ok = ty-must .ok in
     search asks depth 8
 
--- src/lib.rt:223:1
 ty-arrow-same-length : (t : ℕ) → ty-arrow-lts.Need-same-length (
   refuse-reads.Asked,
   refuse-reads.Learnt,
@@ -2670,7 +2501,6 @@ ty-arrow-same-length : (t : ℕ) → ty-arrow-lts.Need-same-length (
 ty-arrow-same-length t c =
     c .before .before .close .kept .0 ∙ c .before .before .before .before .before .before .before .before .ty-must .kept .1 .1 .1 .1 .0 ∙ c .before .before .before .before .before .before .before .before .before .before .before .before .before .bump .kept .1 .0
 
--- src/lib.rt:223:1
 ty-arrow-same-length-2 : (t : ℕ) → ty-arrow-lts.Need-same-length-2 (
   refuse-reads.Asked,
   refuse-reads.Learnt,
@@ -2686,7 +2516,6 @@ ty-arrow-same-length-2 : (t : ℕ) → ty-arrow-lts.Need-same-length-2 (
 ty-arrow-same-length-2 t c =
     c .before .before .before .before .before .before .before .before .ty-must .kept .1 .1 .1 .1 .1 .0
 
--- src/lib.rt:223:1
 ty-arrow-returns-2 : (t : ℕ) → ty-arrow-lts.Need-returns-2 (
   refuse-reads.Asked,
   refuse-reads.Learnt,
@@ -2699,23 +2528,18 @@ ty-arrow-returns-2 : (t : ℕ) → ty-arrow-lts.Need-returns-2 (
   close-reads.Asked,
   close-reads.Learnt,
 ) (ty-arrow-at t) ty-arrow.Post
-unfolding types.tyArrow
+unfolding types.tyArrow plan choose chosen
 ty-arrow-returns-2 t c =
     let falls = c .before .before .before .before .before .before .before .before .before .before .before .before .before .before .before .before .before .before .before .before .before .before .before .pre .0 in
     let pre0 = c .before .before .before .before .before .before .before .before .before .before .before .before .before .before .before .before .before .before .before .before .before .before .before .pre .1 .0 in
     let pre1 = c .before .before .before .before .before .before .before .before .before .before .before .before .before .before .before .before .before .before .before .before .before .before .before .pre .1 .1 in
     let if1 = c .before .before .before .before .before .before .before .before .before .before .before .before .before .before .before .before .if1 .left in
-    let mark-is = c .before .before .before .before .before .before .before .before .before .before .before .before .before .before .mark .ensures in
-    let mark = nth 0 mark-is in
-    let bump-is = c .before .before .before .before .before .before .before .before .before .before .before .before .before .bump .ensures in
-    let bump = nth 1 bump-is in
-    let ty-must-is = c .before .before .before .before .before .before .before .before .ty-must .ensures in
-    let ty-must = nth 2 ty-must-is in
-    let close-is = c .before .before .close .ensures in
-    let close = nth 3 close-is in
-    in-steps pre0 (search rules depth 60 fits 4000)
+    let mark = c .before .before .before .before .before .before .before .before .before .before .before .before .before .before .mark .ensures in
+    let bump = c .before .before .before .before .before .before .before .before .before .before .before .before .before .bump .ensures in
+    let ty-must = c .before .before .before .before .before .before .before .before .ty-must .ensures in
+    let close = c .before .before .close .ensures in
+    in-steps pre0 (s-mark if1 mark (s-bump bump (s-by _ (runs-in ty-must) (s-close close s-end))))
 
--- src/lib.rt:77:13
 ty-head-bump-requires : (t : ℕ) → ty-head-lts.Need-bump-requires (
   bump-reads.Asked,
   bump-reads.Learnt,
@@ -2731,7 +2555,6 @@ ty-head-bump-requires t c κs =
     let if1 = c .before .if1 .taken in
     search asks depth 8
 
--- src/lib.rt:78:26
 ty-head-close-requires : (t : ℕ) → ty-head-lts.Need-close-requires (
   bump-reads.Asked,
   bump-reads.Learnt,
@@ -2749,7 +2572,6 @@ ty-head-close-requires t c κs =
     let bump-ok = ok-bumps bump pre0 in
     search asks depth 8
 
--- src/lib.rt:78:9
 ty-head-same-length : (t : ℕ) → ty-head-lts.Need-same-length (
   bump-reads.Asked,
   bump-reads.Learnt,
@@ -2761,7 +2583,6 @@ ty-head-same-length : (t : ℕ) → ty-head-lts.Need-same-length (
 ty-head-same-length t c =
     c .before .before .close .kept .0 ∙ c .before .before .before .before .before .before .bump .kept .1 .0
 
--- src/lib.rt:78:9
 ty-head-returns : (t : ℕ) → ty-head-lts.Need-returns (
   bump-reads.Asked,
   bump-reads.Learnt,
@@ -2770,19 +2591,16 @@ ty-head-returns : (t : ℕ) → ty-head-lts.Need-returns (
   ty-inner-below t,
   ty-inner.Post,
 ) (ty-head-at t) ty-head.Post
-unfolding types.tyHead
+unfolding types.tyHead plan choose chosen
 ty-head-returns t c =
     let falls = c .before .before .before .before .before .before .before .before .before .before .before .before .before .before .before .pre .0 in
     let pre0 = c .before .before .before .before .before .before .before .before .before .before .before .before .before .before .before .pre .1 .0 in
     let pre1 = c .before .before .before .before .before .before .before .before .before .before .before .before .before .before .before .pre .1 .1 in
     let if1 = c .before .before .before .before .before .before .before .before .if1 .taken in
-    let bump-is = c .before .before .before .before .before .before .bump .ensures in
-    let bump = nth 0 bump-is in
-    let close-is = c .before .before .close .ensures in
-    let close = nth 1 close-is in
-    in-steps pre0 (search rules depth 60 fits 4000)
+    let bump = c .before .before .before .before .before .before .bump .ensures in
+    let close = c .before .before .close .ensures in
+    in-steps pre0 (s-true _ _ (kind-is if1) (s-bump bump (s-close close s-end)))
 
--- src/lib.rt:81:13
 ty-head-bump-requires-2 : (t : ℕ) → ty-head-lts.Need-bump-requires-2 (
   bump-reads.Asked,
   bump-reads.Learnt,
@@ -2799,7 +2617,6 @@ ty-head-bump-requires-2 t c κs =
     let if2 = c .before .if2 .taken in
     search asks depth 8
 
--- src/lib.rt:82:26
 ty-head-close-requires-2 : (t : ℕ) → ty-head-lts.Need-close-requires-2 (
   bump-reads.Asked,
   bump-reads.Learnt,
@@ -2818,7 +2635,6 @@ ty-head-close-requires-2 t c κs =
     let bump2-ok = ok-bumps bump2 pre0 in
     search asks depth 8
 
--- src/lib.rt:82:9
 ty-head-same-length-2 : (t : ℕ) → ty-head-lts.Need-same-length-2 (
   bump-reads.Asked,
   bump-reads.Learnt,
@@ -2830,7 +2646,6 @@ ty-head-same-length-2 : (t : ℕ) → ty-head-lts.Need-same-length-2 (
 ty-head-same-length-2 t c =
     c .before .before .close2 .kept .0 ∙ c .before .before .before .before .before .before .bump2 .kept .1 .0
 
--- src/lib.rt:82:9
 ty-head-returns-2 : (t : ℕ) → ty-head-lts.Need-returns-2 (
   bump-reads.Asked,
   bump-reads.Learnt,
@@ -2839,20 +2654,17 @@ ty-head-returns-2 : (t : ℕ) → ty-head-lts.Need-returns-2 (
   ty-inner-below t,
   ty-inner.Post,
 ) (ty-head-at t) ty-head.Post
-unfolding types.tyHead
+unfolding types.tyHead plan choose chosen
 ty-head-returns-2 t c =
     let falls = c .before .before .before .before .before .before .before .before .before .before .before .before .before .before .before .before .pre .0 in
     let pre0 = c .before .before .before .before .before .before .before .before .before .before .before .before .before .before .before .before .pre .1 .0 in
     let pre1 = c .before .before .before .before .before .before .before .before .before .before .before .before .before .before .before .before .pre .1 .1 in
     let if1 = c .before .before .before .before .before .before .before .before .before .if1 .left in
     let if2 = c .before .before .before .before .before .before .before .before .if2 .taken in
-    let bump2-is = c .before .before .before .before .before .before .bump2 .ensures in
-    let bump2 = nth 0 bump2-is in
-    let close2-is = c .before .before .close2 .ensures in
-    let close2 = nth 1 close2-is in
-    in-steps pre0 (search rules depth 60 fits 4000)
+    let bump2 = c .before .before .before .before .before .before .bump2 .ensures in
+    let close2 = c .before .before .close2 .ensures in
+    in-steps pre0 (s-false _ _ (kind-not if1) (s-true _ _ (kind-is if2) (s-bump bump2 (s-close close2 s-end))))
 
--- src/lib.rt:85:13
 ty-head-bump-requires-3 : (t : ℕ) → ty-head-lts.Need-bump-requires-3 (
   bump-reads.Asked,
   bump-reads.Learnt,
@@ -2870,7 +2682,6 @@ ty-head-bump-requires-3 t c κs =
     let if3 = c .before .if3 .taken in
     search asks depth 8
 
--- src/lib.rt:86:26
 ty-head-close-requires-3 : (t : ℕ) → ty-head-lts.Need-close-requires-3 (
   bump-reads.Asked,
   bump-reads.Learnt,
@@ -2890,7 +2701,6 @@ ty-head-close-requires-3 t c κs =
     let bump3-ok = ok-bumps bump3 pre0 in
     search asks depth 8
 
--- src/lib.rt:86:9
 ty-head-same-length-3 : (t : ℕ) → ty-head-lts.Need-same-length-3 (
   bump-reads.Asked,
   bump-reads.Learnt,
@@ -2902,7 +2712,6 @@ ty-head-same-length-3 : (t : ℕ) → ty-head-lts.Need-same-length-3 (
 ty-head-same-length-3 t c =
     c .before .before .close3 .kept .0 ∙ c .before .before .before .before .before .before .bump3 .kept .1 .0
 
--- src/lib.rt:86:9
 ty-head-returns-3 : (t : ℕ) → ty-head-lts.Need-returns-3 (
   bump-reads.Asked,
   bump-reads.Learnt,
@@ -2911,7 +2720,7 @@ ty-head-returns-3 : (t : ℕ) → ty-head-lts.Need-returns-3 (
   ty-inner-below t,
   ty-inner.Post,
 ) (ty-head-at t) ty-head.Post
-unfolding types.tyHead
+unfolding types.tyHead plan choose chosen
 ty-head-returns-3 t c =
     let falls = c .before .before .before .before .before .before .before .before .before .before .before .before .before .before .before .before .before .pre .0 in
     let pre0 = c .before .before .before .before .before .before .before .before .before .before .before .before .before .before .before .before .before .pre .1 .0 in
@@ -2919,13 +2728,10 @@ ty-head-returns-3 t c =
     let if1 = c .before .before .before .before .before .before .before .before .before .before .if1 .left in
     let if2 = c .before .before .before .before .before .before .before .before .before .if2 .left in
     let if3 = c .before .before .before .before .before .before .before .before .if3 .taken in
-    let bump3-is = c .before .before .before .before .before .before .bump3 .ensures in
-    let bump3 = nth 0 bump3-is in
-    let close3-is = c .before .before .close3 .ensures in
-    let close3 = nth 1 close3-is in
-    in-steps pre0 (search rules depth 60 fits 4000)
+    let bump3 = c .before .before .before .before .before .before .bump3 .ensures in
+    let close3 = c .before .before .close3 .ensures in
+    in-steps pre0 (s-false _ _ (kind-not if1) (s-false _ _ (kind-not if2) (s-true _ _ (kind-is if3) (s-bump bump3 (s-close close3 s-end)))))
 
--- src/lib.rt:88:5
 ty-head-ty-inner-requires : (t : ℕ) → ty-head-lts.Need-ty-inner-requires (
   bump-reads.Asked,
   bump-reads.Learnt,
@@ -2943,7 +2749,6 @@ ty-head-ty-inner-requires t c κs =
     let if3 = c .before .before .if3 .left in
     search asks depth 8
 
--- src/lib.rt:72:1
 ty-head-same-length-4 : (t : ℕ) → ty-head-lts.Need-same-length-4 (
   bump-reads.Asked,
   bump-reads.Learnt,
@@ -2955,7 +2760,6 @@ ty-head-same-length-4 : (t : ℕ) → ty-head-lts.Need-same-length-4 (
 ty-head-same-length-4 t c =
     c .before .before .before .before .ty-inner .kept .1 .1 .1 .1 .0
 
--- src/lib.rt:72:1
 ty-head-same-length-5 : (t : ℕ) → ty-head-lts.Need-same-length-5 (
   bump-reads.Asked,
   bump-reads.Learnt,
@@ -2967,7 +2771,6 @@ ty-head-same-length-5 : (t : ℕ) → ty-head-lts.Need-same-length-5 (
 ty-head-same-length-5 t c =
     c .before .before .before .before .ty-inner .kept .1 .1 .1 .1 .1 .0
 
--- src/lib.rt:72:1
 ty-head-returns-4 : (t : ℕ) → ty-head-lts.Need-returns-4 (
   bump-reads.Asked,
   bump-reads.Learnt,
@@ -2976,7 +2779,7 @@ ty-head-returns-4 : (t : ℕ) → ty-head-lts.Need-returns-4 (
   ty-inner-below t,
   ty-inner.Post,
 ) (ty-head-at t) ty-head.Post
-unfolding types.tyHead
+unfolding types.tyHead plan choose chosen
 ty-head-returns-4 t c =
     let falls = c .before .before .before .before .before .before .before .before .before .before .before .before .before .before .before .before .pre .0 in
     let pre0 = c .before .before .before .before .before .before .before .before .before .before .before .before .before .before .before .before .pre .1 .0 in
@@ -2984,11 +2787,9 @@ ty-head-returns-4 t c =
     let if1 = c .before .before .before .before .before .before .before .before .before .if1 .left in
     let if2 = c .before .before .before .before .before .before .before .before .if2 .left in
     let if3 = c .before .before .before .before .before .before .before .if3 .left in
-    let ty-inner-is = c .before .before .before .before .ty-inner .ensures in
-    let ty-inner = nth 0 ty-inner-is in
-    in-steps pre0 (search rules depth 60 fits 4000)
+    let ty-inner = c .before .before .before .before .ty-inner .ensures in
+    in-steps pre0 (s-false _ _ (kind-not if1) (s-false _ _ (kind-not if2) (s-false _ _ (kind-not if3) (s-by _ ty-inner s-end))))
 
--- src/lib.rt:99:13
 ty-inner-bump-requires : (t : ℕ) → ty-inner-lts.Need-bump-requires (
   bump-reads.Asked,
   bump-reads.Learnt,
@@ -3010,7 +2811,6 @@ ty-inner-bump-requires t c κs =
     let if1 = c .before .if1 .taken in
     search asks depth 8
 
--- src/lib.rt:100:13
 ty-inner-ty-rows-requires : (t : ℕ) → ty-inner-lts.Need-ty-rows-requires (
   bump-reads.Asked,
   bump-reads.Learnt,
@@ -3034,7 +2834,6 @@ ty-inner-ty-rows-requires t c κs =
     let bump-ok = ok-bumps bump pre0 in
     search asks depth 8
 
--- src/lib.rt:101:26
 ty-inner-close-requires : (t : ℕ) → ty-inner-lts.Need-close-requires (
   bump-reads.Asked,
   bump-reads.Learnt,
@@ -3060,7 +2859,6 @@ ty-inner-close-requires t c κs =
     let ty-rows-ok = ty-rows .ok in
     search asks depth 8
 
--- src/lib.rt:101:9
 ty-inner-same-length : (t : ℕ) → ty-inner-lts.Need-same-length (
   bump-reads.Asked,
   bump-reads.Learnt,
@@ -3078,7 +2876,6 @@ ty-inner-same-length : (t : ℕ) → ty-inner-lts.Need-same-length (
 ty-inner-same-length t c =
     c .before .before .close .kept .0 ∙ c .before .before .before .before .before .before .before .before .ty-rows .kept .1 .1 .1 .1 .0 ∙ c .before .before .before .before .before .before .before .before .before .before .before .before .before .bump .kept .1 .0
 
--- src/lib.rt:101:9
 ty-inner-same-length-2 : (t : ℕ) → ty-inner-lts.Need-same-length-2 (
   bump-reads.Asked,
   bump-reads.Learnt,
@@ -3096,7 +2893,6 @@ ty-inner-same-length-2 : (t : ℕ) → ty-inner-lts.Need-same-length-2 (
 ty-inner-same-length-2 t c =
     c .before .before .before .before .before .before .before .before .ty-rows .kept .1 .1 .1 .1 .1 .0
 
--- src/lib.rt:101:9
 ty-inner-returns : (t : ℕ) → ty-inner-lts.Need-returns (
   bump-reads.Asked,
   bump-reads.Learnt,
@@ -3111,21 +2907,17 @@ ty-inner-returns : (t : ℕ) → ty-inner-lts.Need-returns (
   state-reads.Asked,
   state-reads.Learnt,
 ) (ty-inner-at t) ty-inner.Post
-unfolding types.tyInner util.endSep
+unfolding types.tyInner util.endSep plan choose chosen
 ty-inner-returns t c =
     let falls = c .before .before .before .before .before .before .before .before .before .before .before .before .before .before .before .before .before .before .before .before .before .before .pre .0 in
     let pre0 = c .before .before .before .before .before .before .before .before .before .before .before .before .before .before .before .before .before .before .before .before .before .before .pre .1 .0 in
     let pre1 = c .before .before .before .before .before .before .before .before .before .before .before .before .before .before .before .before .before .before .before .before .before .before .pre .1 .1 in
     let if1 = c .before .before .before .before .before .before .before .before .before .before .before .before .before .before .before .if1 .taken in
-    let bump-is = c .before .before .before .before .before .before .before .before .before .before .before .before .before .bump .ensures in
-    let bump = nth 0 bump-is in
-    let ty-rows-is = c .before .before .before .before .before .before .before .before .ty-rows .ensures in
-    let ty-rows = nth 1 ty-rows-is in
-    let close-is = c .before .before .close .ensures in
-    let close = nth 2 close-is in
-    in-steps pre0 (search rules depth 60 fits 4000)
+    let bump = c .before .before .before .before .before .before .before .before .before .before .before .before .before .bump .ensures in
+    let ty-rows = c .before .before .before .before .before .before .before .before .ty-rows .ensures in
+    let close = c .before .before .close .ensures in
+    in-steps pre0 (s-true _ _ (kind-is if1) (s-bump bump (s-run ty-rows (s-close close s-end))))
 
--- src/lib.rt:104:9
 ty-inner-ty-round-requires : (t : ℕ) → ty-inner-lts.Need-ty-round-requires (
   bump-reads.Asked,
   bump-reads.Learnt,
@@ -3148,7 +2940,6 @@ ty-inner-ty-round-requires t c κs =
     let if2 = c .before .before .if2 .taken in
     search asks depth 8
 
--- src/lib.rt:104:9
 ty-inner-same-length-3 : (t : ℕ) → ty-inner-lts.Need-same-length-3 (
   bump-reads.Asked,
   bump-reads.Learnt,
@@ -3166,7 +2957,6 @@ ty-inner-same-length-3 : (t : ℕ) → ty-inner-lts.Need-same-length-3 (
 ty-inner-same-length-3 t c =
     c .before .before .before .before .ty-round .kept .1 .1 .1 .1 .0
 
--- src/lib.rt:104:9
 ty-inner-same-length-4 : (t : ℕ) → ty-inner-lts.Need-same-length-4 (
   bump-reads.Asked,
   bump-reads.Learnt,
@@ -3184,7 +2974,6 @@ ty-inner-same-length-4 : (t : ℕ) → ty-inner-lts.Need-same-length-4 (
 ty-inner-same-length-4 t c =
     c .before .before .before .before .ty-round .kept .1 .1 .1 .1 .1 .0
 
--- src/lib.rt:104:9
 ty-inner-returns-2 : (t : ℕ) → ty-inner-lts.Need-returns-2 (
   bump-reads.Asked,
   bump-reads.Learnt,
@@ -3199,18 +2988,16 @@ ty-inner-returns-2 : (t : ℕ) → ty-inner-lts.Need-returns-2 (
   state-reads.Asked,
   state-reads.Learnt,
 ) (ty-inner-at t) ty-inner.Post
-unfolding types.tyInner util.endSep
+unfolding types.tyInner util.endSep plan choose chosen
 ty-inner-returns-2 t c =
     let falls = c .before .before .before .before .before .before .before .before .before .before .before .before .before .before .before .pre .0 in
     let pre0 = c .before .before .before .before .before .before .before .before .before .before .before .before .before .before .before .pre .1 .0 in
     let pre1 = c .before .before .before .before .before .before .before .before .before .before .before .before .before .before .before .pre .1 .1 in
     let if1 = c .before .before .before .before .before .before .before .before .if1 .left in
     let if2 = c .before .before .before .before .before .before .before .if2 .taken in
-    let ty-round-is = c .before .before .before .before .ty-round .ensures in
-    let ty-round = nth 0 ty-round-is in
-    in-steps pre0 (search rules depth 60 fits 4000)
+    let ty-round = c .before .before .before .before .ty-round .ensures in
+    in-steps pre0 (s-false _ _ (kind-not if1) (s-true _ _ (kind-is if2) (s-by _ ty-round s-end)))
 
--- src/lib.rt:107:13
 ty-inner-path-must-requires : (t : ℕ) → ty-inner-lts.Need-path-must-requires (
   bump-reads.Asked,
   bump-reads.Learnt,
@@ -3234,7 +3021,6 @@ ty-inner-path-must-requires t c κs =
     let if3 = c .before .before .if3 .taken in
     search asks depth 8
 
--- src/lib.rt:108:13
 ty-inner-state-requires : (t : ℕ) → ty-inner-lts.Need-state-requires (
   bump-reads.Asked,
   bump-reads.Learnt,
@@ -3260,7 +3046,6 @@ ty-inner-state-requires t c κs =
     let path-must-ok = path-must .ok in
     search asks depth 8
 
--- src/lib.rt:109:26
 ty-inner-close-requires-2 : (t : ℕ) → ty-inner-lts.Need-close-requires-2 (
   bump-reads.Asked,
   bump-reads.Learnt,
@@ -3288,7 +3073,6 @@ ty-inner-close-requires-2 t c κs =
     let state-ok = ok-state state path-must-ok in
     search asks depth 8
 
--- src/lib.rt:109:9
 ty-inner-same-length-5 : (t : ℕ) → ty-inner-lts.Need-same-length-5 (
   bump-reads.Asked,
   bump-reads.Learnt,
@@ -3306,7 +3090,6 @@ ty-inner-same-length-5 : (t : ℕ) → ty-inner-lts.Need-same-length-5 (
 ty-inner-same-length-5 t c =
     c .before .before .close2 .kept .0 ∙ c .before .before .before .before .before .before .before .before .before .path-must .kept .1 .1 .1 .1 .0
 
--- src/lib.rt:109:9
 ty-inner-same-length-6 : (t : ℕ) → ty-inner-lts.Need-same-length-6 (
   bump-reads.Asked,
   bump-reads.Learnt,
@@ -3324,7 +3107,6 @@ ty-inner-same-length-6 : (t : ℕ) → ty-inner-lts.Need-same-length-6 (
 ty-inner-same-length-6 t c =
     c .before .before .before .before .before .before .before .before .before .path-must .kept .1 .1 .1 .1 .1 .0
 
--- src/lib.rt:109:9
 ty-inner-returns-3 : (t : ℕ) → ty-inner-lts.Need-returns-3 (
   bump-reads.Asked,
   bump-reads.Learnt,
@@ -3339,7 +3121,7 @@ ty-inner-returns-3 : (t : ℕ) → ty-inner-lts.Need-returns-3 (
   state-reads.Asked,
   state-reads.Learnt,
 ) (ty-inner-at t) ty-inner.Post
-unfolding types.tyInner util.endSep
+unfolding types.tyInner util.endSep plan choose chosen
 ty-inner-returns-3 t c =
     let falls = c .before .before .before .before .before .before .before .before .before .before .before .before .before .before .before .before .before .before .before .before .before .pre .0 in
     let pre0 = c .before .before .before .before .before .before .before .before .before .before .before .before .before .before .before .before .before .before .before .before .before .pre .1 .0 in
@@ -3347,15 +3129,11 @@ ty-inner-returns-3 t c =
     let if1 = c .before .before .before .before .before .before .before .before .before .before .before .before .before .before .if1 .left in
     let if2 = c .before .before .before .before .before .before .before .before .before .before .before .before .before .if2 .left in
     let if3 = c .before .before .before .before .before .before .before .before .before .before .before .before .if3 .taken in
-    let path-must-is = c .before .before .before .before .before .before .before .before .before .path-must .ensures in
-    let path-must = nth 0 path-must-is in
-    let state-is = c .before .before .before .before .state .ensures in
-    let state = nth 1 state-is in
-    let close2-is = c .before .before .close2 .ensures in
-    let close2 = nth 2 close2-is in
-    in-steps pre0 (search rules depth 60 fits 4000)
+    let path-must = c .before .before .before .before .before .before .before .before .before .path-must .ensures in
+    let state = c .before .before .before .before .state .ensures in
+    let close2 = c .before .before .close2 .ensures in
+    in-steps pre0 (s-false _ _ (kind-not if1) (s-false _ _ (kind-not if2) (s-true _ _ (kind-is if3) (s-by _ (settled state (runs-in path-must)) (s-close close2 s-end)))))
 
--- src/lib.rt:94:1
 ty-inner-returns-4 : (t : ℕ) → ty-inner-lts.Need-returns-4 (
   bump-reads.Asked,
   bump-reads.Learnt,
@@ -3370,7 +3148,7 @@ ty-inner-returns-4 : (t : ℕ) → ty-inner-lts.Need-returns-4 (
   state-reads.Asked,
   state-reads.Learnt,
 ) (ty-inner-at t) ty-inner.Post
-unfolding types.tyInner util.endSep
+unfolding types.tyInner util.endSep plan choose chosen
 ty-inner-returns-4 t c =
     let falls = c .before .before .before .before .before .before .before .before .before .pre .0 in
     let pre0 = c .before .before .before .before .before .before .before .before .before .pre .1 .0 in
@@ -3378,9 +3156,8 @@ ty-inner-returns-4 t c =
     let if1 = c .before .before .if1 .left in
     let if2 = c .before .if2 .left in
     let if3 = c .if3 .left in
-    in-steps pre0 (search rules depth 60 fits 4000)
+    in-steps pre0 (s-false _ _ (kind-not if1) (s-false _ _ (kind-not if2) (s-false _ _ (kind-not if3) s-end)))
 
--- src/lib.rt:42:9
 ty-must-ty-prec-requires : (t : ℕ) → ty-must-lts.Need-ty-prec-requires (
   ty-prec-below t,
   ty-prec.Post,
@@ -3392,7 +3169,6 @@ ty-must-ty-prec-requires t c κs =
     let pre0 = c .before .before .before .before .before .before .before .before .pre .1 in
     search asks depth 8
 
--- src/lib.rt:44:19
 ty-must-enum-known-got : (t : ℕ) → ty-must-lts.Need-enum-known-got (
   ty-prec-below t,
   ty-prec.Post,
@@ -3404,7 +3180,6 @@ ty-must-enum-known-got t c =
     let pre0 = c .before .before .before .before .before .before .before .before .before .before .before .before .before .before .pre .1 in
     search needs
 
--- src/lib.rt:45:24
 ty-must-enum-known-got-2 : (t : ℕ) → ty-must-lts.Need-enum-known-got-2 (
   ty-prec-below t,
   ty-prec.Post,
@@ -3416,7 +3191,6 @@ ty-must-enum-known-got-2 t c =
     let pre0 = c .before .before .before .before .before .before .before .before .before .before .before .before .before .before .pre .1 in
     search needs
 
--- src/lib.rt:45:31
 ty-must-report-requires : (t : ℕ) → ty-must-lts.Need-report-requires (
   ty-prec-below t,
   ty-prec.Post,
@@ -3430,7 +3204,6 @@ ty-must-report-requires t c κs =
     let ty-prec-ok = ty-prec .ok in
     search asks depth 8
 
--- src/lib.rt:38:1
 ty-must-same-length : (t : ℕ) → ty-must-lts.Need-same-length (
   ty-prec-below t,
   ty-prec.Post,
@@ -3440,7 +3213,6 @@ ty-must-same-length : (t : ℕ) → ty-must-lts.Need-same-length (
 ty-must-same-length t c =
     c .before .before .before .before .before .before .before .ty-prec .kept .1 .1 .1 .1 .0
 
--- src/lib.rt:38:1
 ty-must-same-length-2 : (t : ℕ) → ty-must-lts.Need-same-length-2 (
   ty-prec-below t,
   ty-prec.Post,
@@ -3450,22 +3222,19 @@ ty-must-same-length-2 : (t : ℕ) → ty-must-lts.Need-same-length-2 (
 ty-must-same-length-2 t c =
     c .before .before .before .before .before .before .before .ty-prec .kept .1 .1 .1 .1 .1 .0
 
--- src/lib.rt:38:1
 ty-must-returns : (t : ℕ) → ty-must-lts.Need-returns (
   ty-prec-below t,
   ty-prec.Post,
   report-reads.Asked,
   report-reads.Learnt,
 ) (ty-must-at t) ty-must.Post
-unfolding types.tyMust
+unfolding types.tyMust plan choose chosen
 ty-must-returns t c =
     let falls = c .before .before .before .before .before .before .before .before .before .before .before .before .before .before .before .before .pre .0 in
     let pre0 = c .before .before .before .before .before .before .before .before .before .before .before .before .before .before .before .before .pre .1 in
-    let ty-prec-is = rw (c .before .got .given .1) at (c .before .before .before .before .before .before .before .ty-prec .ensures) in
-    let ty-prec = nth 0 ty-prec-is in
-    by-steps pre0 (λ b. search rules depth 60 fits 4000)
+    let ty-prec = rw (c .before .got .given .1) at (c .before .before .before .before .before .before .before .ty-prec .ensures) in
+    by-steps pre0 (λ b. s-run (runs-in ty-prec) s-end)
 
--- src/lib.rt:38:1
 ty-must-same-length-3 : (t : ℕ) → ty-must-lts.Need-same-length-3 (
   ty-prec-below t,
   ty-prec.Post,
@@ -3475,7 +3244,6 @@ ty-must-same-length-3 : (t : ℕ) → ty-must-lts.Need-same-length-3 (
 ty-must-same-length-3 t c =
     c .before .before .before .before .before .before .before .before .before .before .before .ty-prec .kept .1 .1 .1 .1 .0
 
--- src/lib.rt:38:1
 ty-must-same-length-4 : (t : ℕ) → ty-must-lts.Need-same-length-4 (
   ty-prec-below t,
   ty-prec.Post,
@@ -3485,24 +3253,20 @@ ty-must-same-length-4 : (t : ℕ) → ty-must-lts.Need-same-length-4 (
 ty-must-same-length-4 t c =
     c .before .before .report .kept .0 ∙ c .before .before .before .before .before .before .before .before .before .before .before .ty-prec .kept .1 .1 .1 .1 .1 .0
 
--- src/lib.rt:38:1
 ty-must-returns-2 : (t : ℕ) → ty-must-lts.Need-returns-2 (
   ty-prec-below t,
   ty-prec.Post,
   report-reads.Asked,
   report-reads.Learnt,
 ) (ty-must-at t) ty-must.Post
-unfolding types.tyMust
+unfolding types.tyMust plan choose chosen
 ty-must-returns-2 t c =
     let falls = c .before .before .before .before .before .before .before .before .before .before .before .before .before .before .before .before .before .before .before .before .pre .0 in
     let pre0 = c .before .before .before .before .before .before .before .before .before .before .before .before .before .before .before .before .before .before .before .before .pre .1 in
-    let ty-prec-is = rw (c .before .before .before .before .before .got2 .given .1) at (c .before .before .before .before .before .before .before .before .before .before .before .ty-prec .ensures) in
-    let ty-prec = nth 0 ty-prec-is in
-    let report-is = c .before .before .report .ensures in
-    let report = nth 1 report-is in
-    by-steps pre0 (λ b. search rules depth 60 fits 4000)
+    let ty-prec = rw (c .before .before .before .before .before .got2 .given .1) at (c .before .before .before .before .before .before .before .before .before .before .before .ty-prec .ensures) in
+    let report = c .before .before .report .ensures in
+    by-steps pre0 (λ b. s-run (runs-in ty-prec) (s-report report s-end))
 
--- src/lib.rt:56:25
 ty-prec-peek-requires : (t : ℕ) → ty-prec-lts.Need-peek-requires (
   peek-reads.Asked,
   peek-reads.Learnt,
@@ -3520,7 +3284,6 @@ ty-prec-peek-requires t c κs =
     let pre0 = c .before .before .before .before .before .before .pre .1 in
     search asks depth 8
 
--- src/lib.rt:56:20
 ty-prec-enum-known-k : (t : ℕ) → ty-prec-lts.Need-enum-known-k (
   peek-reads.Asked,
   peek-reads.Learnt,
@@ -3538,7 +3301,6 @@ ty-prec-enum-known-k t c =
     let pre0 = c .before .before .before .before .before .before .before .before .pre .1 in
     search needs
 
--- src/lib.rt:57:9
 ty-prec-enum-told : (t : ℕ) → ty-prec-lts.Need-enum-told (
   peek-reads.Asked,
   peek-reads.Learnt,
@@ -3556,7 +3318,6 @@ ty-prec-enum-told t c =
     let pre0 = c .before .before .before .before .before .before .before .before .pre .1 in
     search needs
 
--- src/lib.rt:57:9
 ty-prec-returns : (t : ℕ) → ty-prec-lts.Need-returns (
   peek-reads.Asked,
   peek-reads.Learnt,
@@ -3569,15 +3330,13 @@ ty-prec-returns : (t : ℕ) → ty-prec-lts.Need-returns (
   ty-tail-below t,
   ty-tail.Post,
 ) (ty-prec-at t) ty-prec.Post
-unfolding root.body types.tyScope
+unfolding root.body types.tyScope plan choose chosen
 ty-prec-returns t c =
     let falls = c .before .before .before .before .before .before .before .before .before .pre .0 in
     let pre0 = c .before .before .before .before .before .before .before .before .before .pre .1 in
-    let peek-is = rw (c .enum-told .given .1) at (c .before .before .peek .ensures) in
-    let peek = nth 0 peek-is in
-    by-steps pre0 (λ b. search rules depth 60 fits 4000)
+    let peek = rw (c .enum-told .given .1) at (c .before .before .peek .ensures) in
+    by-steps pre0 (λ b. s-rule (s-look peek s-end))
 
--- src/lib.rt:60:31
 ty-prec-refuse-requires : (t : ℕ) → ty-prec-lts.Need-refuse-requires (
   peek-reads.Asked,
   peek-reads.Learnt,
@@ -3597,7 +3356,6 @@ ty-prec-refuse-requires t c κs =
     let if1 = c .if1 .taken in
     search asks depth 8
 
--- src/lib.rt:60:9
 ty-prec-returns-2 : (t : ℕ) → ty-prec-lts.Need-returns-2 (
   peek-reads.Asked,
   peek-reads.Learnt,
@@ -3610,18 +3368,15 @@ ty-prec-returns-2 : (t : ℕ) → ty-prec-lts.Need-returns-2 (
   ty-tail-below t,
   ty-tail.Post,
 ) (ty-prec-at t) ty-prec.Post
-unfolding root.body types.tyScope
+unfolding root.body types.tyScope plan choose chosen
 ty-prec-returns-2 t c =
     let falls = c .before .before .before .before .before .before .before .before .before .before .before .before .pre .0 in
     let pre0 = c .before .before .before .before .before .before .before .before .before .before .before .before .pre .1 in
-    let peek-is = rw (c .before .before .before .k .given .1) at (c .before .before .before .before .before .peek .ensures) in
-    let peek = nth 0 peek-is in
+    let peek = rw (c .before .before .before .k .given .1) at (c .before .before .before .before .before .peek .ensures) in
     let if1 = c .before .if1 .taken in
-    let refuse-is = c .refuse .ensures in
-    let refuse = nth 1 refuse-is in
-    by-steps pre0 (λ b. search rules depth 60 fits 4000)
+    let refuse = c .refuse .ensures in
+    by-steps pre0 (λ b. s-rule (s-look peek (s-deep if1 refuse s-end)))
 
--- src/lib.rt:63:64
 ty-prec-sub-ty-head : (t : ℕ) → ty-prec-lts.Need-sub-ty-head (
   peek-reads.Asked,
   peek-reads.Learnt,
@@ -3640,7 +3395,6 @@ ty-prec-sub-ty-head t c =
     let if1 = c .before .before .if1 .left in
     search needs
 
--- src/lib.rt:63:80
 ty-prec-mark-requires : (t : ℕ) → ty-prec-lts.Need-mark-requires (
   peek-reads.Asked,
   peek-reads.Learnt,
@@ -3660,7 +3414,6 @@ ty-prec-mark-requires t c κs =
     let if1 = c .before .before .if1 .left in
     search asks depth 8
 
--- src/lib.rt:63:9
 ty-prec-ty-head-requires : (t : ℕ) → ty-prec-lts.Need-ty-head-requires (
   peek-reads.Asked,
   peek-reads.Learnt,
@@ -3682,7 +3435,6 @@ ty-prec-ty-head-requires t c κs =
     let mark-ok = ok-marks mark pre0 in
     search asks depth 8
 
--- src/lib.rt:65:24
 ty-prec-enum-known-head : (t : ℕ) → ty-prec-lts.Need-enum-known-head (
   peek-reads.Asked,
   peek-reads.Learnt,
@@ -3701,7 +3453,6 @@ ty-prec-enum-known-head t c =
     let if1 = c .before .before .before .before .before .before .before .before .before .if1 .left in
     search needs
 
--- src/lib.rt:66:19
 ty-prec-enum-known-head-2 : (t : ℕ) → ty-prec-lts.Need-enum-known-head-2 (
   peek-reads.Asked,
   peek-reads.Learnt,
@@ -3720,7 +3471,6 @@ ty-prec-enum-known-head-2 t c =
     let if1 = c .before .before .before .before .before .before .before .before .before .if1 .left in
     search needs
 
--- src/lib.rt:66:36
 ty-prec-ty-tail-requires : (t : ℕ) → ty-prec-lts.Need-ty-tail-requires (
   peek-reads.Asked,
   peek-reads.Learnt,
@@ -3744,7 +3494,6 @@ ty-prec-ty-tail-requires t c κs =
     let ty-head-ok = ty-head .ok in
     search asks depth 8
 
--- src/lib.rt:52:1
 ty-prec-same-length : (t : ℕ) → ty-prec-lts.Need-same-length (
   peek-reads.Asked,
   peek-reads.Learnt,
@@ -3760,7 +3509,6 @@ ty-prec-same-length : (t : ℕ) → ty-prec-lts.Need-same-length (
 ty-prec-same-length t c =
     c .before .before .before .before .before .before .before .ty-head .kept .1 .1 .1 .1 .0
 
--- src/lib.rt:52:1
 ty-prec-same-length-2 : (t : ℕ) → ty-prec-lts.Need-same-length-2 (
   peek-reads.Asked,
   peek-reads.Learnt,
@@ -3776,7 +3524,6 @@ ty-prec-same-length-2 : (t : ℕ) → ty-prec-lts.Need-same-length-2 (
 ty-prec-same-length-2 t c =
     c .before .before .before .before .before .before .before .ty-head .kept .1 .1 .1 .1 .1 .0
 
--- src/lib.rt:52:1
 ty-prec-returns-3 : (t : ℕ) → ty-prec-lts.Need-returns-3 (
   peek-reads.Asked,
   peek-reads.Learnt,
@@ -3789,20 +3536,16 @@ ty-prec-returns-3 : (t : ℕ) → ty-prec-lts.Need-returns-3 (
   ty-tail-below t,
   ty-tail.Post,
 ) (ty-prec-at t) ty-prec.Post
-unfolding root.body types.tyScope
+unfolding root.body types.tyScope plan choose chosen
 ty-prec-returns-3 t c =
     let falls = c .before .before .before .before .before .before .before .before .before .before .before .before .before .before .before .before .before .before .before .before .before .before .pre .0 in
     let pre0 = c .before .before .before .before .before .before .before .before .before .before .before .before .before .before .before .before .before .before .before .before .before .before .pre .1 in
-    let peek-is = rw (c .before .before .before .before .before .before .before .before .before .before .before .before .before .k .given .1) at (c .before .before .before .before .before .before .before .before .before .before .before .before .before .before .before .peek .ensures) in
-    let peek = nth 0 peek-is in
+    let peek = rw (c .before .before .before .before .before .before .before .before .before .before .before .before .before .k .given .1) at (c .before .before .before .before .before .before .before .before .before .before .before .before .before .before .before .peek .ensures) in
     let if1 = c .before .before .before .before .before .before .before .before .before .before .before .if1 .left in
-    let mark-is = c .before .before .before .before .before .before .before .before .mark .ensures in
-    let mark = nth 1 mark-is in
-    let ty-head-is = rw (c .before .head .given .1) at (c .before .before .before .before .before .before .before .ty-head .ensures) in
-    let ty-head = nth 2 ty-head-is in
-    by-steps pre0 (λ b. search rules depth 60 fits 4000)
+    let mark = c .before .before .before .before .before .before .before .before .mark .ensures in
+    let ty-head = rw (c .before .head .given .1) at (c .before .before .before .before .before .before .before .ty-head .ensures) in
+    by-steps pre0 (λ b. s-rule (s-look peek (s-mark if1 mark (s-by _ ty-head s-end))))
 
--- src/lib.rt:52:1
 ty-prec-same-length-3 : (t : ℕ) → ty-prec-lts.Need-same-length-3 (
   peek-reads.Asked,
   peek-reads.Learnt,
@@ -3818,7 +3561,6 @@ ty-prec-same-length-3 : (t : ℕ) → ty-prec-lts.Need-same-length-3 (
 ty-prec-same-length-3 t c =
     c .before .before .before .before .ty-tail .kept .1 .1 .1 .1 .0 ∙ c .before .before .before .before .before .before .before .before .before .before .before .before .before .before .ty-head .kept .1 .1 .1 .1 .0
 
--- src/lib.rt:52:1
 ty-prec-same-length-4 : (t : ℕ) → ty-prec-lts.Need-same-length-4 (
   peek-reads.Asked,
   peek-reads.Learnt,
@@ -3834,7 +3576,6 @@ ty-prec-same-length-4 : (t : ℕ) → ty-prec-lts.Need-same-length-4 (
 ty-prec-same-length-4 t c =
     c .before .before .before .before .ty-tail .kept .1 .1 .1 .1 .1 .0 ∙ c .before .before .before .before .before .before .before .before .before .before .before .before .before .before .ty-head .kept .1 .1 .1 .1 .1 .0
 
--- src/lib.rt:52:1
 ty-prec-returns-4 : (t : ℕ) → ty-prec-lts.Need-returns-4 (
   peek-reads.Asked,
   peek-reads.Learnt,
@@ -3847,22 +3588,17 @@ ty-prec-returns-4 : (t : ℕ) → ty-prec-lts.Need-returns-4 (
   ty-tail-below t,
   ty-tail.Post,
 ) (ty-prec-at t) ty-prec.Post
-unfolding root.body types.tyScope
+unfolding root.body types.tyScope plan choose chosen
 ty-prec-returns-4 t c =
     let falls = c .before .before .before .before .before .before .before .before .before .before .before .before .before .before .before .before .before .before .before .before .before .before .before .before .before .before .before .before .before .pre .0 in
     let pre0 = c .before .before .before .before .before .before .before .before .before .before .before .before .before .before .before .before .before .before .before .before .before .before .before .before .before .before .before .before .before .pre .1 in
-    let peek-is = rw (c .before .before .before .before .before .before .before .before .before .before .before .before .before .before .before .before .before .before .before .before .k .given .1) at (c .before .before .before .before .before .before .before .before .before .before .before .before .before .before .before .before .before .before .before .before .before .before .peek .ensures) in
-    let peek = nth 0 peek-is in
+    let peek = rw (c .before .before .before .before .before .before .before .before .before .before .before .before .before .before .before .before .before .before .before .before .k .given .1) at (c .before .before .before .before .before .before .before .before .before .before .before .before .before .before .before .before .before .before .before .before .before .before .peek .ensures) in
     let if1 = c .before .before .before .before .before .before .before .before .before .before .before .before .before .before .before .before .before .before .if1 .left in
-    let mark-is = c .before .before .before .before .before .before .before .before .before .before .before .before .before .before .before .mark .ensures in
-    let mark = nth 1 mark-is in
-    let ty-head-is = rw (c .before .before .before .before .before .before .before .before .head2 .given .1) at (c .before .before .before .before .before .before .before .before .before .before .before .before .before .before .ty-head .ensures) in
-    let ty-head = nth 2 ty-head-is in
-    let ty-tail-is = c .before .before .before .before .ty-tail .ensures in
-    let ty-tail = nth 3 ty-tail-is in
-    by-steps pre0 (λ b. search rules depth 60 fits 4000)
+    let mark = c .before .before .before .before .before .before .before .before .before .before .before .before .before .before .before .mark .ensures in
+    let ty-head = rw (c .before .before .before .before .before .before .before .before .head2 .given .1) at (c .before .before .before .before .before .before .before .before .before .before .before .before .before .before .ty-head .ensures) in
+    let ty-tail = c .before .before .before .before .ty-tail .ensures in
+    by-steps pre0 (λ b. s-rule (s-look peek (s-mark if1 mark (s-by _ ty-head (s-run ty-tail s-end)))))
 
--- src/lib.rt:120:9
 ty-round-ty-seq-requires : (t : ℕ) → ty-round-lts.Need-ty-seq-requires (
   ty-seq-below t,
   ty-seq.Post,
@@ -3881,7 +3617,6 @@ ty-round-ty-seq-requires t c κs =
     let pre1 = c .before .before .before .before .before .before .before .before .pre .1 .1 in
     search asks depth 8
 
--- src/lib.rt:122:24
 ty-round-enum-known-seq : (t : ℕ) → ty-round-lts.Need-enum-known-seq (
   ty-seq-below t,
   ty-seq.Post,
@@ -3900,7 +3635,6 @@ ty-round-enum-known-seq t c =
     let pre1 = c .before .before .before .before .before .before .before .before .before .before .before .before .before .before .pre .1 .1 in
     search needs
 
--- src/lib.rt:123:17
 ty-round-path-must-requires : (t : ℕ) → ty-round-lts.Need-path-must-requires (
   ty-seq-below t,
   ty-seq.Post,
@@ -3921,7 +3655,6 @@ ty-round-path-must-requires t c κs =
     let ty-seq-ok = ty-seq .ok in
     search asks depth 8
 
--- src/lib.rt:124:17
 ty-round-state-requires : (t : ℕ) → ty-round-lts.Need-state-requires (
   ty-seq-below t,
   ty-seq.Post,
@@ -3944,7 +3677,6 @@ ty-round-state-requires t c κs =
     let path-must-ok = path-must .ok in
     search asks depth 8
 
--- src/lib.rt:125:23
 ty-round-close-requires : (t : ℕ) → ty-round-lts.Need-close-requires (
   ty-seq-below t,
   ty-seq.Post,
@@ -3969,7 +3701,6 @@ ty-round-close-requires t c κs =
     let state-ok = ok-state state path-must-ok in
     search asks depth 8
 
--- src/lib.rt:127:19
 ty-round-enum-known-seq-2 : (t : ℕ) → ty-round-lts.Need-enum-known-seq-2 (
   ty-seq-below t,
   ty-seq.Post,
@@ -3988,7 +3719,6 @@ ty-round-enum-known-seq-2 t c =
     let pre1 = c .before .before .before .before .before .before .before .before .before .before .before .before .before .before .pre .1 .1 in
     search needs
 
--- src/lib.rt:128:17
 ty-round-bump-requires : (t : ℕ) → ty-round-lts.Need-bump-requires (
   ty-seq-below t,
   ty-seq.Post,
@@ -4009,7 +3739,6 @@ ty-round-bump-requires t c κs =
     let ty-seq-ok = ty-seq .ok in
     search asks depth 8
 
--- src/lib.rt:129:23
 ty-round-close-requires-2 : (t : ℕ) → ty-round-lts.Need-close-requires-2 (
   ty-seq-below t,
   ty-seq.Post,
@@ -4032,7 +3761,6 @@ ty-round-close-requires-2 t c κs =
     let bump-ok = ok-bumps bump ty-seq-ok in
     search asks depth 8
 
--- src/lib.rt:116:1
 ty-round-same-length : (t : ℕ) → ty-round-lts.Need-same-length (
   ty-seq-below t,
   ty-seq.Post,
@@ -4048,7 +3776,6 @@ ty-round-same-length : (t : ℕ) → ty-round-lts.Need-same-length (
 ty-round-same-length t c =
     c .before .before .close .kept .0 ∙ c .before .before .before .before .before .before .before .before .before .path-must .kept .1 .1 .1 .1 .0 ∙ c .before .before .before .before .before .before .before .before .before .before .before .before .before .before .before .before .before .before .before .ty-seq .kept .1 .1 .1 .1 .0
 
--- src/lib.rt:116:1
 ty-round-same-length-2 : (t : ℕ) → ty-round-lts.Need-same-length-2 (
   ty-seq-below t,
   ty-seq.Post,
@@ -4064,7 +3791,6 @@ ty-round-same-length-2 : (t : ℕ) → ty-round-lts.Need-same-length-2 (
 ty-round-same-length-2 t c =
     c .before .before .before .before .before .before .before .before .before .path-must .kept .1 .1 .1 .1 .1 .0 ∙ c .before .before .before .before .before .before .before .before .before .before .before .before .before .before .before .before .before .before .before .ty-seq .kept .1 .1 .1 .1 .1 .0
 
--- src/lib.rt:116:1
 ty-round-returns : (t : ℕ) → ty-round-lts.Need-returns (
   ty-seq-below t,
   ty-seq.Post,
@@ -4077,22 +3803,17 @@ ty-round-returns : (t : ℕ) → ty-round-lts.Need-returns (
   bump-reads.Asked,
   bump-reads.Learnt,
 ) (ty-round-at t) ty-round.Post
-unfolding types.tyRound
+unfolding types.tyRound plan choose chosen
 ty-round-returns t c =
     let falls = c .before .before .before .before .before .before .before .before .before .before .before .before .before .before .before .before .before .before .before .before .before .before .before .before .before .before .before .before .pre .0 in
     let pre0 = c .before .before .before .before .before .before .before .before .before .before .before .before .before .before .before .before .before .before .before .before .before .before .before .before .before .before .before .before .pre .1 .0 in
     let pre1 = c .before .before .before .before .before .before .before .before .before .before .before .before .before .before .before .before .before .before .before .before .before .before .before .before .before .before .before .before .pre .1 .1 in
-    let ty-seq-is = rw (c .before .before .before .before .before .before .before .before .before .before .before .before .before .seq .given .1) at (c .before .before .before .before .before .before .before .before .before .before .before .before .before .before .before .before .before .before .before .ty-seq .ensures) in
-    let ty-seq = nth 0 ty-seq-is in
-    let path-must-is = c .before .before .before .before .before .before .before .before .before .path-must .ensures in
-    let path-must = nth 1 path-must-is in
-    let state-is = c .before .before .before .before .state .ensures in
-    let state = nth 2 state-is in
-    let close-is = c .before .before .close .ensures in
-    let close = nth 3 close-is in
-    in-steps pre0 (search rules depth 60 fits 4000)
+    let ty-seq = rw (c .before .before .before .before .before .before .before .before .before .before .before .before .before .seq .given .1) at (c .before .before .before .before .before .before .before .before .before .before .before .before .before .before .before .before .before .before .before .ty-seq .ensures) in
+    let path-must = c .before .before .before .before .before .before .before .before .before .path-must .ensures in
+    let state = c .before .before .before .before .state .ensures in
+    let close = c .before .before .close .ensures in
+    in-steps pre0 (s-by _ (runs-in ty-seq) (s-by _ (settled state (runs-in path-must)) (s-close close s-end)))
 
--- src/lib.rt:116:1
 ty-round-same-length-3 : (t : ℕ) → ty-round-lts.Need-same-length-3 (
   ty-seq-below t,
   ty-seq.Post,
@@ -4108,7 +3829,6 @@ ty-round-same-length-3 : (t : ℕ) → ty-round-lts.Need-same-length-3 (
 ty-round-same-length-3 t c =
     c .before .before .close2 .kept .0 ∙ c .before .before .before .before .before .before .bump .kept .1 .0 ∙ c .before .before .before .before .before .before .before .before .before .before .before .before .before .before .before .ty-seq .kept .1 .1 .1 .1 .0
 
--- src/lib.rt:116:1
 ty-round-same-length-4 : (t : ℕ) → ty-round-lts.Need-same-length-4 (
   ty-seq-below t,
   ty-seq.Post,
@@ -4124,7 +3844,6 @@ ty-round-same-length-4 : (t : ℕ) → ty-round-lts.Need-same-length-4 (
 ty-round-same-length-4 t c =
     c .before .before .before .before .before .before .before .before .before .before .before .before .before .before .before .ty-seq .kept .1 .1 .1 .1 .1 .0
 
--- src/lib.rt:116:1
 ty-round-returns-2 : (t : ℕ) → ty-round-lts.Need-returns-2 (
   ty-seq-below t,
   ty-seq.Post,
@@ -4137,20 +3856,16 @@ ty-round-returns-2 : (t : ℕ) → ty-round-lts.Need-returns-2 (
   bump-reads.Asked,
   bump-reads.Learnt,
 ) (ty-round-at t) ty-round.Post
-unfolding types.tyRound
+unfolding types.tyRound plan choose chosen
 ty-round-returns-2 t c =
     let falls = c .before .before .before .before .before .before .before .before .before .before .before .before .before .before .before .before .before .before .before .before .before .before .before .before .pre .0 in
     let pre0 = c .before .before .before .before .before .before .before .before .before .before .before .before .before .before .before .before .before .before .before .before .before .before .before .before .pre .1 .0 in
     let pre1 = c .before .before .before .before .before .before .before .before .before .before .before .before .before .before .before .before .before .before .before .before .before .before .before .before .pre .1 .1 in
-    let ty-seq-is = rw (c .before .before .before .before .before .before .before .before .before .seq2 .given .1) at (c .before .before .before .before .before .before .before .before .before .before .before .before .before .before .before .ty-seq .ensures) in
-    let ty-seq = nth 0 ty-seq-is in
-    let bump-is = c .before .before .before .before .before .before .bump .ensures in
-    let bump = nth 1 bump-is in
-    let close2-is = c .before .before .close2 .ensures in
-    let close2 = nth 2 close2-is in
-    in-steps pre0 (search rules depth 60 fits 4000)
+    let ty-seq = rw (c .before .before .before .before .before .before .before .before .before .seq2 .given .1) at (c .before .before .before .before .before .before .before .before .before .before .before .before .before .before .before .ty-seq .ensures) in
+    let bump = c .before .before .before .before .before .before .bump .ensures in
+    let close2 = c .before .before .close2 .ensures in
+    in-steps pre0 (s-by _ (runs-in ty-seq) (s-bump bump (s-close close2 s-end)))
 
--- src/lib.rt:369:9
 ty-row-lab-requires : (t : ℕ) → ty-row-lts.Need-lab-requires (
   lab-reads.Asked,
   lab-reads.Learnt,
@@ -4164,7 +3879,6 @@ ty-row-lab-requires t c κs =
     let pre0 = c .before .before .before .before .before .before .before .before .pre .1 in
     search asks depth 8
 
--- src/lib.rt:370:9
 ty-row-bump-ascription-requires : (t : ℕ) → ty-row-lts.Need-bump-ascription-requires (
   lab-reads.Asked,
   lab-reads.Learnt,
@@ -4180,7 +3894,6 @@ ty-row-bump-ascription-requires t c κs =
     let lab-ok = lab .ok in
     search asks depth 8
 
--- src/lib.rt:371:5
 ty-row-ty-must-requires : (t : ℕ) → ty-row-lts.Need-ty-must-requires (
   lab-reads.Asked,
   lab-reads.Learnt,
@@ -4198,7 +3911,6 @@ ty-row-ty-must-requires t c κs =
     let bump-ascription-ok = bump-ascription .ok in
     search asks depth 8
 
--- src/lib.rt:365:1
 ty-row-same-length : (t : ℕ) → ty-row-lts.Need-same-length (
   lab-reads.Asked,
   lab-reads.Learnt,
@@ -4210,7 +3922,6 @@ ty-row-same-length : (t : ℕ) → ty-row-lts.Need-same-length (
 ty-row-same-length t c =
     c .before .before .before .before .ty-must .kept .1 .1 .1 .1 .0 ∙ c .before .before .before .before .before .before .before .before .before .before .before .bump-ascription .kept .1 .1 .1 .1 .0 ∙ c .before .before .before .before .before .before .before .before .before .before .before .before .before .before .before .before .before .before .lab .kept .1 .1 .1 .1 .0
 
--- src/lib.rt:365:1
 ty-row-same-length-2 : (t : ℕ) → ty-row-lts.Need-same-length-2 (
   lab-reads.Asked,
   lab-reads.Learnt,
@@ -4222,7 +3933,6 @@ ty-row-same-length-2 : (t : ℕ) → ty-row-lts.Need-same-length-2 (
 ty-row-same-length-2 t c =
     c .before .before .before .before .ty-must .kept .1 .1 .1 .1 .1 .0 ∙ c .before .before .before .before .before .before .before .before .before .before .before .bump-ascription .kept .1 .1 .1 .1 .1 .0 ∙ c .before .before .before .before .before .before .before .before .before .before .before .before .before .before .before .before .before .before .lab .kept .1 .1 .1 .1 .1 .0
 
--- src/lib.rt:365:1
 ty-row-returns : (t : ℕ) → ty-row-lts.Need-returns (
   lab-reads.Asked,
   lab-reads.Learnt,
@@ -4231,17 +3941,14 @@ ty-row-returns : (t : ℕ) → ty-row-lts.Need-returns (
   ty-must-below t,
   ty-must.Post,
 ) (ty-row-at t) ty-row.Post
-unfolding types.tyRow
+unfolding types.tyRow plan choose chosen
 ty-row-returns t c =
     let falls = c .before .before .before .before .before .before .before .before .before .before .before .before .before .before .before .before .before .before .before .before .before .before .before .before .before .before .before .pre .0 in
     let pre0 = c .before .before .before .before .before .before .before .before .before .before .before .before .before .before .before .before .before .before .before .before .before .before .before .before .before .before .before .pre .1 in
-    let lab-is = c .before .before .before .before .before .before .before .before .before .before .before .before .before .before .before .before .before .before .lab .ensures in
-    let lab = nth 0 lab-is in
-    let bump-ascription-is = c .before .before .before .before .before .before .before .before .before .before .before .bump-ascription .ensures in
-    let bump-ascription = nth 1 bump-ascription-is in
-    let ty-must-is = c .before .before .before .before .ty-must .ensures in
-    let ty-must = nth 2 ty-must-is in
-    by-steps pre0 (λ b. search rules depth 60 fits 4000)
+    let lab = c .before .before .before .before .before .before .before .before .before .before .before .before .before .before .before .before .before .before .lab .ensures in
+    let bump-ascription = c .before .before .before .before .before .before .before .before .before .before .before .bump-ascription .ensures in
+    let ty-must = c .before .before .before .before .ty-must .ensures in
+    by-steps pre0 (λ b. s-by _ (runs-always lab) (s-by _ (runs-always bump-ascription) (s-by _ (runs-in ty-must) s-end)))
 
 abbrev ty-rows-Inv-loop : ty-rows-lts.InvT-loop
 ty-rows-Inv-loop text toks env table scratch₀ finds₀ left b s1₀ scratch finds s1 =
@@ -4250,7 +3957,6 @@ ty-rows-Inv-loop text toks env table scratch₀ finds₀ left b s1₀ scratch fi
 abbrev ty-rows-μ-loop : ty-rows-lts.MeasureT-loop
 ty-rows-μ-loop text toks env table scratch₀ finds₀ left b s1₀ scratch finds s1 = turns (mem text toks env table scratch finds s1)
 
--- src/lib.rt:315:5
 ty-rows-loop-holds :
     (t : ℕ) →
     ty-rows-lts.Need-loop-holds
@@ -4264,7 +3970,6 @@ ty-rows-loop-holds t c =
     let pre0 = c .before .before .before .before .before .before .pre .1 in
     (loop-starts pre0, refl, refl)
 
--- src/lib.rt:316:13
 ty-rows-row-turn-requires : (t : ℕ) → ty-rows-lts.Need-row-turn-requires (
   row-turn-below t,
   row-turn.Post,
@@ -4275,7 +3980,6 @@ ty-rows-row-turn-requires t c κs =
     let inv = c .before .before .loop .inv .0 .ok in
     search asks depth 8
 
--- src/lib.rt:318:23
 ty-rows-enum-known-turn : (t : ℕ) → ty-rows-lts.Need-enum-known-turn (
   row-turn-below t,
   row-turn.Post,
@@ -4285,7 +3989,6 @@ ty-rows-enum-known-turn t c =
     let pre0 = c .before .before .before .before .before .before .before .before .before .before .before .before .before .before .before .pre .1 in
     search needs
 
--- src/lib.rt:315:5
 ty-rows-loop-less :
     (t : ℕ) →
     ty-rows-lts.Need-loop-less
@@ -4298,7 +4001,6 @@ ty-rows-loop-less t c =
     let row-turn = runs-in {b = 0} (rw (c .before .turn .given .1) at (c .before .before .before .before .before .before .before .row-turn .ensures)) in
     loop-falls (end-turn-advances true _ _ _ _ _ _) row-turn
 
--- src/lib.rt:315:5
 ty-rows-loop-again :
     (t : ℕ) →
     ty-rows-lts.Need-loop-again
@@ -4311,7 +4013,6 @@ ty-rows-loop-again t c =
     let row-turn = runs-in (rw (c .before .turn .given .1) at (c .before .before .before .before .before .before .before .row-turn .ensures)) in
     (loop-goes (end-turn-advances true _ _ _ _ _ _) (c .before .before .before .before .before .before .before .before .before .before .loop .inv .0) row-turn, c .before .before .before .before .before .before .before .row-turn .kept .1 .1 .1 .1 .0 ∙ c .before .before .before .before .before .before .before .before .before .before .loop .inv .1, c .before .before .before .before .before .before .before .row-turn .kept .1 .1 .1 .1 .1 .0 ∙ c .before .before .before .before .before .before .before .before .before .before .loop .inv .2)
 
--- src/lib.rt:319:28
 ty-rows-enum-known-turn-2 : (t : ℕ) → ty-rows-lts.Need-enum-known-turn-2 (
   row-turn-below t,
   row-turn.Post,
@@ -4321,7 +4022,6 @@ ty-rows-enum-known-turn-2 t c =
     let pre0 = c .before .before .before .before .before .before .before .before .before .before .before .before .before .before .before .pre .1 in
     search needs
 
--- src/lib.rt:319:35
 ty-rows-same-length :
     (t : ℕ) →
     ty-rows-lts.Need-same-length
@@ -4333,7 +4033,6 @@ ty-rows-same-length :
 ty-rows-same-length t c =
     c .before .before .before .before .before .before .before .row-turn .kept .1 .1 .1 .1 .0 ∙ c .before .before .before .before .before .before .before .before .before .before .loop .inv .1
 
--- src/lib.rt:319:35
 ty-rows-same-length-2 :
     (t : ℕ) →
     ty-rows-lts.Need-same-length-2
@@ -4345,7 +4044,6 @@ ty-rows-same-length-2 :
 ty-rows-same-length-2 t c =
     c .before .before .before .before .before .before .before .row-turn .kept .1 .1 .1 .1 .1 .0 ∙ c .before .before .before .before .before .before .before .before .before .before .loop .inv .2
 
--- src/lib.rt:319:35
 ty-rows-returns :
     (t : ℕ) →
     ty-rows-lts.Need-returns
@@ -4358,7 +4056,6 @@ ty-rows-returns t c =
     let row-turn = runs-in (rw (c .before .turn2 .given .1) at (c .before .before .before .before .before .before .before .row-turn .ensures)) in
     loop-ends (end-turn-advances true _ _ _ _ _ _) (c .before .before .before .before .before .before .before .before .before .before .loop .inv .0) row-turn
 
--- src/lib.rt:142:31
 ty-seq-refuse-requires : (t : ℕ) → ty-seq-lts.Need-refuse-requires (
   refuse-reads.Asked,
   refuse-reads.Learnt,
@@ -4379,7 +4076,6 @@ ty-seq-refuse-requires t c κs =
     let if1 = c .if1 .taken in
     search asks depth 8
 
--- src/lib.rt:142:9
 ty-seq-returns : (t : ℕ) → ty-seq-lts.Need-returns (
   refuse-reads.Asked,
   refuse-reads.Learnt,
@@ -4394,16 +4090,14 @@ ty-seq-returns : (t : ℕ) → ty-seq-lts.Need-returns (
   close-reads.Asked,
   close-reads.Learnt,
 ) (ty-seq-at t) ty-seq.Post
-unfolding types.tySeq util.endSep
+unfolding types.tySeq util.endSep plan choose chosen
 ty-seq-returns t c =
     let falls = c .before .before .before .before .before .before .before .before .pre .0 in
     let pre0 = c .before .before .before .before .before .before .before .before .pre .1 in
     let if1 = c .before .if1 .taken in
-    let refuse-is = c .refuse .ensures in
-    let refuse = nth 0 refuse-is in
-    by-steps pre0 (λ b. search rules depth 60 fits 4000)
+    let refuse = c .refuse .ensures in
+    by-steps pre0 (λ b. s-deep if1 refuse s-end)
 
--- src/lib.rt:144:9
 ty-seq-mark-requires : (t : ℕ) → ty-seq-lts.Need-mark-requires (
   refuse-reads.Asked,
   refuse-reads.Learnt,
@@ -4424,7 +4118,6 @@ ty-seq-mark-requires t c κs =
     let if1 = c .if1 .left in
     search asks depth 8
 
--- src/lib.rt:146:9
 ty-seq-bump-requires : (t : ℕ) → ty-seq-lts.Need-bump-requires (
   refuse-reads.Asked,
   refuse-reads.Learnt,
@@ -4447,7 +4140,6 @@ ty-seq-bump-requires t c κs =
     let mark-ok = ok-marks mark pre0 in
     search asks depth 8
 
--- src/lib.rt:147:62
 ty-seq-sub-ty-arg : (t : ℕ) → ty-seq-lts.Need-sub-ty-arg (
   refuse-reads.Asked,
   refuse-reads.Learnt,
@@ -4468,7 +4160,6 @@ ty-seq-sub-ty-arg t c =
     let if1 = c .before .before .before .before .before .before .before .if1 .left in
     search needs
 
--- src/lib.rt:147:9
 ty-seq-ty-arg-requires : (t : ℕ) → ty-seq-lts.Need-ty-arg-requires (
   refuse-reads.Asked,
   refuse-reads.Learnt,
@@ -4493,7 +4184,6 @@ ty-seq-ty-arg-requires t c κs =
     let bump-ok = ok-bumps bump mark-ok in
     search asks depth 8
 
--- src/lib.rt:149:24
 ty-seq-enum-known-arg : (t : ℕ) → ty-seq-lts.Need-enum-known-arg (
   refuse-reads.Asked,
   refuse-reads.Learnt,
@@ -4514,7 +4204,6 @@ ty-seq-enum-known-arg t c =
     let if1 = c .before .before .before .before .before .before .before .before .before .before .before .before .before .if1 .left in
     search needs
 
--- src/lib.rt:150:70
 ty-seq-sub-ty-args : (t : ℕ) → ty-seq-lts.Need-sub-ty-args (
   refuse-reads.Asked,
   refuse-reads.Learnt,
@@ -4535,7 +4224,6 @@ ty-seq-sub-ty-args t c =
     let if1 = c .before .before .before .before .before .before .before .before .before .before .before .before .before .before .before .before .before .if1 .left in
     search needs
 
--- src/lib.rt:150:17
 ty-seq-ty-args-requires : (t : ℕ) → ty-seq-lts.Need-ty-args-requires (
   refuse-reads.Asked,
   refuse-reads.Learnt,
@@ -4562,7 +4250,6 @@ ty-seq-ty-args-requires t c κs =
     let ty-arg-ok = ty-arg .ok in
     search asks depth 8
 
--- src/lib.rt:151:28
 ty-seq-close-requires : (t : ℕ) → ty-seq-lts.Need-close-requires (
   refuse-reads.Asked,
   refuse-reads.Learnt,
@@ -4591,7 +4278,6 @@ ty-seq-close-requires t c κs =
     let ty-args-ok = ty-args .ok in
     search asks depth 8
 
--- src/lib.rt:153:19
 ty-seq-enum-known-arg-2 : (t : ℕ) → ty-seq-lts.Need-enum-known-arg-2 (
   refuse-reads.Asked,
   refuse-reads.Learnt,
@@ -4612,7 +4298,6 @@ ty-seq-enum-known-arg-2 t c =
     let if1 = c .before .before .before .before .before .before .before .before .before .before .before .before .before .if1 .left in
     search needs
 
--- src/lib.rt:137:1
 ty-seq-same-length : (t : ℕ) → ty-seq-lts.Need-same-length (
   refuse-reads.Asked,
   refuse-reads.Learnt,
@@ -4630,7 +4315,6 @@ ty-seq-same-length : (t : ℕ) → ty-seq-lts.Need-same-length (
 ty-seq-same-length t c =
     c .before .before .close .kept .0 ∙ c .before .before .before .before .before .before .before .before .ty-args .kept .1 .1 .1 .1 .0 ∙ c .before .before .before .before .before .before .before .before .before .before .before .before .before .before .before .before .before .before .ty-arg .kept .1 .1 .1 .1 .0 ∙ c .before .before .before .before .before .before .before .before .before .before .before .before .before .before .before .before .before .before .before .before .before .before .before .bump .kept .1 .0
 
--- src/lib.rt:137:1
 ty-seq-same-length-2 : (t : ℕ) → ty-seq-lts.Need-same-length-2 (
   refuse-reads.Asked,
   refuse-reads.Learnt,
@@ -4648,7 +4332,6 @@ ty-seq-same-length-2 : (t : ℕ) → ty-seq-lts.Need-same-length-2 (
 ty-seq-same-length-2 t c =
     c .before .before .before .before .before .before .before .before .ty-args .kept .1 .1 .1 .1 .1 .0 ∙ c .before .before .before .before .before .before .before .before .before .before .before .before .before .before .before .before .before .before .ty-arg .kept .1 .1 .1 .1 .1 .0
 
--- src/lib.rt:137:1
 ty-seq-returns-2 : (t : ℕ) → ty-seq-lts.Need-returns-2 (
   refuse-reads.Asked,
   refuse-reads.Learnt,
@@ -4663,24 +4346,18 @@ ty-seq-returns-2 : (t : ℕ) → ty-seq-lts.Need-returns-2 (
   close-reads.Asked,
   close-reads.Learnt,
 ) (ty-seq-at t) ty-seq.Post
-unfolding types.tySeq util.endSep
+unfolding types.tySeq util.endSep plan choose chosen
 ty-seq-returns-2 t c =
     let falls = c .before .before .before .before .before .before .before .before .before .before .before .before .before .before .before .before .before .before .before .before .before .before .before .before .before .before .before .before .before .before .before .before .before .pre .0 in
     let pre0 = c .before .before .before .before .before .before .before .before .before .before .before .before .before .before .before .before .before .before .before .before .before .before .before .before .before .before .before .before .before .before .before .before .before .pre .1 in
     let if1 = c .before .before .before .before .before .before .before .before .before .before .before .before .before .before .before .before .before .before .before .before .before .before .before .before .before .before .if1 .left in
-    let mark-is = c .before .before .before .before .before .before .before .before .before .before .before .before .before .before .before .before .before .before .before .before .before .before .before .before .before .mark .ensures in
-    let mark = nth 0 mark-is in
-    let bump-is = c .before .before .before .before .before .before .before .before .before .before .before .before .before .before .before .before .before .before .before .before .before .before .before .bump .ensures in
-    let bump = nth 1 bump-is in
-    let ty-arg-is = rw (c .before .before .before .before .before .before .before .before .before .before .before .before .arg .given .1) at (c .before .before .before .before .before .before .before .before .before .before .before .before .before .before .before .before .before .before .ty-arg .ensures) in
-    let ty-arg = nth 2 ty-arg-is in
-    let ty-args-is = c .before .before .before .before .before .before .before .before .ty-args .ensures in
-    let ty-args = nth 3 ty-args-is in
-    let close-is = c .before .before .close .ensures in
-    let close = nth 4 close-is in
-    by-steps pre0 (λ b. search rules depth 60 fits 4000)
+    let mark = c .before .before .before .before .before .before .before .before .before .before .before .before .before .before .before .before .before .before .before .before .before .before .before .before .before .mark .ensures in
+    let bump = c .before .before .before .before .before .before .before .before .before .before .before .before .before .before .before .before .before .before .before .before .before .before .before .bump .ensures in
+    let ty-arg = rw (c .before .before .before .before .before .before .before .before .before .before .before .before .arg .given .1) at (c .before .before .before .before .before .before .before .before .before .before .before .before .before .before .before .before .before .before .ty-arg .ensures) in
+    let ty-args = c .before .before .before .before .before .before .before .before .ty-args .ensures in
+    let close = c .before .before .close .ensures in
+    by-steps pre0 (λ b. s-mark if1 mark (s-bump bump (s-by _ (runs-in ty-arg) (s-run ty-args (s-close close s-end)))))
 
--- src/lib.rt:137:1
 ty-seq-same-length-3 : (t : ℕ) → ty-seq-lts.Need-same-length-3 (
   refuse-reads.Asked,
   refuse-reads.Learnt,
@@ -4698,7 +4375,6 @@ ty-seq-same-length-3 : (t : ℕ) → ty-seq-lts.Need-same-length-3 (
 ty-seq-same-length-3 t c =
     c .before .before .before .before .before .before .before .ty-arg .kept .1 .1 .1 .1 .0 ∙ c .before .before .before .before .before .before .before .before .before .before .before .before .bump .kept .1 .0
 
--- src/lib.rt:137:1
 ty-seq-same-length-4 : (t : ℕ) → ty-seq-lts.Need-same-length-4 (
   refuse-reads.Asked,
   refuse-reads.Learnt,
@@ -4716,7 +4392,6 @@ ty-seq-same-length-4 : (t : ℕ) → ty-seq-lts.Need-same-length-4 (
 ty-seq-same-length-4 t c =
     c .before .before .before .before .before .before .before .ty-arg .kept .1 .1 .1 .1 .1 .0
 
--- src/lib.rt:137:1
 ty-seq-returns-3 : (t : ℕ) → ty-seq-lts.Need-returns-3 (
   refuse-reads.Asked,
   refuse-reads.Learnt,
@@ -4731,20 +4406,16 @@ ty-seq-returns-3 : (t : ℕ) → ty-seq-lts.Need-returns-3 (
   close-reads.Asked,
   close-reads.Learnt,
 ) (ty-seq-at t) ty-seq.Post
-unfolding types.tySeq util.endSep
+unfolding types.tySeq util.endSep plan choose chosen
 ty-seq-returns-3 t c =
     let falls = c .before .before .before .before .before .before .before .before .before .before .before .before .before .before .before .before .before .before .before .before .before .before .pre .0 in
     let pre0 = c .before .before .before .before .before .before .before .before .before .before .before .before .before .before .before .before .before .before .before .before .before .before .pre .1 in
     let if1 = c .before .before .before .before .before .before .before .before .before .before .before .before .before .before .before .if1 .left in
-    let mark-is = c .before .before .before .before .before .before .before .before .before .before .before .before .before .before .mark .ensures in
-    let mark = nth 0 mark-is in
-    let bump-is = c .before .before .before .before .before .before .before .before .before .before .before .before .bump .ensures in
-    let bump = nth 1 bump-is in
-    let ty-arg-is = rw (c .before .arg2 .given .1) at (c .before .before .before .before .before .before .before .ty-arg .ensures) in
-    let ty-arg = nth 2 ty-arg-is in
-    by-steps pre0 (λ b. search rules depth 60 fits 4000)
+    let mark = c .before .before .before .before .before .before .before .before .before .before .before .before .before .before .mark .ensures in
+    let bump = c .before .before .before .before .before .before .before .before .before .before .before .before .bump .ensures in
+    let ty-arg = rw (c .before .arg2 .given .1) at (c .before .before .before .before .before .before .before .ty-arg .ensures) in
+    by-steps pre0 (λ b. s-mark if1 mark (s-bump bump (s-by _ (runs-in ty-arg) s-end)))
 
--- src/lib.rt:200:25
 ty-step-peek-requires : (t : ℕ) → ty-step-lts.Need-peek-requires (
   peek-reads.Asked,
   peek-reads.Learnt,
@@ -4761,7 +4432,6 @@ ty-step-peek-requires t c κs =
     let pre1 = c .before .before .before .before .before .before .pre .1 .1 in
     search asks depth 8
 
--- src/lib.rt:200:20
 ty-step-enum-known-k : (t : ℕ) → ty-step-lts.Need-enum-known-k (
   peek-reads.Asked,
   peek-reads.Learnt,
@@ -4778,7 +4448,6 @@ ty-step-enum-known-k t c =
     let pre1 = c .before .before .before .before .before .before .before .before .pre .1 .1 in
     search needs
 
--- src/lib.rt:201:9
 ty-step-enum-told : (t : ℕ) → ty-step-lts.Need-enum-told (
   peek-reads.Asked,
   peek-reads.Learnt,
@@ -4795,7 +4464,6 @@ ty-step-enum-told t c =
     let pre1 = c .before .before .before .before .before .before .before .before .pre .1 .1 in
     search needs
 
--- src/lib.rt:201:9
 ty-step-returns : (t : ℕ) → ty-step-lts.Need-returns (
   peek-reads.Asked,
   peek-reads.Learnt,
@@ -4806,16 +4474,14 @@ ty-step-returns : (t : ℕ) → ty-step-lts.Need-returns (
   ty-con-reads.Asked,
   ty-con-reads.Learnt,
 ) (ty-step-at t) ty-step.Post
-unfolding types.tyStep
+unfolding types.tyStep plan choose chosen
 ty-step-returns t c =
     let falls = c .before .before .before .before .before .before .before .before .before .pre .0 in
     let pre0 = c .before .before .before .before .before .before .before .before .before .pre .1 .0 in
     let pre1 = c .before .before .before .before .before .before .before .before .before .pre .1 .1 in
-    let peek-is = rw (c .enum-told .given .1) at (c .before .before .peek .ensures) in
-    let peek = nth 0 peek-is in
-    in-steps pre0 (search rules depth 60 fits 4000)
+    let peek = rw (c .enum-told .given .1) at (c .before .before .peek .ensures) in
+    in-steps pre0 (s-look peek s-end)
 
--- src/lib.rt:205:13
 ty-step-returns-2 : (t : ℕ) → ty-step-lts.Need-returns-2 (
   peek-reads.Asked,
   peek-reads.Learnt,
@@ -4826,18 +4492,16 @@ ty-step-returns-2 : (t : ℕ) → ty-step-lts.Need-returns-2 (
   ty-con-reads.Asked,
   ty-con-reads.Learnt,
 ) (ty-step-at t) ty-step.Post
-unfolding types.tyStep
+unfolding types.tyStep plan choose chosen
 ty-step-returns-2 t c =
     let falls = c .before .before .before .before .before .before .before .before .before .before .before .before .pre .0 in
     let pre0 = c .before .before .before .before .before .before .before .before .before .before .before .before .pre .1 .0 in
     let pre1 = c .before .before .before .before .before .before .before .before .before .before .before .before .pre .1 .1 in
-    let peek-is = rw (c .before .before .before .k .given .1) at (c .before .before .before .before .before .peek .ensures) in
-    let peek = nth 0 peek-is in
+    let peek = rw (c .before .before .before .k .given .1) at (c .before .before .before .before .before .peek .ensures) in
     let if1 = c .before .if1 .taken in
     let if2 = c .if2 .taken in
-    in-steps pre0 (search rules depth 60 fits 4000)
+    in-steps pre0 (s-look peek (s-true _ _ (kind-is if1) (s-true _ _ (lt-ltb _ _ if2) s-end)))
 
--- src/lib.rt:207:26
 ty-step-ty-arrow-requires : (t : ℕ) → ty-step-lts.Need-ty-arrow-requires (
   peek-reads.Asked,
   peek-reads.Learnt,
@@ -4857,7 +4521,6 @@ ty-step-ty-arrow-requires t c κs =
     let if2 = c .before .before .if2 .left in
     search asks depth 8
 
--- src/lib.rt:207:9
 ty-step-same-length : (t : ℕ) → ty-step-lts.Need-same-length (
   peek-reads.Asked,
   peek-reads.Learnt,
@@ -4871,7 +4534,6 @@ ty-step-same-length : (t : ℕ) → ty-step-lts.Need-same-length (
 ty-step-same-length t c =
     c .before .before .before .before .ty-arrow .kept .1 .1 .1 .1 .0
 
--- src/lib.rt:207:9
 ty-step-same-length-2 : (t : ℕ) → ty-step-lts.Need-same-length-2 (
   peek-reads.Asked,
   peek-reads.Learnt,
@@ -4885,7 +4547,6 @@ ty-step-same-length-2 : (t : ℕ) → ty-step-lts.Need-same-length-2 (
 ty-step-same-length-2 t c =
     c .before .before .before .before .ty-arrow .kept .1 .1 .1 .1 .1 .0
 
--- src/lib.rt:207:9
 ty-step-returns-3 : (t : ℕ) → ty-step-lts.Need-returns-3 (
   peek-reads.Asked,
   peek-reads.Learnt,
@@ -4896,20 +4557,17 @@ ty-step-returns-3 : (t : ℕ) → ty-step-lts.Need-returns-3 (
   ty-con-reads.Asked,
   ty-con-reads.Learnt,
 ) (ty-step-at t) ty-step.Post
-unfolding types.tyStep
+unfolding types.tyStep plan choose chosen
 ty-step-returns-3 t c =
     let falls = c .before .before .before .before .before .before .before .before .before .before .before .before .before .before .before .before .before .before .before .pre .0 in
     let pre0 = c .before .before .before .before .before .before .before .before .before .before .before .before .before .before .before .before .before .before .before .pre .1 .0 in
     let pre1 = c .before .before .before .before .before .before .before .before .before .before .before .before .before .before .before .before .before .before .before .pre .1 .1 in
-    let peek-is = rw (c .before .before .before .before .before .before .before .before .before .before .k .given .1) at (c .before .before .before .before .before .before .before .before .before .before .before .before .peek .ensures) in
-    let peek = nth 0 peek-is in
+    let peek = rw (c .before .before .before .before .before .before .before .before .before .before .k .given .1) at (c .before .before .before .before .before .before .before .before .before .before .before .before .peek .ensures) in
     let if1 = c .before .before .before .before .before .before .before .before .if1 .taken in
     let if2 = c .before .before .before .before .before .before .before .if2 .left in
-    let ty-arrow-is = c .before .before .before .before .ty-arrow .ensures in
-    let ty-arrow = nth 1 ty-arrow-is in
-    in-steps pre0 (search rules depth 60 fits 4000)
+    let ty-arrow = c .before .before .before .before .ty-arrow .ensures in
+    in-steps pre0 (s-look peek (s-true _ _ (kind-is if1) (s-false _ _ (le-ltb _ _ if2) (s-by _ ty-arrow s-end))))
 
--- src/lib.rt:211:13
 ty-step-returns-4 : (t : ℕ) → ty-step-lts.Need-returns-4 (
   peek-reads.Asked,
   peek-reads.Learnt,
@@ -4920,19 +4578,17 @@ ty-step-returns-4 : (t : ℕ) → ty-step-lts.Need-returns-4 (
   ty-con-reads.Asked,
   ty-con-reads.Learnt,
 ) (ty-step-at t) ty-step.Post
-unfolding types.tyStep
+unfolding types.tyStep plan choose chosen
 ty-step-returns-4 t c =
     let falls = c .before .before .before .before .before .before .before .before .before .before .before .before .before .pre .0 in
     let pre0 = c .before .before .before .before .before .before .before .before .before .before .before .before .before .pre .1 .0 in
     let pre1 = c .before .before .before .before .before .before .before .before .before .before .before .before .before .pre .1 .1 in
-    let peek-is = rw (c .before .before .before .before .k .given .1) at (c .before .before .before .before .before .before .peek .ensures) in
-    let peek = nth 0 peek-is in
+    let peek = rw (c .before .before .before .before .k .given .1) at (c .before .before .before .before .before .before .peek .ensures) in
     let if1 = c .before .before .if1 .left in
     let if3 = c .before .if3 .taken in
     let if4 = c .if4 .taken in
-    in-steps pre0 (search rules depth 60 fits 4000)
+    in-steps pre0 (s-look peek (s-false _ _ (kind-not if1) (s-true _ _ (kind-is if3) (s-true _ _ (lt-ltb _ _ if4) s-end))))
 
--- src/lib.rt:213:26
 ty-step-ty-tuple-requires : (t : ℕ) → ty-step-lts.Need-ty-tuple-requires (
   peek-reads.Asked,
   peek-reads.Learnt,
@@ -4953,7 +4609,6 @@ ty-step-ty-tuple-requires t c κs =
     let if4 = c .before .before .if4 .left in
     search asks depth 8
 
--- src/lib.rt:213:9
 ty-step-same-length-3 : (t : ℕ) → ty-step-lts.Need-same-length-3 (
   peek-reads.Asked,
   peek-reads.Learnt,
@@ -4967,7 +4622,6 @@ ty-step-same-length-3 : (t : ℕ) → ty-step-lts.Need-same-length-3 (
 ty-step-same-length-3 t c =
     c .before .before .before .before .ty-tuple .kept .1 .1 .1 .1 .0
 
--- src/lib.rt:213:9
 ty-step-same-length-4 : (t : ℕ) → ty-step-lts.Need-same-length-4 (
   peek-reads.Asked,
   peek-reads.Learnt,
@@ -4981,7 +4635,6 @@ ty-step-same-length-4 : (t : ℕ) → ty-step-lts.Need-same-length-4 (
 ty-step-same-length-4 t c =
     c .before .before .before .before .ty-tuple .kept .1 .1 .1 .1 .1 .0
 
--- src/lib.rt:213:9
 ty-step-returns-5 : (t : ℕ) → ty-step-lts.Need-returns-5 (
   peek-reads.Asked,
   peek-reads.Learnt,
@@ -4992,21 +4645,18 @@ ty-step-returns-5 : (t : ℕ) → ty-step-lts.Need-returns-5 (
   ty-con-reads.Asked,
   ty-con-reads.Learnt,
 ) (ty-step-at t) ty-step.Post
-unfolding types.tyStep
+unfolding types.tyStep plan choose chosen
 ty-step-returns-5 t c =
     let falls = c .before .before .before .before .before .before .before .before .before .before .before .before .before .before .before .before .before .before .before .before .pre .0 in
     let pre0 = c .before .before .before .before .before .before .before .before .before .before .before .before .before .before .before .before .before .before .before .before .pre .1 .0 in
     let pre1 = c .before .before .before .before .before .before .before .before .before .before .before .before .before .before .before .before .before .before .before .before .pre .1 .1 in
-    let peek-is = rw (c .before .before .before .before .before .before .before .before .before .before .before .k .given .1) at (c .before .before .before .before .before .before .before .before .before .before .before .before .before .peek .ensures) in
-    let peek = nth 0 peek-is in
+    let peek = rw (c .before .before .before .before .before .before .before .before .before .before .before .k .given .1) at (c .before .before .before .before .before .before .before .before .before .before .before .before .before .peek .ensures) in
     let if1 = c .before .before .before .before .before .before .before .before .before .if1 .left in
     let if3 = c .before .before .before .before .before .before .before .before .if3 .taken in
     let if4 = c .before .before .before .before .before .before .before .if4 .left in
-    let ty-tuple-is = c .before .before .before .before .ty-tuple .ensures in
-    let ty-tuple = nth 1 ty-tuple-is in
-    in-steps pre0 (search rules depth 60 fits 4000)
+    let ty-tuple = c .before .before .before .before .ty-tuple .ensures in
+    in-steps pre0 (s-look peek (s-false _ _ (kind-not if1) (s-true _ _ (kind-is if3) (s-false _ _ (le-ltb _ _ if4) (s-by _ ty-tuple s-end)))))
 
--- src/lib.rt:216:26
 ty-step-ty-con-requires : (t : ℕ) → ty-step-lts.Need-ty-con-requires (
   peek-reads.Asked,
   peek-reads.Learnt,
@@ -5027,7 +4677,6 @@ ty-step-ty-con-requires t c κs =
     let if5 = c .before .before .if5 .taken in
     search asks depth 8
 
--- src/lib.rt:216:9
 ty-step-same-length-5 : (t : ℕ) → ty-step-lts.Need-same-length-5 (
   peek-reads.Asked,
   peek-reads.Learnt,
@@ -5041,7 +4690,6 @@ ty-step-same-length-5 : (t : ℕ) → ty-step-lts.Need-same-length-5 (
 ty-step-same-length-5 t c =
     c .before .before .before .before .ty-con .kept .1 .1 .1 .1 .0
 
--- src/lib.rt:216:9
 ty-step-same-length-6 : (t : ℕ) → ty-step-lts.Need-same-length-6 (
   peek-reads.Asked,
   peek-reads.Learnt,
@@ -5055,7 +4703,6 @@ ty-step-same-length-6 : (t : ℕ) → ty-step-lts.Need-same-length-6 (
 ty-step-same-length-6 t c =
     c .before .before .before .before .ty-con .kept .1 .1 .1 .1 .1 .0
 
--- src/lib.rt:216:9
 ty-step-returns-6 : (t : ℕ) → ty-step-lts.Need-returns-6 (
   peek-reads.Asked,
   peek-reads.Learnt,
@@ -5066,21 +4713,18 @@ ty-step-returns-6 : (t : ℕ) → ty-step-lts.Need-returns-6 (
   ty-con-reads.Asked,
   ty-con-reads.Learnt,
 ) (ty-step-at t) ty-step.Post
-unfolding types.tyStep
+unfolding types.tyStep plan choose chosen
 ty-step-returns-6 t c =
     let falls = c .before .before .before .before .before .before .before .before .before .before .before .before .before .before .before .before .before .before .before .before .pre .0 in
     let pre0 = c .before .before .before .before .before .before .before .before .before .before .before .before .before .before .before .before .before .before .before .before .pre .1 .0 in
     let pre1 = c .before .before .before .before .before .before .before .before .before .before .before .before .before .before .before .before .before .before .before .before .pre .1 .1 in
-    let peek-is = rw (c .before .before .before .before .before .before .before .before .before .before .before .k .given .1) at (c .before .before .before .before .before .before .before .before .before .before .before .before .before .peek .ensures) in
-    let peek = nth 0 peek-is in
+    let peek = rw (c .before .before .before .before .before .before .before .before .before .before .before .k .given .1) at (c .before .before .before .before .before .before .before .before .before .before .before .before .before .peek .ensures) in
     let if1 = c .before .before .before .before .before .before .before .before .before .if1 .left in
     let if3 = c .before .before .before .before .before .before .before .before .if3 .left in
     let if5 = c .before .before .before .before .before .before .before .if5 .taken in
-    let ty-con-is = c .before .before .before .before .ty-con .ensures in
-    let ty-con = nth 1 ty-con-is in
-    in-steps pre0 (search rules depth 60 fits 4000)
+    let ty-con = c .before .before .before .before .ty-con .ensures in
+    in-steps pre0 (s-look peek (s-false _ _ (kind-not if1) (s-false _ _ (kind-not if3) (s-true _ _ (kind-is if5) (s-by _ ty-con s-end)))))
 
--- src/lib.rt:196:1
 ty-step-returns-7 : (t : ℕ) → ty-step-lts.Need-returns-7 (
   peek-reads.Asked,
   peek-reads.Learnt,
@@ -5091,17 +4735,16 @@ ty-step-returns-7 : (t : ℕ) → ty-step-lts.Need-returns-7 (
   ty-con-reads.Asked,
   ty-con-reads.Learnt,
 ) (ty-step-at t) ty-step.Post
-unfolding types.tyStep
+unfolding types.tyStep plan choose chosen
 ty-step-returns-7 t c =
     let falls = c .before .before .before .before .before .before .before .before .before .before .before .before .before .pre .0 in
     let pre0 = c .before .before .before .before .before .before .before .before .before .before .before .before .before .pre .1 .0 in
     let pre1 = c .before .before .before .before .before .before .before .before .before .before .before .before .before .pre .1 .1 in
-    let peek-is = rw (c .before .before .before .before .k .given .1) at (c .before .before .before .before .before .before .peek .ensures) in
-    let peek = nth 0 peek-is in
+    let peek = rw (c .before .before .before .before .k .given .1) at (c .before .before .before .before .before .before .peek .ensures) in
     let if1 = c .before .before .if1 .left in
     let if3 = c .before .if3 .left in
     let if5 = c .if5 .left in
-    in-steps pre0 (search rules depth 60 fits 4000)
+    in-steps pre0 (s-look peek (s-false _ _ (kind-not if1) (s-false _ _ (kind-not if3) (s-false _ _ (kind-not if5) s-end))))
 
 abbrev ty-tail-Inv-loop : ty-tail-lts.InvT-loop
 ty-tail-Inv-loop text toks env table scratch₀ finds₀ left min b s1₀ scratch finds s1 =
@@ -5110,7 +4753,6 @@ ty-tail-Inv-loop text toks env table scratch₀ finds₀ left min b s1₀ scratc
 abbrev ty-tail-μ-loop : ty-tail-lts.MeasureT-loop
 ty-tail-μ-loop text toks env table scratch₀ finds₀ left min b s1₀ scratch finds s1 = turns (mem text toks env table scratch finds s1)
 
--- src/lib.rt:185:5
 ty-tail-loop-holds :
     (t : ℕ) →
     ty-tail-lts.Need-loop-holds
@@ -5125,7 +4767,6 @@ ty-tail-loop-holds t c =
     let pre1 = c .before .before .before .before .before .before .pre .1 .1 in
     (loop-starts pre0, refl, refl)
 
--- src/lib.rt:186:13
 ty-tail-ty-step-requires : (t : ℕ) → ty-tail-lts.Need-ty-step-requires (
   ty-step-below t,
   ty-step.Post,
@@ -5137,7 +4778,6 @@ ty-tail-ty-step-requires t c κs =
     let inv = c .before .before .loop .inv .0 .ok in
     search asks depth 8
 
--- src/lib.rt:188:23
 ty-tail-enum-known-step : (t : ℕ) → ty-tail-lts.Need-enum-known-step (
   ty-step-below t,
   ty-step.Post,
@@ -5148,7 +4788,6 @@ ty-tail-enum-known-step t c =
     let pre1 = c .before .before .before .before .before .before .before .before .before .before .before .before .before .before .before .pre .1 .1 in
     search needs
 
--- src/lib.rt:185:5
 ty-tail-loop-less :
     (t : ℕ) →
     ty-tail-lts.Need-loop-less
@@ -5161,7 +4800,6 @@ ty-tail-loop-less t c =
     let ty-step = rw (c .before .step .given .1) at (c .before .before .before .before .before .before .before .ty-step .ensures) in
     loop-falls (ty-step-advances _ _ _) ty-step
 
--- src/lib.rt:185:5
 ty-tail-loop-again :
     (t : ℕ) →
     ty-tail-lts.Need-loop-again
@@ -5174,7 +4812,6 @@ ty-tail-loop-again t c =
     let ty-step = rw (c .before .step .given .1) at (c .before .before .before .before .before .before .before .ty-step .ensures) in
     (loop-goes (ty-step-advances _ _ _) (c .before .before .before .before .before .before .before .before .before .before .loop .inv .0) ty-step, c .before .before .before .before .before .before .before .ty-step .kept .1 .1 .1 .1 .0 ∙ c .before .before .before .before .before .before .before .before .before .before .loop .inv .1, c .before .before .before .before .before .before .before .ty-step .kept .1 .1 .1 .1 .1 .0 ∙ c .before .before .before .before .before .before .before .before .before .before .loop .inv .2)
 
--- src/lib.rt:189:28
 ty-tail-enum-known-step-2 : (t : ℕ) → ty-tail-lts.Need-enum-known-step-2 (
   ty-step-below t,
   ty-step.Post,
@@ -5185,7 +4822,6 @@ ty-tail-enum-known-step-2 t c =
     let pre1 = c .before .before .before .before .before .before .before .before .before .before .before .before .before .before .before .pre .1 .1 in
     search needs
 
--- src/lib.rt:189:35
 ty-tail-same-length :
     (t : ℕ) →
     ty-tail-lts.Need-same-length
@@ -5197,7 +4833,6 @@ ty-tail-same-length :
 ty-tail-same-length t c =
     c .before .before .before .before .before .before .before .ty-step .kept .1 .1 .1 .1 .0 ∙ c .before .before .before .before .before .before .before .before .before .before .loop .inv .1
 
--- src/lib.rt:189:35
 ty-tail-same-length-2 :
     (t : ℕ) →
     ty-tail-lts.Need-same-length-2
@@ -5209,7 +4844,6 @@ ty-tail-same-length-2 :
 ty-tail-same-length-2 t c =
     c .before .before .before .before .before .before .before .ty-step .kept .1 .1 .1 .1 .1 .0 ∙ c .before .before .before .before .before .before .before .before .before .before .loop .inv .2
 
--- src/lib.rt:189:35
 ty-tail-returns :
     (t : ℕ) →
     ty-tail-lts.Need-returns
@@ -5222,7 +4856,6 @@ ty-tail-returns t c =
     let ty-step = rw (c .before .step2 .given .1) at (c .before .before .before .before .before .before .before .ty-step .ensures) in
     loop-ends (ty-step-advances _ _ _) (c .before .before .before .before .before .before .before .before .before .before .loop .inv .0) ty-step
 
--- src/lib.rt:242:9
 ty-tuple-refuse-requires : (t : ℕ) → ty-tuple-lts.Need-refuse-requires (
   refuse-reads.Asked,
   refuse-reads.Learnt,
@@ -5240,7 +4873,6 @@ ty-tuple-refuse-requires t c κs =
     let if1 = c .if1 .taken in
     search asks depth 8
 
--- src/lib.rt:242:9
 ty-tuple-returns : (t : ℕ) → ty-tuple-lts.Need-returns (
   refuse-reads.Asked,
   refuse-reads.Learnt,
@@ -5251,17 +4883,15 @@ ty-tuple-returns : (t : ℕ) → ty-tuple-lts.Need-returns (
   close-reads.Asked,
   close-reads.Learnt,
 ) (ty-tuple-at t) ty-tuple.Post
-unfolding types.tyTuple
+unfolding types.tyTuple plan choose chosen
 ty-tuple-returns t c =
     let falls = c .before .before .before .before .before .before .before .before .pre .0 in
     let pre0 = c .before .before .before .before .before .before .before .before .pre .1 .0 in
     let pre1 = c .before .before .before .before .before .before .before .before .pre .1 .1 in
     let if1 = c .before .if1 .taken in
-    let refuse-is = c .refuse .ensures in
-    let refuse = nth 0 refuse-is in
-    in-steps pre0 (search rules depth 60 fits 4000)
+    let refuse = c .refuse .ensures in
+    in-steps pre0 (s-deep if1 refuse s-end)
 
--- src/lib.rt:244:64
 ty-tuple-sub-star-tail : (t : ℕ) → ty-tuple-lts.Need-sub-star-tail (
   refuse-reads.Asked,
   refuse-reads.Learnt,
@@ -5279,7 +4909,6 @@ ty-tuple-sub-star-tail t c =
     let if1 = c .before .before .if1 .left in
     search needs
 
--- src/lib.rt:244:77
 ty-tuple-mark-requires : (t : ℕ) → ty-tuple-lts.Need-mark-requires (
   refuse-reads.Asked,
   refuse-reads.Learnt,
@@ -5297,7 +4926,6 @@ ty-tuple-mark-requires t c κs =
     let if1 = c .before .before .if1 .left in
     search asks depth 8
 
--- src/lib.rt:244:9
 ty-tuple-star-tail-requires : (t : ℕ) → ty-tuple-lts.Need-star-tail-requires (
   refuse-reads.Asked,
   refuse-reads.Learnt,
@@ -5317,7 +4945,6 @@ ty-tuple-star-tail-requires t c κs =
     let mark-ok = ok-marks mark pre0 in
     search asks depth 8
 
--- src/lib.rt:245:5
 ty-tuple-close-requires : (t : ℕ) → ty-tuple-lts.Need-close-requires (
   refuse-reads.Asked,
   refuse-reads.Learnt,
@@ -5339,7 +4966,6 @@ ty-tuple-close-requires t c κs =
     let star-tail-ok = star-tail .ok in
     search asks depth 8
 
--- src/lib.rt:237:1
 ty-tuple-same-length : (t : ℕ) → ty-tuple-lts.Need-same-length (
   refuse-reads.Asked,
   refuse-reads.Learnt,
@@ -5353,7 +4979,6 @@ ty-tuple-same-length : (t : ℕ) → ty-tuple-lts.Need-same-length (
 ty-tuple-same-length t c =
     c .before .before .close .kept .0 ∙ c .before .before .before .before .before .before .before .before .star-tail .kept .1 .1 .1 .1 .0
 
--- src/lib.rt:237:1
 ty-tuple-same-length-2 : (t : ℕ) → ty-tuple-lts.Need-same-length-2 (
   refuse-reads.Asked,
   refuse-reads.Learnt,
@@ -5367,7 +4992,6 @@ ty-tuple-same-length-2 : (t : ℕ) → ty-tuple-lts.Need-same-length-2 (
 ty-tuple-same-length-2 t c =
     c .before .before .before .before .before .before .before .before .star-tail .kept .1 .1 .1 .1 .1 .0
 
--- src/lib.rt:237:1
 ty-tuple-returns-2 : (t : ℕ) → ty-tuple-lts.Need-returns-2 (
   refuse-reads.Asked,
   refuse-reads.Learnt,
@@ -5378,19 +5002,16 @@ ty-tuple-returns-2 : (t : ℕ) → ty-tuple-lts.Need-returns-2 (
   close-reads.Asked,
   close-reads.Learnt,
 ) (ty-tuple-at t) ty-tuple.Post
-unfolding types.tyTuple
+unfolding types.tyTuple plan choose chosen
 ty-tuple-returns-2 t c =
     let falls = c .before .before .before .before .before .before .before .before .before .before .before .before .before .before .before .before .before .before .before .pre .0 in
     let pre0 = c .before .before .before .before .before .before .before .before .before .before .before .before .before .before .before .before .before .before .before .pre .1 .0 in
     let pre1 = c .before .before .before .before .before .before .before .before .before .before .before .before .before .before .before .before .before .before .before .pre .1 .1 in
     let if1 = c .before .before .before .before .before .before .before .before .before .before .before .before .if1 .left in
-    let mark-is = c .before .before .before .before .before .before .before .before .before .mark .ensures in
-    let mark = nth 0 mark-is in
-    let star-tail-is = c .before .before .before .before .before .before .before .before .star-tail .ensures in
-    let star-tail = nth 1 star-tail-is in
-    let close-is = c .before .before .close .ensures in
-    let close = nth 2 close-is in
-    in-steps pre0 (search rules depth 60 fits 4000)
+    let mark = c .before .before .before .before .before .before .before .before .before .mark .ensures in
+    let star-tail = c .before .before .before .before .before .before .before .before .star-tail .ensures in
+    let close = c .before .before .close .ensures in
+    in-steps pre0 (s-mark if1 mark (s-run star-tail (s-close close s-end)))
 
 pub +arg-item+arg-turn+row-item+row-turn+star-factor+star-tail+star-turn+ty-arg+ty-args+ty-arrow+ty-head+ty-inner+ty-must+ty-prec+ty-round+ty-row+ty-rows+ty-seq+ty-step+ty-tail+ty-tuple-spec :
     {M : Type 1} → statement M

@@ -1,10 +1,7 @@
-use Rattle.grammar.specs.Util as util
+-- by tools/prove
 use Rattle.grammar.specs.Ty as types
-use Rattle.grammar.specs.Root as root
-use Rattle.grammar.specs.SyntaxKind as SK
-use Rattle.laws.specs.Progress.{end-turn-advances, star-advances, ty-step-advances}
-use Rattle.parser.specs.View.{mem}
-use Rattle.parser.specs.Runs.{rules, asks, nth, in-steps, by-steps, always, ok-bumps, ok-adds, ok-tells, ok-marks, ok-refused, ok-state, runs-in, Loops, turns, loop-starts, loop-goes, loop-falls, loop-ends}
+use Rattle.parser.specs.Runs.{asks, runs-in, ok-marks, ok-state}
+use Rattle.parser.specs.Plans.{plan, choose, chosen, in-steps, s-close, s-mark, s-deep, s-by, settled, s-end}
 use mathlib.Core.Path.{_≡_, refl, _∙_}
 use lib.ListN.{length}
 use borrow.Author.Needs.{needs}
@@ -18,7 +15,6 @@ use Rattle.parser.proofs.State.refuse.Reads as refuse-reads
 use Rattle.parser.proofs.close.Reads as close-reads
 use Rattle.parser.proofs.util.path_must.Reads as path-must-reads
 
--- src/lib.rt:254:9
 refuse-requires : tie.Need-refuse-requires
 refuse-requires c κs =
     let pre0 = c .before .before .before .before .before .before .before .pre .0 in
@@ -26,18 +22,15 @@ refuse-requires c κs =
     let if1 = c .if1 .taken in
     search asks depth 8
 
--- src/lib.rt:254:9
 returns : tie.Need-returns
-unfolding types.tyCon
+unfolding types.tyCon plan choose chosen
 returns c =
     let pre0 = c .before .before .before .before .before .before .before .before .pre .0 in
     let pre1 = c .before .before .before .before .before .before .before .before .pre .1 in
     let if1 = c .before .if1 .taken in
-    let refuse-is = c .refuse .ensures in
-    let refuse = nth 0 refuse-is in
-    in-steps pre0 (search rules depth 60 fits 4000)
+    let refuse = c .refuse .ensures in
+    in-steps pre0 (s-deep if1 refuse s-end)
 
--- src/lib.rt:256:65
 sub-path-must : tie.Need-sub-path-must
 sub-path-must c =
     let pre0 = c .before .before .before .before .before .before .before .before .before .pre .0 in
@@ -45,7 +38,6 @@ sub-path-must c =
     let if1 = c .before .before .if1 .left in
     search needs
 
--- src/lib.rt:256:75
 mark-requires : tie.Need-mark-requires
 mark-requires c κs =
     let pre0 = c .before .before .before .before .before .before .before .before .before .pre .0 in
@@ -53,7 +45,6 @@ mark-requires c κs =
     let if1 = c .before .before .if1 .left in
     search asks depth 8
 
--- src/lib.rt:256:9
 path-must-requires : tie.Need-path-must-requires
 path-must-requires c κs =
     let pre0 = c .before .before .before .before .before .before .before .before .before .before .pre .0 in
@@ -63,7 +54,6 @@ path-must-requires c κs =
     let mark-ok = ok-marks mark pre0 in
     search asks depth 8
 
--- src/lib.rt:257:9
 state-requires : tie.Need-state-requires
 state-requires c κs =
     let pre0 = c .before .before .before .before .before .before .before .before .before .before .before .before .before .before .before .pre .0 in
@@ -75,7 +65,6 @@ state-requires c κs =
     let path-must-ok = path-must .ok in
     search asks depth 8
 
--- src/lib.rt:258:5
 close-requires : tie.Need-close-requires
 close-requires c κs =
     let pre0 = c .before .before .before .before .before .before .before .before .before .before .before .before .before .before .before .before .before .pre .0 in
@@ -89,32 +78,25 @@ close-requires c κs =
     let state-ok = ok-state state path-must-ok in
     search asks depth 8
 
--- src/lib.rt:249:1
 same-length : tie.Need-same-length
 same-length c =
     c .before .before .close .kept .0 ∙ c .before .before .before .before .before .before .before .before .before .path-must .kept .1 .1 .1 .1 .0
 
--- src/lib.rt:249:1
 same-length-2 : tie.Need-same-length-2
 same-length-2 c =
     c .before .before .before .before .before .before .before .before .before .path-must .kept .1 .1 .1 .1 .1 .0
 
--- src/lib.rt:249:1
 returns-2 : tie.Need-returns-2
-unfolding types.tyCon
+unfolding types.tyCon plan choose chosen
 returns-2 c =
     let pre0 = c .before .before .before .before .before .before .before .before .before .before .before .before .before .before .before .before .before .before .before .before .pre .0 in
     let pre1 = c .before .before .before .before .before .before .before .before .before .before .before .before .before .before .before .before .before .before .before .before .pre .1 in
     let if1 = c .before .before .before .before .before .before .before .before .before .before .before .before .before .if1 .left in
-    let mark-is = c .before .before .before .before .before .before .before .before .before .before .mark .ensures in
-    let mark = nth 0 mark-is in
-    let path-must-is = c .before .before .before .before .before .before .before .before .before .path-must .ensures in
-    let path-must = nth 1 path-must-is in
-    let state-is = c .before .before .before .before .state .ensures in
-    let state = nth 2 state-is in
-    let close-is = c .before .before .close .ensures in
-    let close = nth 3 close-is in
-    in-steps pre0 (search rules depth 60 fits 4000)
+    let mark = c .before .before .before .before .before .before .before .before .before .before .mark .ensures in
+    let path-must = c .before .before .before .before .before .before .before .before .before .path-must .ensures in
+    let state = c .before .before .before .before .state .ensures in
+    let close = c .before .before .close .ensures in
+    in-steps pre0 (s-mark if1 mark (s-by _ (settled state (runs-in path-must)) (s-close close s-end)))
 
 pub ty-con-spec : {M : Type 1} → statement M
 ty-con-spec =

@@ -1,3 +1,4 @@
+-- by hand: which state a variant holds: an equation, no program.
 -- `Found::state` meets its contract: the state of the variant that it is.
 use mathlib.Core.Path.{ap, sym}
 use borrow.Author.Needs.{needs}

@@ -1,3 +1,4 @@
+-- by hand: an operation that programs are made of: the laws of `Marks`.
 -- `State::mark` meets its contract: one law for each return.
 use borrow.Author.Needs.{needs}
 use Rattle.parser.proofs.Laws.{marks-off, marks-full, marks-goes}

@@ -1,3 +1,4 @@
+-- by hand: which of two states is left: an equation, no program.
 -- `State::ok_since` meets its contract: one law for each return.
 use Rattle.parser.proofs.Laws.{since-off, since-same, since-other}
 use Rattle.parser.proofs.State.ok_since.Statement.{statement}

@@ -1,3 +1,4 @@
+-- by hand: which number a state has: an equation, no program.
 -- `State::refuse` meets its contract: the number that `refusedBy` chooses, in both cases.
 use borrow.Author.Tests.{ne-eqb}
 use Rattle.parser.proofs.State.refuse.Statement.{statement}

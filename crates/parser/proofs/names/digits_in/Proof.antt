@@ -1,3 +1,4 @@
+-- by hand: a loop over bytes, whose invariant is its own.
 -- `names::digits_in` meets its contract. The loop's invariant: the digits left, after the value so far, give the number of all, and that value is small.
 use Prim.Native.Nat.{_+_, _-_, _≤_}
 use mathlib.Core.Path.{_≡_, ap, sym, _∙_}

@@ -1,3 +1,4 @@
+-- by hand: a look at a token's text: the laws of `Fixed`, and where the text lies.
 -- `names::fixity_at` meets its contract: what the table says of the bytes of the token ahead.
 use native.Mathlib.Omega.{arith}
 use borrow.Author.Needs.{needs}

@@ -1,3 +1,4 @@
+-- by hand: a loop over tokens, whose invariant is its own.
 -- `names::live_at` meets its contract. The loop's invariant: the token `left` ahead of `i` is the token `n` ahead of `at`.
 use Prim.Native.Nat.{ℕ, _-_, _≤_, _<_}
 use mathlib.Core.Path.{_≡_, refl, ap, sym, _∙_}

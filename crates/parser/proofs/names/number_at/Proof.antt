@@ -1,3 +1,4 @@
+-- by hand: a look at a token's text: the laws of `Says`, and where the text lies.
 -- `names::number_at` meets its contract: the number in the next token's bytes.
 use native.Mathlib.Omega.{arith}
 use borrow.Author.Needs.{needs}

@@ -1,3 +1,4 @@
+-- by hand: tests of one byte: the cases of `numberOf`.
 -- `names::number_in` meets its contract: by the first byte.
 use mathlib.Core.Path.{sym, _∙_}
 use native.Mathlib.Omega.{arith}

@@ -1,3 +1,4 @@
+-- by hand: a look at a token's text: the laws of `Says`, and where the text lies.
 -- `names::says` meets its contract: a comparison with the next token's bytes.
 use native.Mathlib.Omega.{arith}
 use borrow.Author.Needs.{needs}

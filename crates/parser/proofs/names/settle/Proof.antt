@@ -1,3 +1,4 @@
+-- by hand: which numbers a state has: an equation, no program.
 -- `names::settle` meets its contract: by what became of the change.
 use borrow.Author.Needs.{needs}
 use Rattle.parser.proofs.names.settle.Statement.{statement}

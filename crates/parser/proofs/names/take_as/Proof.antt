@@ -1,3 +1,4 @@
+-- by hand: it writes the log and the journal: an operation that programs are made of, by the laws of changes.
 -- `names::take_as` meets its contract: the bump, and behind it the change.
 use native.Mathlib.Omega.{arith}
 use borrow.Author.Needs.{needs}

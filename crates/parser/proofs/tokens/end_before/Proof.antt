@@ -1,3 +1,4 @@
+-- by hand: a number in the records: the cases of `endBefore`.
 -- `tokens::end_before` meets its contract: a record that is not the first has one before it.
 use Prim.Native.Nat.{ℕ, zero, suc, _-_}
 use native.Mathlib.Omega.{arith}

@@ -1,3 +1,4 @@
+-- by hand: tests of one record: a conjunction, no program.
 -- `tokens::fits_at` meets its contract: its tests are the definition's, in their order.
 use Prim.Native.Nat.{ℕ, _≤_, _<_}
 use mathlib.Core.Path.{_≡_, sym, ap, _∙_}

@@ -1,3 +1,4 @@
+-- by hand: two tests: a conjunction, no program.
 -- `tokens::has_text` meets its contract: its tests are the definition's, in their order.
 use mathlib.Core.Path.{sym, _∙_}
 use borrow.Author.Needs.{needs}

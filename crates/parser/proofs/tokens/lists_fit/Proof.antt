@@ -1,3 +1,4 @@
+-- by hand: tests of two lengths: a conjunction, no program.
 -- `tokens::lists_fit` meets its contract: its tests are the definition's, in their order.
 use Prim.Native.Nat.{_*_}
 use native.Mathlib.Omega.{arith}

@@ -1,3 +1,4 @@
+-- by hand: two tests: a conjunction, no program.
 -- `tokens::record_fits` meets its contract: a record below the count is there whole.
 use native.Mathlib.Omega.{arith}
 use borrow.Author.Needs.{needs}

@@ -1,3 +1,4 @@
+-- by hand: a loop over records, whose invariant is its own.
 -- `tokens::records_fit` meets its contract. The loop's invariant: the records passed fit.
 use Prim.Native.Nat.{ℕ, zero, suc, _-_, _≤_, _<_}
 use native.Mathlib.Nat.{eq-or-lt-of-le}

@@ -1,3 +1,4 @@
+-- by hand: tests of the settings: a conjunction, no program.
 -- `tokens::settings_fit` meets its contract: its tests are the definition's, in their order.
 use native.Mathlib.Omega.{arith}
 use borrow.Author.Needs.{needs}

@@ -1,3 +1,4 @@
+-- by hand: it returns a part of the lent text: where that lies, no program.
 -- `tokens::token_text` meets its contract: a record that fits ends within the text, and gives the part that the definition names.
 use Prim.Native.Nat.{ℕ, _+_, _*_, _-_, _≤_}
 use native.Mathlib.Omega.{arith}

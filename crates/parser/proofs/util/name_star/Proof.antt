@@ -1,4 +1,4 @@
--- By hand: the contract names a test and not a program.
+-- by hand: the contract names a test and not a program.
 use Rattle.parser.specs.Kinds.{kind-first, kind-second}
 use Rattle.parser.proofs.util.name_star.Statement.{statement}
 use Rattle.parser.proofs.util.name_star.Tie as tie

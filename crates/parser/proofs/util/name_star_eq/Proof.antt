@@ -1,4 +1,4 @@
--- By hand: the contract names a test and not a program.
+-- by hand: the contract names a test and not a program.
 use borrow.Author.Needs.{needs}
 use Rattle.parser.specs.Kinds.{test-first, test-second}
 use Rattle.parser.proofs.util.name_star_eq.Statement.{statement}

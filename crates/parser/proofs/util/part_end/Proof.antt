@@ -1,7 +1,7 @@
+-- by tools/prove
 use Rattle.grammar.specs.Util as util
-use Rattle.laws.specs.Progress.{path-part-advances}
-use Rattle.parser.specs.View.{mem}
-use Rattle.parser.specs.Runs.{rules, asks, nth, in-steps, by-steps, always, ok-bumps, ok-adds, ok-tells, ok-marks, ok-refused, ok-state, runs-in, Loops, turns, loop-starts, loop-goes, loop-falls, loop-ends}
+use Rattle.parser.specs.Runs.{asks, kind-at, kind-off, ok-bumps}
+use Rattle.parser.specs.Plans.{plan, choose, chosen, in-steps, s-kind, s-true, s-false, s-bump, s-close, s-end}
 use mathlib.Core.Path.{_≡_, refl, _∙_}
 use lib.ListN.{length}
 use borrow.Author.Needs.{needs}
@@ -13,14 +13,12 @@ use Rattle.parser.proofs.at.Reads as at-reads
 use Rattle.parser.proofs.bump.Reads as bump-reads
 use Rattle.parser.proofs.close.Reads as close-reads
 
--- src/util.rt:133:8
 at-requires : tie.Need-at-requires
 at-requires c κs =
     let pre0 = c .before .before .before .before .before .before .pre .0 in
     let pre1 = c .before .before .before .before .before .before .pre .1 in
     search asks depth 8
 
--- src/util.rt:134:13
 bump-requires : tie.Need-bump-requires
 bump-requires c κs =
     let pre0 = c .before .before .before .before .before .before .before .before .before .pre .0 in
@@ -29,7 +27,6 @@ bump-requires c κs =
     let if1 = c .before .if1 .taken in
     search asks depth 8
 
--- src/util.rt:135:19
 close-requires : tie.Need-close-requires
 close-requires c κs =
     let pre0 = c .before .before .before .before .before .before .before .before .before .before .before .before .before .pre .0 in
@@ -40,7 +37,6 @@ close-requires c κs =
     let bump-ok = ok-bumps bump pre0 in
     search asks depth 8
 
--- src/util.rt:137:24
 close-requires-2 : tie.Need-close-requires-2
 close-requires-2 c κs =
     let pre0 = c .before .before .before .before .before .before .before .before .before .pre .0 in
@@ -49,43 +45,34 @@ close-requires-2 c κs =
     let if1 = c .before .if1 .left in
     search asks depth 8
 
--- src/util.rt:129:1
 same-length : tie.Need-same-length
 same-length c =
     c .before .before .close .kept .0 ∙ c .before .before .before .before .before .before .bump .kept .1 .0
 
--- src/util.rt:129:1
 returns : tie.Need-returns
-unfolding util.partEnd
+unfolding util.partEnd plan choose chosen
 returns c =
     let pre0 = c .before .before .before .before .before .before .before .before .before .before .before .before .before .before .before .before .pre .0 in
     let pre1 = c .before .before .before .before .before .before .before .before .before .before .before .before .before .before .before .before .pre .1 in
-    let at-is = c .before .before .before .before .before .before .before .before .before .at .ensures in
-    let at = nth 0 at-is in
+    let at = c .before .before .before .before .before .before .before .before .before .at .ensures in
     let if1 = c .before .before .before .before .before .before .before .before .if1 .taken in
-    let bump-is = c .before .before .before .before .before .before .bump .ensures in
-    let bump = nth 1 bump-is in
-    let close-is = c .before .before .close .ensures in
-    let close = nth 2 close-is in
-    in-steps pre0 (search rules depth 60 fits 4000)
+    let bump = c .before .before .before .before .before .before .bump .ensures in
+    let close = c .before .before .close .ensures in
+    in-steps pre0 (s-kind (s-true _ _ (kind-at _ _ _ _ at if1) (s-bump bump (s-close close s-end))))
 
--- src/util.rt:129:1
 same-length-2 : tie.Need-same-length-2
 same-length-2 c =
     c .before .before .close2 .kept .0
 
--- src/util.rt:129:1
 returns-2 : tie.Need-returns-2
-unfolding util.partEnd
+unfolding util.partEnd plan choose chosen
 returns-2 c =
     let pre0 = c .before .before .before .before .before .before .before .before .before .before .before .before .pre .0 in
     let pre1 = c .before .before .before .before .before .before .before .before .before .before .before .before .pre .1 in
-    let at-is = c .before .before .before .before .before .at .ensures in
-    let at = nth 0 at-is in
+    let at = c .before .before .before .before .before .at .ensures in
     let if1 = c .before .before .before .before .if1 .left in
-    let close2-is = c .before .before .close2 .ensures in
-    let close2 = nth 1 close2-is in
-    in-steps pre0 (search rules depth 60 fits 4000)
+    let close2 = c .before .before .close2 .ensures in
+    in-steps pre0 (s-kind (s-false _ _ (kind-off _ _ _ _ at if1) (s-close close2 s-end)))
 
 pub part-end-spec : {M : Type 1} → statement M
 part-end-spec =

@@ -1,7 +1,7 @@
+-- by tools/prove
 use Rattle.grammar.specs.Util as util
-use Rattle.laws.specs.Progress.{path-part-advances}
-use Rattle.parser.specs.View.{mem}
-use Rattle.parser.specs.Runs.{rules, asks, nth, in-steps, by-steps, always, ok-bumps, ok-adds, ok-tells, ok-marks, ok-refused, ok-state, runs-in, Loops, turns, loop-starts, loop-goes, loop-falls, loop-ends}
+use Rattle.parser.specs.Runs.{asks, runs-in, test-true, test-false}
+use Rattle.parser.specs.Plans.{plan, choose, chosen, by-steps, s-look, s-true, s-false, s-by, s-end}
 use lib.ListN.{length}
 use borrow.Author.Needs.{needs}
 use Rattle.parser.proofs.util.path.Statement.{statement}
@@ -12,41 +12,34 @@ use Rattle.parser.proofs.peek.Reads as peek-reads
 use Rattle.parser.proofs.util.name_star_eq.Reads as name-star-eq-reads
 use Rattle.parser.proofs.util.path_here.Reads as path-here-reads
 
--- src/util.rt:211:25
 peek-requires : tie.Need-peek-requires
 peek-requires c κs =
     let pre0 = c .before .before .before .before .before .before .pre in
     search asks depth 8
 
--- src/util.rt:211:20
 enum-known-k : tie.Need-enum-known-k
 enum-known-k c =
     let pre0 = c .before .before .before .before .before .before .before .before .pre in
     search needs
 
--- src/util.rt:212:9
 enum-told : tie.Need-enum-told
 enum-told c =
     let pre0 = c .before .before .before .before .before .before .before .before .pre in
     search needs
 
--- src/util.rt:212:9
 returns : tie.Need-returns
-unfolding util.path
+unfolding util.path plan choose chosen
 returns c =
     let pre0 = c .before .before .before .before .before .before .before .before .before .pre in
-    let peek-is = rw (c .enum-told .given .1) at (c .before .before .peek .ensures) in
-    let peek = nth 0 peek-is in
-    by-steps pre0 (λ b. search rules depth 60 fits 4000)
+    let peek = rw (c .enum-told .given .1) at (c .before .before .peek .ensures) in
+    by-steps pre0 (λ b. s-look peek s-end)
 
--- src/util.rt:214:8
 name-star-eq-requires : tie.Need-name-star-eq-requires
 name-star-eq-requires c κs =
     let pre0 = c .before .before .before .before .before .before .before .before .before .before .pre in
     let peek = rw (c .before .k .given .1) at (c .before .before .before .peek .ensures) in
     search asks depth 8
 
--- src/util.rt:215:9
 path-here-requires : tie.Need-path-here-requires
 path-here-requires c κs =
     let pre0 = c .before .before .before .before .before .before .before .before .before .before .before .before .before .before .pre in
@@ -55,39 +48,32 @@ path-here-requires c κs =
     let if1 = c .before .before .if1 .taken in
     search asks depth 8
 
--- src/util.rt:207:1
 same-length : tie.Need-same-length
 same-length c =
     c .before .before .before .before .path-here .kept .1 .1 .1 .1 .0
 
--- src/util.rt:207:1
 same-length-2 : tie.Need-same-length-2
 same-length-2 c =
     c .before .before .before .before .path-here .kept .1 .1 .1 .1 .1 .0
 
--- src/util.rt:207:1
 returns-2 : tie.Need-returns-2
-unfolding util.path
+unfolding util.path plan choose chosen
 returns-2 c =
     let pre0 = c .before .before .before .before .before .before .before .before .before .before .before .before .before .before .before .before .before .before .before .pre in
-    let peek-is = rw (c .before .before .before .before .before .before .before .before .before .before .k .given .1) at (c .before .before .before .before .before .before .before .before .before .before .before .before .peek .ensures) in
-    let peek = nth 0 peek-is in
+    let peek = rw (c .before .before .before .before .before .before .before .before .before .before .k .given .1) at (c .before .before .before .before .before .before .before .before .before .before .before .before .peek .ensures) in
     let name-star-eq = c .before .before .before .before .before .before .before .before .name-star-eq .ensures in
     let if1 = c .before .before .before .before .before .before .before .if1 .taken in
-    let path-here-is = c .before .before .before .before .path-here .ensures in
-    let path-here = nth 1 path-here-is in
-    by-steps pre0 (λ b. search rules depth 60 fits 4000)
+    let path-here = c .before .before .before .before .path-here .ensures in
+    by-steps pre0 (λ b. s-look peek (s-true _ _ (test-true name-star-eq if1) (s-by _ (runs-in path-here) s-end)))
 
--- src/util.rt:207:1
 returns-3 : tie.Need-returns-3
-unfolding util.path
+unfolding util.path plan choose chosen
 returns-3 c =
     let pre0 = c .before .before .before .before .before .before .before .before .before .before .before .before .pre in
-    let peek-is = rw (c .before .before .before .k .given .1) at (c .before .before .before .before .before .peek .ensures) in
-    let peek = nth 0 peek-is in
+    let peek = rw (c .before .before .before .k .given .1) at (c .before .before .before .before .before .peek .ensures) in
     let name-star-eq = c .before .name-star-eq .ensures in
     let if1 = c .if1 .left in
-    by-steps pre0 (λ b. search rules depth 60 fits 4000)
+    by-steps pre0 (λ b. s-look peek (s-false _ _ (test-false name-star-eq if1) s-end))
 
 pub path-spec : {M : Type 1} → statement M
 path-spec =

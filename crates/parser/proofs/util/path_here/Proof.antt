@@ -1,7 +1,7 @@
+-- by tools/prove
 use Rattle.grammar.specs.Util as util
-use Rattle.laws.specs.Progress.{path-part-advances}
-use Rattle.parser.specs.View.{mem}
-use Rattle.parser.specs.Runs.{rules, asks, nth, in-steps, by-steps, always, ok-bumps, ok-adds, ok-tells, ok-marks, ok-refused, ok-state, runs-in, Loops, turns, loop-starts, loop-goes, loop-falls, loop-ends}
+use Rattle.parser.specs.Runs.{asks, runs-in, ok-marks}
+use Rattle.parser.specs.Plans.{plan, choose, chosen, by-steps, s-close, s-mark, s-deep, s-by, s-run, s-end}
 use mathlib.Core.Path.{_≡_, refl, _∙_}
 use lib.ListN.{length}
 use borrow.Author.Needs.{needs}
@@ -15,38 +15,32 @@ use Rattle.parser.proofs.close.Reads as close-reads
 use Rattle.parser.proofs.util.path_parts.Reads as path-parts-reads
 use Rattle.parser.proofs.util.path_start.Reads as path-start-reads
 
--- src/util.rt:192:31
 refuse-requires : tie.Need-refuse-requires
 refuse-requires c κs =
     let pre0 = c .before .before .before .before .before .before .before .pre in
     let if1 = c .if1 .taken in
     search asks depth 8
 
--- src/util.rt:192:9
 returns : tie.Need-returns
-unfolding util.pathHere
+unfolding util.pathHere plan choose chosen
 returns c =
     let pre0 = c .before .before .before .before .before .before .before .before .pre in
     let if1 = c .before .if1 .taken in
-    let refuse-is = c .refuse .ensures in
-    let refuse = nth 0 refuse-is in
-    by-steps pre0 (λ b. search rules depth 60 fits 4000)
+    let refuse = c .refuse .ensures in
+    by-steps pre0 (λ b. s-deep if1 refuse s-end)
 
--- src/util.rt:194:9
 mark-requires : tie.Need-mark-requires
 mark-requires c κs =
     let pre0 = c .before .before .before .before .before .before .before .pre in
     let if1 = c .if1 .left in
     search asks depth 8
 
--- src/util.rt:196:68
 sub-path-start : tie.Need-sub-path-start
 sub-path-start c =
     let pre0 = c .before .before .before .before .before .before .before .before .before .before .pre in
     let if1 = c .before .before .before .if1 .left in
     search needs
 
--- src/util.rt:196:9
 path-start-requires : tie.Need-path-start-requires
 path-start-requires c κs =
     let pre0 = c .before .before .before .before .before .before .before .before .before .before .pre in
@@ -55,21 +49,18 @@ path-start-requires c κs =
     let mark-ok = ok-marks mark pre0 in
     search asks depth 8
 
--- src/util.rt:198:19
 enum-known-start : tie.Need-enum-known-start
 enum-known-start c =
     let pre0 = c .before .before .before .before .before .before .before .before .before .before .before .before .before .before .before .before .pre in
     let if1 = c .before .before .before .before .before .before .before .before .before .if1 .left in
     search needs
 
--- src/util.rt:199:73
 sub-path-parts : tie.Need-sub-path-parts
 sub-path-parts c =
     let pre0 = c .before .before .before .before .before .before .before .before .before .before .before .before .before .before .before .before .before .before .before .before .pre in
     let if1 = c .before .before .before .before .before .before .before .before .before .before .before .before .before .if1 .left in
     search needs
 
--- src/util.rt:199:17
 path-parts-requires : tie.Need-path-parts-requires
 path-parts-requires c κs =
     let pre0 = c .before .before .before .before .before .before .before .before .before .before .before .before .before .before .before .before .before .before .before .before .pre in
@@ -80,7 +71,6 @@ path-parts-requires c κs =
     let path-start-ok = path-start .ok in
     search asks depth 8
 
--- src/util.rt:200:23
 close-requires : tie.Need-close-requires
 close-requires c κs =
     let pre0 = c .before .before .before .before .before .before .before .before .before .before .before .before .before .before .before .before .before .before .before .before .before .before .before .before .before .before .pre in
@@ -93,14 +83,12 @@ close-requires c κs =
     let path-parts-ok = path-parts .ok in
     search asks depth 8
 
--- src/util.rt:202:24
 enum-known-start-2 : tie.Need-enum-known-start-2
 enum-known-start-2 c =
     let pre0 = c .before .before .before .before .before .before .before .before .before .before .before .before .before .before .before .before .pre in
     let if1 = c .before .before .before .before .before .before .before .before .before .if1 .left in
     search needs
 
--- src/util.rt:202:41
 close-requires-2 : tie.Need-close-requires-2
 close-requires-2 c κs =
     let pre0 = c .before .before .before .before .before .before .before .before .before .before .before .before .before .before .before .before .before .before .before .pre in
@@ -111,55 +99,42 @@ close-requires-2 c κs =
     let path-start-ok = path-start .ok in
     search asks depth 8
 
--- src/util.rt:187:1
 same-length : tie.Need-same-length
 same-length c =
     c .before .before .close .kept .0 ∙ c .before .before .before .before .before .before .before .before .path-parts .kept .1 .1 .1 .1 .0 ∙ c .before .before .before .before .before .before .before .before .before .before .before .before .before .before .before .before .before .before .path-start .kept .1 .1 .1 .1 .0
 
--- src/util.rt:187:1
 same-length-2 : tie.Need-same-length-2
 same-length-2 c =
     c .before .before .before .before .before .before .before .before .path-parts .kept .1 .1 .1 .1 .1 .0 ∙ c .before .before .before .before .before .before .before .before .before .before .before .before .before .before .before .before .before .before .path-start .kept .1 .1 .1 .1 .1 .0
 
--- src/util.rt:187:1
 returns-2 : tie.Need-returns-2
-unfolding util.pathHere
+unfolding util.pathHere plan choose chosen
 returns-2 c =
     let pre0 = c .before .before .before .before .before .before .before .before .before .before .before .before .before .before .before .before .before .before .before .before .before .before .before .before .before .before .before .before .before .pre in
     let if1 = c .before .before .before .before .before .before .before .before .before .before .before .before .before .before .before .before .before .before .before .before .before .before .if1 .left in
-    let mark-is = c .before .before .before .before .before .before .before .before .before .before .before .before .before .before .before .before .before .before .before .before .before .mark .ensures in
-    let mark = nth 0 mark-is in
-    let path-start-is = rw (c .before .before .before .before .before .before .before .before .before .before .before .before .start .given .1) at (c .before .before .before .before .before .before .before .before .before .before .before .before .before .before .before .before .before .before .path-start .ensures) in
-    let path-start = nth 1 path-start-is in
-    let path-parts-is = c .before .before .before .before .before .before .before .before .path-parts .ensures in
-    let path-parts = nth 2 path-parts-is in
-    let close-is = c .before .before .close .ensures in
-    let close = nth 3 close-is in
-    by-steps pre0 (λ b. search rules depth 60 fits 4000)
+    let mark = c .before .before .before .before .before .before .before .before .before .before .before .before .before .before .before .before .before .before .before .before .before .mark .ensures in
+    let path-start = rw (c .before .before .before .before .before .before .before .before .before .before .before .before .start .given .1) at (c .before .before .before .before .before .before .before .before .before .before .before .before .before .before .before .before .before .before .path-start .ensures) in
+    let path-parts = c .before .before .before .before .before .before .before .before .path-parts .ensures in
+    let close = c .before .before .close .ensures in
+    by-steps pre0 (λ b. s-mark if1 mark (s-by _ (runs-in path-start) (s-run path-parts (s-close close s-end))))
 
--- src/util.rt:187:1
 same-length-3 : tie.Need-same-length-3
 same-length-3 c =
     c .before .before .close2 .kept .0 ∙ c .before .before .before .before .before .before .before .before .before .before .before .path-start .kept .1 .1 .1 .1 .0
 
--- src/util.rt:187:1
 same-length-4 : tie.Need-same-length-4
 same-length-4 c =
     c .before .before .before .before .before .before .before .before .before .before .before .path-start .kept .1 .1 .1 .1 .1 .0
 
--- src/util.rt:187:1
 returns-3 : tie.Need-returns-3
-unfolding util.pathHere
+unfolding util.pathHere plan choose chosen
 returns-3 c =
     let pre0 = c .before .before .before .before .before .before .before .before .before .before .before .before .before .before .before .before .before .before .before .before .before .before .pre in
     let if1 = c .before .before .before .before .before .before .before .before .before .before .before .before .before .before .before .if1 .left in
-    let mark-is = c .before .before .before .before .before .before .before .before .before .before .before .before .before .before .mark .ensures in
-    let mark = nth 0 mark-is in
-    let path-start-is = rw (c .before .before .before .before .before .start2 .given .1) at (c .before .before .before .before .before .before .before .before .before .before .before .path-start .ensures) in
-    let path-start = nth 1 path-start-is in
-    let close2-is = c .before .before .close2 .ensures in
-    let close2 = nth 2 close2-is in
-    by-steps pre0 (λ b. search rules depth 60 fits 4000)
+    let mark = c .before .before .before .before .before .before .before .before .before .before .before .before .before .before .mark .ensures in
+    let path-start = rw (c .before .before .before .before .before .start2 .given .1) at (c .before .before .before .before .before .before .before .before .before .before .before .path-start .ensures) in
+    let close2 = c .before .before .close2 .ensures in
+    by-steps pre0 (λ b. s-mark if1 mark (s-by _ (runs-in path-start) (s-close close2 s-end)))
 
 pub path-here-spec : {M : Type 1} → statement M
 path-here-spec =

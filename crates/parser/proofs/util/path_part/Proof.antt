@@ -1,7 +1,7 @@
+-- by tools/prove
 use Rattle.grammar.specs.Util as util
-use Rattle.laws.specs.Progress.{path-part-advances}
-use Rattle.parser.specs.View.{mem}
-use Rattle.parser.specs.Runs.{rules, asks, nth, in-steps, by-steps, always, ok-bumps, ok-adds, ok-tells, ok-marks, ok-refused, ok-state, runs-in, Loops, turns, loop-starts, loop-goes, loop-falls, loop-ends}
+use Rattle.parser.specs.Runs.{asks, runs-always, ok-marks, ok-state}
+use Rattle.parser.specs.Plans.{plan, choose, chosen, by-steps, s-mark, s-deep, s-by, settled, s-end}
 use mathlib.Core.Path.{_≡_, refl, _∙_}
 use lib.ListN.{length}
 use borrow.Author.Needs.{needs}
@@ -15,31 +15,26 @@ use Rattle.parser.proofs.State.refuse.Reads as refuse-reads
 use Rattle.parser.proofs.util.eat_name_star.Reads as eat-name-star-reads
 use Rattle.parser.proofs.util.part_end.Reads as part-end-reads
 
--- src/util.rt:161:31
 refuse-requires : tie.Need-refuse-requires
 refuse-requires c κs =
     let pre0 = c .before .before .before .before .before .before .before .pre in
     let if1 = c .if1 .taken in
     search asks depth 8
 
--- src/util.rt:161:9
 returns : tie.Need-returns
-unfolding util.pathPart
+unfolding util.pathPart plan choose chosen
 returns c =
     let pre0 = c .before .before .before .before .before .before .before .before .pre in
     let if1 = c .before .if1 .taken in
-    let refuse-is = c .refuse .ensures in
-    let refuse = nth 0 refuse-is in
-    by-steps pre0 (λ b. search rules depth 60 fits 4000)
+    let refuse = c .refuse .ensures in
+    by-steps pre0 (λ b. s-deep if1 refuse s-end)
 
--- src/util.rt:163:9
 mark-requires : tie.Need-mark-requires
 mark-requires c κs =
     let pre0 = c .before .before .before .before .before .before .before .pre in
     let if1 = c .if1 .left in
     search asks depth 8
 
--- src/util.rt:165:9
 eat-name-star-requires : tie.Need-eat-name-star-requires
 eat-name-star-requires c κs =
     let pre0 = c .before .before .before .before .before .before .before .before .before .before .pre in
@@ -48,7 +43,6 @@ eat-name-star-requires c κs =
     let mark-ok = ok-marks mark pre0 in
     search asks depth 8
 
--- src/util.rt:166:9
 state-requires : tie.Need-state-requires
 state-requires c κs =
     let pre0 = c .before .before .before .before .before .before .before .before .before .before .before .before .before .before .before .pre in
@@ -59,14 +53,12 @@ state-requires c κs =
     let eat-name-star-ok = eat-name-star .ok in
     search asks depth 8
 
--- src/util.rt:167:54
 sub-part-end : tie.Need-sub-part-end
 sub-part-end c =
     let pre0 = c .before .before .before .before .before .before .before .before .before .before .before .before .before .before .before .before .before .before .pre in
     let if1 = c .before .before .before .before .before .before .before .before .before .before .before .if1 .left in
     search needs
 
--- src/util.rt:167:5
 part-end-requires : tie.Need-part-end-requires
 part-end-requires c κs =
     let pre0 = c .before .before .before .before .before .before .before .before .before .before .before .before .before .before .before .before .before .before .pre in
@@ -79,31 +71,24 @@ part-end-requires c κs =
     let state-ok = ok-state state eat-name-star-ok in
     search asks depth 8
 
--- src/util.rt:156:1
 same-length : tie.Need-same-length
 same-length c =
     c .before .before .before .before .part-end .kept .1 .1 .1 .1 .0 ∙ c .before .before .before .before .before .before .before .before .before .before .before .before .eat-name-star .kept .1 .1 .1 .1 .0
 
--- src/util.rt:156:1
 same-length-2 : tie.Need-same-length-2
 same-length-2 c =
     c .before .before .before .before .part-end .kept .1 .1 .1 .1 .1 .0 ∙ c .before .before .before .before .before .before .before .before .before .before .before .before .eat-name-star .kept .1 .1 .1 .1 .1 .0
 
--- src/util.rt:156:1
 returns-2 : tie.Need-returns-2
-unfolding util.pathPart
+unfolding util.pathPart plan choose chosen
 returns-2 c =
     let pre0 = c .before .before .before .before .before .before .before .before .before .before .before .before .before .before .before .before .before .before .before .before .before .before .before .pre in
     let if1 = c .before .before .before .before .before .before .before .before .before .before .before .before .before .before .before .before .if1 .left in
-    let mark-is = c .before .before .before .before .before .before .before .before .before .before .before .before .before .before .before .mark .ensures in
-    let mark = nth 0 mark-is in
-    let eat-name-star-is = c .before .before .before .before .before .before .before .before .before .before .before .before .eat-name-star .ensures in
-    let eat-name-star = nth 1 eat-name-star-is in
-    let state-is = c .before .before .before .before .before .before .before .state .ensures in
-    let state = nth 2 state-is in
-    let part-end-is = c .before .before .before .before .part-end .ensures in
-    let part-end = nth 3 part-end-is in
-    by-steps pre0 (λ b. search rules depth 60 fits 4000)
+    let mark = c .before .before .before .before .before .before .before .before .before .before .before .before .before .before .before .mark .ensures in
+    let eat-name-star = c .before .before .before .before .before .before .before .before .before .before .before .before .eat-name-star .ensures in
+    let state = c .before .before .before .before .before .before .before .state .ensures in
+    let part-end = c .before .before .before .before .part-end .ensures in
+    by-steps pre0 (λ b. s-mark if1 mark (s-by _ (settled state (runs-always eat-name-star)) (s-by _ part-end s-end)))
 
 pub path-part-spec : {M : Type 1} → statement M
 path-part-spec =

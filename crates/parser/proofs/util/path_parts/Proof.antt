@@ -1,7 +1,8 @@
+-- by tools/prove
 use Rattle.grammar.specs.Util as util
 use Rattle.laws.specs.Progress.{path-part-advances}
 use Rattle.parser.specs.View.{mem}
-use Rattle.parser.specs.Runs.{rules, asks, nth, in-steps, by-steps, always, ok-bumps, ok-adds, ok-tells, ok-marks, ok-refused, ok-state, runs-in, Loops, turns, loop-starts, loop-goes, loop-falls, loop-ends}
+use Rattle.parser.specs.Runs.{asks, runs-in, Loops, turns, loop-starts, loop-goes, loop-falls, loop-ends}
 use borrow.Author.Needs.{needs}
 use mathlib.Core.Path.{_≡_, refl, _∙_}
 use lib.ListN.{length}
@@ -19,54 +20,45 @@ Inv-loop text toks env table scratch₀ finds₀ left b s1₀ scratch finds s1 =
 abbrev μ-loop : tie.MeasureT-loop
 μ-loop text toks env table scratch₀ finds₀ left b s1₀ scratch finds s1 = turns (mem text toks env table scratch finds s1)
 
--- src/util.rt:177:5
 loop-holds : tie.Need-loop-holds Inv-loop μ-loop
 loop-holds c =
     let pre0 = c .before .before .before .before .before .before .pre in
     (loop-starts pre0, refl, refl)
 
--- src/util.rt:178:13
 path-part-requires : tie.Need-path-part-requires Inv-loop μ-loop
 path-part-requires c κs =
     let pre0 = c .before .before .before .before .before .before .before .before .before .pre in
     let inv = c .before .before .loop .inv .0 .ok in
     search asks depth 8
 
--- src/util.rt:180:23
 enum-known-turn : tie.Need-enum-known-turn Inv-loop μ-loop
 enum-known-turn c =
     let pre0 = c .before .before .before .before .before .before .before .before .before .before .before .before .before .before .before .pre in
     search needs
 
--- src/util.rt:177:5
 loop-less : tie.Need-loop-less Inv-loop μ-loop
 loop-less c =
     let path-part = runs-in {b = 0} (rw (c .before .turn .given .1) at (c .before .before .before .before .before .before .before .path-part .ensures)) in
     loop-falls (path-part-advances true _ _) path-part
 
--- src/util.rt:177:5
 loop-again : tie.Need-loop-again Inv-loop μ-loop
 loop-again c =
     let path-part = runs-in (rw (c .before .turn .given .1) at (c .before .before .before .before .before .before .before .path-part .ensures)) in
     (loop-goes (path-part-advances true _ _) (c .before .before .before .before .before .before .before .before .before .before .loop .inv .0) path-part, c .before .before .before .before .before .before .before .path-part .kept .1 .1 .1 .1 .0 ∙ c .before .before .before .before .before .before .before .before .before .before .loop .inv .1, c .before .before .before .before .before .before .before .path-part .kept .1 .1 .1 .1 .1 .0 ∙ c .before .before .before .before .before .before .before .before .before .before .loop .inv .2)
 
--- src/util.rt:181:28
 enum-known-turn-2 : tie.Need-enum-known-turn-2 Inv-loop μ-loop
 enum-known-turn-2 c =
     let pre0 = c .before .before .before .before .before .before .before .before .before .before .before .before .before .before .before .pre in
     search needs
 
--- src/util.rt:181:35
 same-length : tie.Need-same-length Inv-loop μ-loop
 same-length c =
     c .before .before .before .before .before .before .before .path-part .kept .1 .1 .1 .1 .0 ∙ c .before .before .before .before .before .before .before .before .before .before .loop .inv .1
 
--- src/util.rt:181:35
 same-length-2 : tie.Need-same-length-2 Inv-loop μ-loop
 same-length-2 c =
     c .before .before .before .before .before .before .before .path-part .kept .1 .1 .1 .1 .1 .0 ∙ c .before .before .before .before .before .before .before .before .before .before .loop .inv .2
 
--- src/util.rt:181:35
 returns : tie.Need-returns Inv-loop μ-loop
 returns c =
     let path-part = runs-in (rw (c .before .turn2 .given .1) at (c .before .before .before .before .before .before .before .path-part .ensures)) in

@@ -1,0 +1,136 @@
+-- by tools/prove
+use Rattle.grammar.specs.Util as util
+use Rattle.parser.specs.Runs.{asks, runs-in, runs-always, kind-at, kind-off}
+use Rattle.parser.specs.Plans.{plan, choose, chosen, by-steps, s-kind, s-true, s-false, s-bump, s-by, settled, s-end}
+use mathlib.Core.Path.{_≡_, refl, _∙_}
+use lib.ListN.{length}
+use borrow.Author.Needs.{needs}
+use Rattle.ty.proofs.var_turn.Statement.{statement}
+use Rattle.ty.proofs.var_turn.Tie as tie
+use Rattle.ty.proofs.var_turn.Reads as reads
+use Rattle.ty.proofs.var_turn.Lts as lts
+use Rattle.parser.proofs.Found.state.Reads as state-reads
+use Rattle.parser.proofs.at.Reads as at-reads
+use Rattle.parser.proofs.bump.Reads as bump-reads
+use Rattle.parser.proofs.util.eat.Reads as eat-reads
+use Rattle.ty.proofs.var_item.Reads as var-item-reads
+
+at-requires : tie.Need-at-requires
+at-requires c κs =
+    let pre0 = c .before .before .before .before .before .before .pre in
+    search asks depth 8
+
+bump-requires : tie.Need-bump-requires
+bump-requires c κs =
+    let pre0 = c .before .before .before .before .before .before .before .before .before .pre in
+    let at = c .before .before .at .ensures in
+    let if1 = c .before .if1 .taken in
+    search asks depth 8
+
+same-length : tie.Need-same-length
+same-length c =
+    c .before .before .bump .kept .1 .0
+
+returns : tie.Need-returns
+unfolding util.endTurn plan choose chosen
+returns c =
+    let pre0 = c .before .before .before .before .before .before .before .before .before .before .before .before .pre in
+    let at = c .before .before .before .before .before .at .ensures in
+    let if1 = c .before .before .before .before .if1 .taken in
+    let bump = c .before .before .bump .ensures in
+    by-steps pre0 (λ b. s-kind (s-true _ _ (kind-at _ _ _ _ at if1) (s-bump bump s-end)))
+
+var-item-requires : tie.Need-var-item-requires
+var-item-requires c κs =
+    let pre0 = c .before .before .before .before .before .before .before .before .before .before .pre in
+    let at = c .before .before .before .at .ensures in
+    let if1 = c .before .before .if1 .left in
+    search asks depth 8
+
+enum-known-item : tie.Need-enum-known-item
+enum-known-item c =
+    let pre0 = c .before .before .before .before .before .before .before .before .before .before .before .before .before .before .before .before .pre in
+    let if1 = c .before .before .before .before .before .before .before .before .if1 .left in
+    search needs
+
+enum-known-item-2 : tie.Need-enum-known-item-2
+enum-known-item-2 c =
+    let pre0 = c .before .before .before .before .before .before .before .before .before .before .before .before .before .before .before .before .pre in
+    let if1 = c .before .before .before .before .before .before .before .before .if1 .left in
+    search needs
+
+eat-requires : tie.Need-eat-requires
+eat-requires c κs =
+    let pre0 = c .before .before .before .before .before .before .before .before .before .before .before .before .before .before .before .before .before .before .before .before .pre in
+    let at = c .before .before .before .before .before .before .before .before .before .before .before .before .before .at .ensures in
+    let if1 = c .before .before .before .before .before .before .before .before .before .before .before .before .if1 .left in
+    let var-item = rw (c .before .before .before .item2 .given .1) at (c .before .before .before .before .before .before .before .before .before .var-item .ensures) in
+    let var-item-ok = var-item .ok in
+    search asks depth 8
+
+state-requires : tie.Need-state-requires
+state-requires c κs =
+    let pre0 = c .before .before .before .before .before .before .before .before .before .before .before .before .before .before .before .before .before .before .before .before .before .before .before .before .before .pre in
+    let at = c .before .before .before .before .before .before .before .before .before .before .before .before .before .before .before .before .before .before .at .ensures in
+    let if1 = c .before .before .before .before .before .before .before .before .before .before .before .before .before .before .before .before .before .if1 .left in
+    let var-item = rw (c .before .before .before .before .before .before .before .before .item2 .given .1) at (c .before .before .before .before .before .before .before .before .before .before .before .before .before .before .var-item .ensures) in
+    let var-item-ok = var-item .ok in
+    let eat = c .before .before .before .before .eat .ensures in
+    let eat-ok = eat .ok in
+    search asks depth 8
+
+same-length-2 : tie.Need-same-length-2
+same-length-2 c =
+    c .before .before .before .before .before .before .before .var-item .kept .1 .1 .1 .1 .0
+
+same-length-3 : tie.Need-same-length-3
+same-length-3 c =
+    c .before .before .before .before .before .before .before .var-item .kept .1 .1 .1 .1 .1 .0
+
+returns-2 : tie.Need-returns-2
+unfolding util.endTurn plan choose chosen
+returns-2 c =
+    let pre0 = c .before .before .before .before .before .before .before .before .before .before .before .before .before .before .before .before .before .before .pre in
+    let at = c .before .before .before .before .before .before .before .before .before .before .before .at .ensures in
+    let if1 = c .before .before .before .before .before .before .before .before .before .before .if1 .left in
+    let var-item = rw (c .before .item .given .1) at (c .before .before .before .before .before .before .before .var-item .ensures) in
+    by-steps pre0 (λ b. s-kind (s-false _ _ (kind-off _ _ _ _ at if1) (s-by _ (runs-in var-item) s-end)))
+
+same-length-4 : tie.Need-same-length-4
+same-length-4 c =
+    c .before .before .before .before .before .eat .kept .1 .1 .1 .1 .0 ∙ c .before .before .before .before .before .before .before .before .before .before .before .before .before .before .before .var-item .kept .1 .1 .1 .1 .0
+
+same-length-5 : tie.Need-same-length-5
+same-length-5 c =
+    c .before .before .before .before .before .eat .kept .1 .1 .1 .1 .1 .0 ∙ c .before .before .before .before .before .before .before .before .before .before .before .before .before .before .before .var-item .kept .1 .1 .1 .1 .1 .0
+
+returns-3 : tie.Need-returns-3
+unfolding util.endTurn plan choose chosen
+returns-3 c =
+    let pre0 = c .before .before .before .before .before .before .before .before .before .before .before .before .before .before .before .before .before .before .before .before .before .before .before .before .before .before .pre in
+    let at = c .before .before .before .before .before .before .before .before .before .before .before .before .before .before .before .before .before .before .before .at .ensures in
+    let if1 = c .before .before .before .before .before .before .before .before .before .before .before .before .before .before .before .before .before .before .if1 .left in
+    let var-item = rw (c .before .before .before .before .before .before .before .before .before .item2 .given .1) at (c .before .before .before .before .before .before .before .before .before .before .before .before .before .before .before .var-item .ensures) in
+    let eat = c .before .before .before .before .before .eat .ensures in
+    let state = c .state .ensures in
+    by-steps pre0 (λ b. s-kind (s-false _ _ (kind-off _ _ _ _ at if1) (s-by _ (runs-in var-item) (s-by _ (settled state (runs-always eat)) s-end))))
+
+pub var-turn-spec : {M : Type 1} → statement M
+var-turn-spec =
+    tie.close
+    (tie.spec
+    at-requires
+    bump-requires
+    same-length
+    returns
+    var-item-requires
+    enum-known-item
+    enum-known-item-2
+    eat-requires
+    state-requires
+    same-length-2
+    same-length-3
+    returns-2
+    same-length-4
+    same-length-5
+    returns-3)
