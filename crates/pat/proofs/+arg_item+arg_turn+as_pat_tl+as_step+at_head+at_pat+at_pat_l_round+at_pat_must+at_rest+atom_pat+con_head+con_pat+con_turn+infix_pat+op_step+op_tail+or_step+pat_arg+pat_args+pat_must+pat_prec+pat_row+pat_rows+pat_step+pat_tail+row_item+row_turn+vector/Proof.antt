@@ -1,0 +1,10597 @@
+-- by tools/prove
+use Rattle.grammar.specs.Rule.{PatPrec as Prec}
+use Rattle.grammar.specs.Util as util
+use Rattle.grammar.specs.Pat as pat
+use Rattle.grammar.specs.Root as root
+use Rattle.grammar.specs.SyntaxKind as SK
+use Rattle.laws.specs.Progress.{end-turn-advances, pat-step-advances}
+use Rattle.parser.specs.View.{mem, errOf}
+use Rattle.parser.specs.Runs.{asks, runs-in, runs-always, kind-at, kind-off, kind-is, kind-not, test-true, test-false, ok-bumps, ok-tells, ok-marks, ok-state, small-index, Loops, turns, loop-starts, loop-goes, loop-falls, loop-ends}
+use Rattle.parser.specs.Plans.{plan, choose, chosen, in-steps, by-steps, s-rule, s-look, s-index, s-kind, s-fixed, s-true, s-false, s-bump, s-close, s-report, s-mark, s-deep, s-by, s-run, settled, s-end}
+use Rattle.pat_parts.specs.Prec.{precOf}
+use borrow.Author.Needs.{needs}
+use mathlib.Core.Path.{_≡_, refl, _∙_}
+use lib.ListN.{length}
+use Prim.Native.Nat.{_+_, _-_, _*_}
+use mathlib.Core.Bool.{true}
+use Prim.Native.Nat.{ℕ, _<_}
+use borrow.Fn.Kinds.{In}
+use borrow.Fn.PlainCycle.{Measures, is, falls, and}
+use Rattle.pat.proofs.arg_item.Reads as arg-item
+use Rattle.pat.proofs.arg_item.Kinds as arg-item-kinds
+use Rattle.pat.proofs.+arg_item+arg_turn+as_pat_tl+as_step+at_head+at_pat+at_pat_l_round+at_pat_must+at_rest+atom_pat+con_head+con_pat+con_turn+infix_pat+op_step+op_tail+or_step+pat_arg+pat_args+pat_must+pat_prec+pat_row+pat_rows+pat_step+pat_tail+row_item+row_turn+vector.Lts-arg_item as arg-item-lts
+use Rattle.pat.proofs.arg_turn.Reads as arg-turn
+use Rattle.pat.proofs.arg_turn.Kinds as arg-turn-kinds
+use Rattle.pat.proofs.+arg_item+arg_turn+as_pat_tl+as_step+at_head+at_pat+at_pat_l_round+at_pat_must+at_rest+atom_pat+con_head+con_pat+con_turn+infix_pat+op_step+op_tail+or_step+pat_arg+pat_args+pat_must+pat_prec+pat_row+pat_rows+pat_step+pat_tail+row_item+row_turn+vector.Lts-arg_turn as arg-turn-lts
+use Rattle.pat.proofs.as_pat_tl.Reads as as-pat-tl
+use Rattle.pat.proofs.as_pat_tl.Kinds as as-pat-tl-kinds
+use Rattle.pat.proofs.+arg_item+arg_turn+as_pat_tl+as_step+at_head+at_pat+at_pat_l_round+at_pat_must+at_rest+atom_pat+con_head+con_pat+con_turn+infix_pat+op_step+op_tail+or_step+pat_arg+pat_args+pat_must+pat_prec+pat_row+pat_rows+pat_step+pat_tail+row_item+row_turn+vector.Lts-as_pat_tl as as-pat-tl-lts
+use Rattle.pat.proofs.as_step.Reads as as-step
+use Rattle.pat.proofs.as_step.Kinds as as-step-kinds
+use Rattle.pat.proofs.+arg_item+arg_turn+as_pat_tl+as_step+at_head+at_pat+at_pat_l_round+at_pat_must+at_rest+atom_pat+con_head+con_pat+con_turn+infix_pat+op_step+op_tail+or_step+pat_arg+pat_args+pat_must+pat_prec+pat_row+pat_rows+pat_step+pat_tail+row_item+row_turn+vector.Lts-as_step as as-step-lts
+use Rattle.pat.proofs.at_head.Reads as at-head
+use Rattle.pat.proofs.at_head.Kinds as at-head-kinds
+use Rattle.pat.proofs.+arg_item+arg_turn+as_pat_tl+as_step+at_head+at_pat+at_pat_l_round+at_pat_must+at_rest+atom_pat+con_head+con_pat+con_turn+infix_pat+op_step+op_tail+or_step+pat_arg+pat_args+pat_must+pat_prec+pat_row+pat_rows+pat_step+pat_tail+row_item+row_turn+vector.Lts-at_head as at-head-lts
+use Rattle.pat.proofs.at_pat.Reads as at-pat
+use Rattle.pat.proofs.at_pat.Kinds as at-pat-kinds
+use Rattle.pat.proofs.+arg_item+arg_turn+as_pat_tl+as_step+at_head+at_pat+at_pat_l_round+at_pat_must+at_rest+atom_pat+con_head+con_pat+con_turn+infix_pat+op_step+op_tail+or_step+pat_arg+pat_args+pat_must+pat_prec+pat_row+pat_rows+pat_step+pat_tail+row_item+row_turn+vector.Lts-at_pat as at-pat-lts
+use Rattle.pat.proofs.at_pat_l_round.Reads as at-pat-l-round
+use Rattle.pat.proofs.at_pat_l_round.Kinds as at-pat-l-round-kinds
+use Rattle.pat.proofs.+arg_item+arg_turn+as_pat_tl+as_step+at_head+at_pat+at_pat_l_round+at_pat_must+at_rest+atom_pat+con_head+con_pat+con_turn+infix_pat+op_step+op_tail+or_step+pat_arg+pat_args+pat_must+pat_prec+pat_row+pat_rows+pat_step+pat_tail+row_item+row_turn+vector.Lts-at_pat_l_round as at-pat-l-round-lts
+use Rattle.pat.proofs.at_pat_must.Reads as at-pat-must
+use Rattle.pat.proofs.at_pat_must.Kinds as at-pat-must-kinds
+use Rattle.pat.proofs.+arg_item+arg_turn+as_pat_tl+as_step+at_head+at_pat+at_pat_l_round+at_pat_must+at_rest+atom_pat+con_head+con_pat+con_turn+infix_pat+op_step+op_tail+or_step+pat_arg+pat_args+pat_must+pat_prec+pat_row+pat_rows+pat_step+pat_tail+row_item+row_turn+vector.Lts-at_pat_must as at-pat-must-lts
+use Rattle.pat.proofs.at_rest.Reads as at-rest
+use Rattle.pat.proofs.at_rest.Kinds as at-rest-kinds
+use Rattle.pat.proofs.+arg_item+arg_turn+as_pat_tl+as_step+at_head+at_pat+at_pat_l_round+at_pat_must+at_rest+atom_pat+con_head+con_pat+con_turn+infix_pat+op_step+op_tail+or_step+pat_arg+pat_args+pat_must+pat_prec+pat_row+pat_rows+pat_step+pat_tail+row_item+row_turn+vector.Lts-at_rest as at-rest-lts
+use Rattle.pat.proofs.atom_pat.Reads as atom-pat
+use Rattle.pat.proofs.atom_pat.Kinds as atom-pat-kinds
+use Rattle.pat.proofs.+arg_item+arg_turn+as_pat_tl+as_step+at_head+at_pat+at_pat_l_round+at_pat_must+at_rest+atom_pat+con_head+con_pat+con_turn+infix_pat+op_step+op_tail+or_step+pat_arg+pat_args+pat_must+pat_prec+pat_row+pat_rows+pat_step+pat_tail+row_item+row_turn+vector.Lts-atom_pat as atom-pat-lts
+use Rattle.pat.proofs.con_head.Reads as con-head
+use Rattle.pat.proofs.con_head.Kinds as con-head-kinds
+use Rattle.pat.proofs.+arg_item+arg_turn+as_pat_tl+as_step+at_head+at_pat+at_pat_l_round+at_pat_must+at_rest+atom_pat+con_head+con_pat+con_turn+infix_pat+op_step+op_tail+or_step+pat_arg+pat_args+pat_must+pat_prec+pat_row+pat_rows+pat_step+pat_tail+row_item+row_turn+vector.Lts-con_head as con-head-lts
+use Rattle.pat.proofs.con_pat.Reads as con-pat
+use Rattle.pat.proofs.con_pat.Kinds as con-pat-kinds
+use Rattle.pat.proofs.+arg_item+arg_turn+as_pat_tl+as_step+at_head+at_pat+at_pat_l_round+at_pat_must+at_rest+atom_pat+con_head+con_pat+con_turn+infix_pat+op_step+op_tail+or_step+pat_arg+pat_args+pat_must+pat_prec+pat_row+pat_rows+pat_step+pat_tail+row_item+row_turn+vector.Lts-con_pat as con-pat-lts
+use Rattle.pat.proofs.con_turn.Reads as con-turn
+use Rattle.pat.proofs.con_turn.Kinds as con-turn-kinds
+use Rattle.pat.proofs.+arg_item+arg_turn+as_pat_tl+as_step+at_head+at_pat+at_pat_l_round+at_pat_must+at_rest+atom_pat+con_head+con_pat+con_turn+infix_pat+op_step+op_tail+or_step+pat_arg+pat_args+pat_must+pat_prec+pat_row+pat_rows+pat_step+pat_tail+row_item+row_turn+vector.Lts-con_turn as con-turn-lts
+use Rattle.pat.proofs.infix_pat.Reads as infix-pat
+use Rattle.pat.proofs.infix_pat.Kinds as infix-pat-kinds
+use Rattle.pat.proofs.+arg_item+arg_turn+as_pat_tl+as_step+at_head+at_pat+at_pat_l_round+at_pat_must+at_rest+atom_pat+con_head+con_pat+con_turn+infix_pat+op_step+op_tail+or_step+pat_arg+pat_args+pat_must+pat_prec+pat_row+pat_rows+pat_step+pat_tail+row_item+row_turn+vector.Lts-infix_pat as infix-pat-lts
+use Rattle.pat.proofs.op_step.Reads as op-step
+use Rattle.pat.proofs.op_step.Kinds as op-step-kinds
+use Rattle.pat.proofs.+arg_item+arg_turn+as_pat_tl+as_step+at_head+at_pat+at_pat_l_round+at_pat_must+at_rest+atom_pat+con_head+con_pat+con_turn+infix_pat+op_step+op_tail+or_step+pat_arg+pat_args+pat_must+pat_prec+pat_row+pat_rows+pat_step+pat_tail+row_item+row_turn+vector.Lts-op_step as op-step-lts
+use Rattle.pat.proofs.op_tail.Reads as op-tail
+use Rattle.pat.proofs.op_tail.Kinds as op-tail-kinds
+use Rattle.pat.proofs.+arg_item+arg_turn+as_pat_tl+as_step+at_head+at_pat+at_pat_l_round+at_pat_must+at_rest+atom_pat+con_head+con_pat+con_turn+infix_pat+op_step+op_tail+or_step+pat_arg+pat_args+pat_must+pat_prec+pat_row+pat_rows+pat_step+pat_tail+row_item+row_turn+vector.Lts-op_tail as op-tail-lts
+use Rattle.pat.proofs.or_step.Reads as or-step
+use Rattle.pat.proofs.or_step.Kinds as or-step-kinds
+use Rattle.pat.proofs.+arg_item+arg_turn+as_pat_tl+as_step+at_head+at_pat+at_pat_l_round+at_pat_must+at_rest+atom_pat+con_head+con_pat+con_turn+infix_pat+op_step+op_tail+or_step+pat_arg+pat_args+pat_must+pat_prec+pat_row+pat_rows+pat_step+pat_tail+row_item+row_turn+vector.Lts-or_step as or-step-lts
+use Rattle.pat.proofs.pat_arg.Reads as pat-arg
+use Rattle.pat.proofs.pat_arg.Kinds as pat-arg-kinds
+use Rattle.pat.proofs.+arg_item+arg_turn+as_pat_tl+as_step+at_head+at_pat+at_pat_l_round+at_pat_must+at_rest+atom_pat+con_head+con_pat+con_turn+infix_pat+op_step+op_tail+or_step+pat_arg+pat_args+pat_must+pat_prec+pat_row+pat_rows+pat_step+pat_tail+row_item+row_turn+vector.Lts-pat_arg as pat-arg-lts
+use Rattle.pat.proofs.pat_args.Reads as pat-args
+use Rattle.pat.proofs.pat_args.Kinds as pat-args-kinds
+use Rattle.pat.proofs.+arg_item+arg_turn+as_pat_tl+as_step+at_head+at_pat+at_pat_l_round+at_pat_must+at_rest+atom_pat+con_head+con_pat+con_turn+infix_pat+op_step+op_tail+or_step+pat_arg+pat_args+pat_must+pat_prec+pat_row+pat_rows+pat_step+pat_tail+row_item+row_turn+vector.Lts-pat_args as pat-args-lts
+use Rattle.pat.proofs.pat_must.Reads as pat-must
+use Rattle.pat.proofs.pat_must.Kinds as pat-must-kinds
+use Rattle.pat.proofs.+arg_item+arg_turn+as_pat_tl+as_step+at_head+at_pat+at_pat_l_round+at_pat_must+at_rest+atom_pat+con_head+con_pat+con_turn+infix_pat+op_step+op_tail+or_step+pat_arg+pat_args+pat_must+pat_prec+pat_row+pat_rows+pat_step+pat_tail+row_item+row_turn+vector.Lts-pat_must as pat-must-lts
+use Rattle.pat.proofs.pat_prec.Reads as pat-prec
+use Rattle.pat.proofs.pat_prec.Kinds as pat-prec-kinds
+use Rattle.pat.proofs.+arg_item+arg_turn+as_pat_tl+as_step+at_head+at_pat+at_pat_l_round+at_pat_must+at_rest+atom_pat+con_head+con_pat+con_turn+infix_pat+op_step+op_tail+or_step+pat_arg+pat_args+pat_must+pat_prec+pat_row+pat_rows+pat_step+pat_tail+row_item+row_turn+vector.Lts-pat_prec as pat-prec-lts
+use Rattle.pat.proofs.pat_row.Reads as pat-row
+use Rattle.pat.proofs.pat_row.Kinds as pat-row-kinds
+use Rattle.pat.proofs.+arg_item+arg_turn+as_pat_tl+as_step+at_head+at_pat+at_pat_l_round+at_pat_must+at_rest+atom_pat+con_head+con_pat+con_turn+infix_pat+op_step+op_tail+or_step+pat_arg+pat_args+pat_must+pat_prec+pat_row+pat_rows+pat_step+pat_tail+row_item+row_turn+vector.Lts-pat_row as pat-row-lts
+use Rattle.pat.proofs.pat_rows.Reads as pat-rows
+use Rattle.pat.proofs.pat_rows.Kinds as pat-rows-kinds
+use Rattle.pat.proofs.+arg_item+arg_turn+as_pat_tl+as_step+at_head+at_pat+at_pat_l_round+at_pat_must+at_rest+atom_pat+con_head+con_pat+con_turn+infix_pat+op_step+op_tail+or_step+pat_arg+pat_args+pat_must+pat_prec+pat_row+pat_rows+pat_step+pat_tail+row_item+row_turn+vector.Lts-pat_rows as pat-rows-lts
+use Rattle.pat.proofs.pat_step.Reads as pat-step
+use Rattle.pat.proofs.pat_step.Kinds as pat-step-kinds
+use Rattle.pat.proofs.+arg_item+arg_turn+as_pat_tl+as_step+at_head+at_pat+at_pat_l_round+at_pat_must+at_rest+atom_pat+con_head+con_pat+con_turn+infix_pat+op_step+op_tail+or_step+pat_arg+pat_args+pat_must+pat_prec+pat_row+pat_rows+pat_step+pat_tail+row_item+row_turn+vector.Lts-pat_step as pat-step-lts
+use Rattle.pat.proofs.pat_tail.Reads as pat-tail
+use Rattle.pat.proofs.pat_tail.Kinds as pat-tail-kinds
+use Rattle.pat.proofs.+arg_item+arg_turn+as_pat_tl+as_step+at_head+at_pat+at_pat_l_round+at_pat_must+at_rest+atom_pat+con_head+con_pat+con_turn+infix_pat+op_step+op_tail+or_step+pat_arg+pat_args+pat_must+pat_prec+pat_row+pat_rows+pat_step+pat_tail+row_item+row_turn+vector.Lts-pat_tail as pat-tail-lts
+use Rattle.pat.proofs.row_item.Reads as row-item
+use Rattle.pat.proofs.row_item.Kinds as row-item-kinds
+use Rattle.pat.proofs.+arg_item+arg_turn+as_pat_tl+as_step+at_head+at_pat+at_pat_l_round+at_pat_must+at_rest+atom_pat+con_head+con_pat+con_turn+infix_pat+op_step+op_tail+or_step+pat_arg+pat_args+pat_must+pat_prec+pat_row+pat_rows+pat_step+pat_tail+row_item+row_turn+vector.Lts-row_item as row-item-lts
+use Rattle.pat.proofs.row_turn.Reads as row-turn
+use Rattle.pat.proofs.row_turn.Kinds as row-turn-kinds
+use Rattle.pat.proofs.+arg_item+arg_turn+as_pat_tl+as_step+at_head+at_pat+at_pat_l_round+at_pat_must+at_rest+atom_pat+con_head+con_pat+con_turn+infix_pat+op_step+op_tail+or_step+pat_arg+pat_args+pat_must+pat_prec+pat_row+pat_rows+pat_step+pat_tail+row_item+row_turn+vector.Lts-row_turn as row-turn-lts
+use Rattle.pat.proofs.vector.Reads as vector
+use Rattle.pat.proofs.vector.Kinds as vector-kinds
+use Rattle.pat.proofs.+arg_item+arg_turn+as_pat_tl+as_step+at_head+at_pat+at_pat_l_round+at_pat_must+at_rest+atom_pat+con_head+con_pat+con_turn+infix_pat+op_step+op_tail+or_step+pat_arg+pat_args+pat_must+pat_prec+pat_row+pat_rows+pat_step+pat_tail+row_item+row_turn+vector.Lts-vector as vector-lts
+use Rattle.parser.proofs.Found.state.Reads as state-reads
+use Rattle.parser.proofs.State.mark.Reads as mark-reads
+use Rattle.parser.proofs.State.refuse.Reads as refuse-reads
+use Rattle.parser.proofs.at.Reads as at-reads
+use Rattle.parser.proofs.at_n.Reads as at-n-reads
+use Rattle.parser.proofs.bump.Reads as bump-reads
+use Rattle.parser.proofs.close.Reads as close-reads
+use Rattle.parser.proofs.index.Reads as index-reads
+use Rattle.parser.proofs.names.fixity_at.Reads as fixity-at-reads
+use Rattle.parser.proofs.peek.Reads as peek-reads
+use Rattle.parser.proofs.peek_n.Reads as peek-n-reads
+use Rattle.parser.proofs.report.Reads as report-reads
+use Rattle.parser.proofs.util.ascription.Reads as ascription-reads
+use Rattle.parser.proofs.util.eat.Reads as eat-reads
+use Rattle.parser.proofs.util.eat_name_star.Reads as eat-name-star-reads
+use Rattle.parser.proofs.util.lab.Reads as lab-reads
+use Rattle.parser.proofs.util.name_star.Reads as name-star-reads
+use Rattle.parser.proofs.util.path_infix.Reads as path-infix-reads
+use Rattle.pat_parts.proofs.cases.arg.Reads as arg-reads
+use Rattle.pat_parts.proofs.cases.is_infix.Reads as is-infix-reads
+use Rattle.pat_parts.proofs.cases.is_min.Reads as is-min-reads
+use Rattle.pat_parts.proofs.cases.s_con.Reads as s-con-reads
+use Rattle.pat_parts.proofs.leaves.con_name.Reads as con-name-reads
+use Rattle.pat_parts.proofs.leaves.con_op.Reads as con-op-reads
+use Rattle.pat_parts.proofs.leaves.con_path.Reads as con-path-reads
+use Rattle.pat_parts.proofs.leaves.should_break_pat.Reads as should-break-pat-reads
+use Rattle.pat_parts.proofs.leaves.typed_step.Reads as typed-step-reads
+use Rattle.ty.proofs.ty_annotation.Reads as ty-annotation-reads
+use Rattle.pat.proofs.+arg_item+arg_turn+as_pat_tl+as_step+at_head+at_pat+at_pat_l_round+at_pat_must+at_rest+atom_pat+con_head+con_pat+con_turn+infix_pat+op_step+op_tail+or_step+pat_arg+pat_args+pat_must+pat_prec+pat_row+pat_rows+pat_step+pat_tail+row_item+row_turn+vector.{
+  statement,
+}
+use Rattle.pat.proofs.+arg_item+arg_turn+as_pat_tl+as_step+at_head+at_pat+at_pat_l_round+at_pat_must+at_rest+atom_pat+con_head+con_pat+con_turn+infix_pat+op_step+op_tail+or_step+pat_arg+pat_args+pat_must+pat_prec+pat_row+pat_rows+pat_step+pat_tail+row_item+row_turn+vector.Tie.{
+  close,
+}
+
+abbrev μ-arg-item : Measures 6 arg-item-kinds.ps ℕ
+μ-arg-item κs a = 64 * a .1 .1 .1 .1 .1 .1 .0
+
+abbrev μ-arg-turn : Measures 6 arg-turn-kinds.ps ℕ
+μ-arg-turn κs a = 64 * a .1 .1 .1 .1 .1 .1 .0 + 1
+
+abbrev μ-as-pat-tl : Measures 6 as-pat-tl-kinds.ps ℕ
+μ-as-pat-tl κs a = 64 * a .1 .1 .1 .1 .1 .1 .0
+
+abbrev μ-as-step : Measures 6 as-step-kinds.ps ℕ
+μ-as-step κs a = 64 * a .1 .1 .1 .1 .1 .1 .0
+
+abbrev μ-at-head : Measures 6 at-head-kinds.ps ℕ
+μ-at-head κs a = 64 * a .1 .1 .1 .1 .1 .1 .0 + 5
+
+abbrev μ-at-pat : Measures 6 at-pat-kinds.ps ℕ
+μ-at-pat κs a = 64 * a .1 .1 .1 .1 .1 .1 .0
+
+abbrev μ-at-pat-l-round : Measures 6 at-pat-l-round-kinds.ps ℕ
+μ-at-pat-l-round κs a = 64 * a .1 .1 .1 .1 .1 .1 .0 + 3
+
+abbrev μ-at-pat-must : Measures 6 at-pat-must-kinds.ps ℕ
+μ-at-pat-must κs a = 64 * a .1 .1 .1 .1 .1 .1 .0 + 1
+
+abbrev μ-at-rest : Measures 6 at-rest-kinds.ps ℕ
+μ-at-rest κs a = 64 * a .1 .1 .1 .1 .1 .1 .0 + 4
+
+abbrev μ-atom-pat : Measures 6 atom-pat-kinds.ps ℕ
+μ-atom-pat κs a = 64 * a .1 .1 .1 .1 .1 .1 .0 + 4
+
+abbrev μ-con-head : Measures 6 con-head-kinds.ps ℕ
+μ-con-head κs a = 64 * a .1 .1 .1 .1 .1 .1 .0
+
+abbrev μ-con-pat : Measures 6 con-pat-kinds.ps ℕ
+μ-con-pat κs a = 64 * a .1 .1 .1 .1 .1 .1 .0 + 4
+
+abbrev μ-con-turn : Measures 6 con-turn-kinds.ps ℕ
+μ-con-turn κs a = 64 * a .1 .1 .1 .1 .1 .1 .0 + 2
+
+abbrev μ-infix-pat : Measures 6 infix-pat-kinds.ps ℕ
+μ-infix-pat κs a = 64 * a .1 .1 .1 .1 .1 .1 .0
+
+abbrev μ-op-step : Measures 6 op-step-kinds.ps ℕ
+μ-op-step κs a = 64 * a .1 .1 .1 .1 .1 .1 .0 + 1
+
+abbrev μ-op-tail : Measures 6 op-tail-kinds.ps ℕ
+μ-op-tail κs a = 64 * a .1 .1 .1 .1 .1 .1 .0 + 1
+
+abbrev μ-or-step : Measures 6 or-step-kinds.ps ℕ
+μ-or-step κs a = 64 * a .1 .1 .1 .1 .1 .1 .0
+
+abbrev μ-pat-arg : Measures 6 pat-arg-kinds.ps ℕ
+μ-pat-arg κs a = 64 * a .1 .1 .1 .1 .1 .1 .0
+
+abbrev μ-pat-args : Measures 6 pat-args-kinds.ps ℕ
+μ-pat-args κs a = 64 * a .1 .1 .1 .1 .1 .1 .0 + 2
+
+abbrev μ-pat-must : Measures 6 pat-must-kinds.ps ℕ
+μ-pat-must κs a = 64 * a .1 .1 .1 .1 .1 .1 .0 + 6
+
+abbrev μ-pat-prec : Measures 6 pat-prec-kinds.ps ℕ
+μ-pat-prec κs a = 64 * a .1 .1 .1 .1 .1 .1 .0 + 5
+
+abbrev μ-pat-row : Measures 6 pat-row-kinds.ps ℕ
+μ-pat-row κs a = 64 * a .1 .1 .1 .1 .1 .1 .0
+
+abbrev μ-pat-rows : Measures 6 pat-rows-kinds.ps ℕ
+μ-pat-rows κs a = 64 * a .1 .1 .1 .1 .1 .1 .0 + 2
+
+abbrev μ-pat-step : Measures 6 pat-step-kinds.ps ℕ
+μ-pat-step κs a = 64 * a .1 .1 .1 .1 .1 .1 .0 + 2
+
+abbrev μ-pat-tail : Measures 6 pat-tail-kinds.ps ℕ
+μ-pat-tail κs a = 64 * a .1 .1 .1 .1 .1 .1 .0 + 3
+
+abbrev μ-row-item : Measures 6 row-item-kinds.ps ℕ
+μ-row-item κs a = 64 * a .1 .1 .1 .1 .1 .1 .0
+
+abbrev μ-row-turn : Measures 6 row-turn-kinds.ps ℕ
+μ-row-turn κs a = 64 * a .1 .1 .1 .1 .1 .1 .0 + 1
+
+abbrev μ-vector : Measures 6 vector-kinds.ps ℕ
+μ-vector κs a = 64 * a .1 .1 .1 .1 .1 .1 .0
+
+abbrev arg-item-at : ℕ → In 6 arg-item-kinds.ps
+arg-item-at t = and 6 arg-item-kinds.ps (is 6 arg-item-kinds.ps μ-arg-item t) arg-item.Pre
+
+abbrev arg-item-below : ℕ → In 6 arg-item-kinds.ps
+arg-item-below t =
+    and 6 arg-item-kinds.ps (falls 6 arg-item-kinds.ps _<_ μ-arg-item t) arg-item.Pre
+
+abbrev arg-turn-at : ℕ → In 6 arg-turn-kinds.ps
+arg-turn-at t = and 6 arg-turn-kinds.ps (is 6 arg-turn-kinds.ps μ-arg-turn t) arg-turn.Pre
+
+abbrev arg-turn-below : ℕ → In 6 arg-turn-kinds.ps
+arg-turn-below t =
+    and 6 arg-turn-kinds.ps (falls 6 arg-turn-kinds.ps _<_ μ-arg-turn t) arg-turn.Pre
+
+abbrev as-pat-tl-at : ℕ → In 6 as-pat-tl-kinds.ps
+as-pat-tl-at t = and 6 as-pat-tl-kinds.ps (is 6 as-pat-tl-kinds.ps μ-as-pat-tl t) as-pat-tl.Pre
+
+abbrev as-pat-tl-below : ℕ → In 6 as-pat-tl-kinds.ps
+as-pat-tl-below t =
+    and 6 as-pat-tl-kinds.ps (falls 6 as-pat-tl-kinds.ps _<_ μ-as-pat-tl t) as-pat-tl.Pre
+
+abbrev as-step-at : ℕ → In 6 as-step-kinds.ps
+as-step-at t = and 6 as-step-kinds.ps (is 6 as-step-kinds.ps μ-as-step t) as-step.Pre
+
+abbrev as-step-below : ℕ → In 6 as-step-kinds.ps
+as-step-below t = and 6 as-step-kinds.ps (falls 6 as-step-kinds.ps _<_ μ-as-step t) as-step.Pre
+
+abbrev at-head-at : ℕ → In 6 at-head-kinds.ps
+at-head-at t = and 6 at-head-kinds.ps (is 6 at-head-kinds.ps μ-at-head t) at-head.Pre
+
+abbrev at-head-below : ℕ → In 6 at-head-kinds.ps
+at-head-below t = and 6 at-head-kinds.ps (falls 6 at-head-kinds.ps _<_ μ-at-head t) at-head.Pre
+
+abbrev at-pat-at : ℕ → In 6 at-pat-kinds.ps
+at-pat-at t = and 6 at-pat-kinds.ps (is 6 at-pat-kinds.ps μ-at-pat t) at-pat.Pre
+
+abbrev at-pat-below : ℕ → In 6 at-pat-kinds.ps
+at-pat-below t = and 6 at-pat-kinds.ps (falls 6 at-pat-kinds.ps _<_ μ-at-pat t) at-pat.Pre
+
+abbrev at-pat-l-round-at : ℕ → In 6 at-pat-l-round-kinds.ps
+at-pat-l-round-at t =
+    and
+    6
+    at-pat-l-round-kinds.ps
+    (is 6 at-pat-l-round-kinds.ps μ-at-pat-l-round t)
+    at-pat-l-round.Pre
+
+abbrev at-pat-l-round-below : ℕ → In 6 at-pat-l-round-kinds.ps
+at-pat-l-round-below t =
+    and
+    6
+    at-pat-l-round-kinds.ps
+    (falls 6 at-pat-l-round-kinds.ps _<_ μ-at-pat-l-round t)
+    at-pat-l-round.Pre
+
+abbrev at-pat-must-at : ℕ → In 6 at-pat-must-kinds.ps
+at-pat-must-at t =
+    and 6 at-pat-must-kinds.ps (is 6 at-pat-must-kinds.ps μ-at-pat-must t) at-pat-must.Pre
+
+abbrev at-pat-must-below : ℕ → In 6 at-pat-must-kinds.ps
+at-pat-must-below t =
+    and 6 at-pat-must-kinds.ps (falls 6 at-pat-must-kinds.ps _<_ μ-at-pat-must t) at-pat-must.Pre
+
+abbrev at-rest-at : ℕ → In 6 at-rest-kinds.ps
+at-rest-at t = and 6 at-rest-kinds.ps (is 6 at-rest-kinds.ps μ-at-rest t) at-rest.Pre
+
+abbrev at-rest-below : ℕ → In 6 at-rest-kinds.ps
+at-rest-below t = and 6 at-rest-kinds.ps (falls 6 at-rest-kinds.ps _<_ μ-at-rest t) at-rest.Pre
+
+abbrev atom-pat-at : ℕ → In 6 atom-pat-kinds.ps
+atom-pat-at t = and 6 atom-pat-kinds.ps (is 6 atom-pat-kinds.ps μ-atom-pat t) atom-pat.Pre
+
+abbrev atom-pat-below : ℕ → In 6 atom-pat-kinds.ps
+atom-pat-below t =
+    and 6 atom-pat-kinds.ps (falls 6 atom-pat-kinds.ps _<_ μ-atom-pat t) atom-pat.Pre
+
+abbrev con-head-at : ℕ → In 6 con-head-kinds.ps
+con-head-at t = and 6 con-head-kinds.ps (is 6 con-head-kinds.ps μ-con-head t) con-head.Pre
+
+abbrev con-head-below : ℕ → In 6 con-head-kinds.ps
+con-head-below t =
+    and 6 con-head-kinds.ps (falls 6 con-head-kinds.ps _<_ μ-con-head t) con-head.Pre
+
+abbrev con-pat-at : ℕ → In 6 con-pat-kinds.ps
+con-pat-at t = and 6 con-pat-kinds.ps (is 6 con-pat-kinds.ps μ-con-pat t) con-pat.Pre
+
+abbrev con-pat-below : ℕ → In 6 con-pat-kinds.ps
+con-pat-below t = and 6 con-pat-kinds.ps (falls 6 con-pat-kinds.ps _<_ μ-con-pat t) con-pat.Pre
+
+abbrev con-turn-at : ℕ → In 6 con-turn-kinds.ps
+con-turn-at t = and 6 con-turn-kinds.ps (is 6 con-turn-kinds.ps μ-con-turn t) con-turn.Pre
+
+abbrev con-turn-below : ℕ → In 6 con-turn-kinds.ps
+con-turn-below t =
+    and 6 con-turn-kinds.ps (falls 6 con-turn-kinds.ps _<_ μ-con-turn t) con-turn.Pre
+
+abbrev infix-pat-at : ℕ → In 6 infix-pat-kinds.ps
+infix-pat-at t = and 6 infix-pat-kinds.ps (is 6 infix-pat-kinds.ps μ-infix-pat t) infix-pat.Pre
+
+abbrev infix-pat-below : ℕ → In 6 infix-pat-kinds.ps
+infix-pat-below t =
+    and 6 infix-pat-kinds.ps (falls 6 infix-pat-kinds.ps _<_ μ-infix-pat t) infix-pat.Pre
+
+abbrev op-step-at : ℕ → In 6 op-step-kinds.ps
+op-step-at t = and 6 op-step-kinds.ps (is 6 op-step-kinds.ps μ-op-step t) op-step.Pre
+
+abbrev op-step-below : ℕ → In 6 op-step-kinds.ps
+op-step-below t = and 6 op-step-kinds.ps (falls 6 op-step-kinds.ps _<_ μ-op-step t) op-step.Pre
+
+abbrev op-tail-at : ℕ → In 6 op-tail-kinds.ps
+op-tail-at t = and 6 op-tail-kinds.ps (is 6 op-tail-kinds.ps μ-op-tail t) op-tail.Pre
+
+abbrev op-tail-below : ℕ → In 6 op-tail-kinds.ps
+op-tail-below t = and 6 op-tail-kinds.ps (falls 6 op-tail-kinds.ps _<_ μ-op-tail t) op-tail.Pre
+
+abbrev or-step-at : ℕ → In 6 or-step-kinds.ps
+or-step-at t = and 6 or-step-kinds.ps (is 6 or-step-kinds.ps μ-or-step t) or-step.Pre
+
+abbrev or-step-below : ℕ → In 6 or-step-kinds.ps
+or-step-below t = and 6 or-step-kinds.ps (falls 6 or-step-kinds.ps _<_ μ-or-step t) or-step.Pre
+
+abbrev pat-arg-at : ℕ → In 6 pat-arg-kinds.ps
+pat-arg-at t = and 6 pat-arg-kinds.ps (is 6 pat-arg-kinds.ps μ-pat-arg t) pat-arg.Pre
+
+abbrev pat-arg-below : ℕ → In 6 pat-arg-kinds.ps
+pat-arg-below t = and 6 pat-arg-kinds.ps (falls 6 pat-arg-kinds.ps _<_ μ-pat-arg t) pat-arg.Pre
+
+abbrev pat-args-at : ℕ → In 6 pat-args-kinds.ps
+pat-args-at t = and 6 pat-args-kinds.ps (is 6 pat-args-kinds.ps μ-pat-args t) pat-args.Pre
+
+abbrev pat-args-below : ℕ → In 6 pat-args-kinds.ps
+pat-args-below t =
+    and 6 pat-args-kinds.ps (falls 6 pat-args-kinds.ps _<_ μ-pat-args t) pat-args.Pre
+
+abbrev pat-must-at : ℕ → In 6 pat-must-kinds.ps
+pat-must-at t = and 6 pat-must-kinds.ps (is 6 pat-must-kinds.ps μ-pat-must t) pat-must.Pre
+
+abbrev pat-must-below : ℕ → In 6 pat-must-kinds.ps
+pat-must-below t =
+    and 6 pat-must-kinds.ps (falls 6 pat-must-kinds.ps _<_ μ-pat-must t) pat-must.Pre
+
+abbrev pat-prec-at : ℕ → In 6 pat-prec-kinds.ps
+pat-prec-at t = and 6 pat-prec-kinds.ps (is 6 pat-prec-kinds.ps μ-pat-prec t) pat-prec.Pre
+
+abbrev pat-prec-below : ℕ → In 6 pat-prec-kinds.ps
+pat-prec-below t =
+    and 6 pat-prec-kinds.ps (falls 6 pat-prec-kinds.ps _<_ μ-pat-prec t) pat-prec.Pre
+
+abbrev pat-row-at : ℕ → In 6 pat-row-kinds.ps
+pat-row-at t = and 6 pat-row-kinds.ps (is 6 pat-row-kinds.ps μ-pat-row t) pat-row.Pre
+
+abbrev pat-row-below : ℕ → In 6 pat-row-kinds.ps
+pat-row-below t = and 6 pat-row-kinds.ps (falls 6 pat-row-kinds.ps _<_ μ-pat-row t) pat-row.Pre
+
+abbrev pat-rows-at : ℕ → In 6 pat-rows-kinds.ps
+pat-rows-at t = and 6 pat-rows-kinds.ps (is 6 pat-rows-kinds.ps μ-pat-rows t) pat-rows.Pre
+
+abbrev pat-rows-below : ℕ → In 6 pat-rows-kinds.ps
+pat-rows-below t =
+    and 6 pat-rows-kinds.ps (falls 6 pat-rows-kinds.ps _<_ μ-pat-rows t) pat-rows.Pre
+
+abbrev pat-step-at : ℕ → In 6 pat-step-kinds.ps
+pat-step-at t = and 6 pat-step-kinds.ps (is 6 pat-step-kinds.ps μ-pat-step t) pat-step.Pre
+
+abbrev pat-step-below : ℕ → In 6 pat-step-kinds.ps
+pat-step-below t =
+    and 6 pat-step-kinds.ps (falls 6 pat-step-kinds.ps _<_ μ-pat-step t) pat-step.Pre
+
+abbrev pat-tail-at : ℕ → In 6 pat-tail-kinds.ps
+pat-tail-at t = and 6 pat-tail-kinds.ps (is 6 pat-tail-kinds.ps μ-pat-tail t) pat-tail.Pre
+
+abbrev pat-tail-below : ℕ → In 6 pat-tail-kinds.ps
+pat-tail-below t =
+    and 6 pat-tail-kinds.ps (falls 6 pat-tail-kinds.ps _<_ μ-pat-tail t) pat-tail.Pre
+
+abbrev row-item-at : ℕ → In 6 row-item-kinds.ps
+row-item-at t = and 6 row-item-kinds.ps (is 6 row-item-kinds.ps μ-row-item t) row-item.Pre
+
+abbrev row-item-below : ℕ → In 6 row-item-kinds.ps
+row-item-below t =
+    and 6 row-item-kinds.ps (falls 6 row-item-kinds.ps _<_ μ-row-item t) row-item.Pre
+
+abbrev row-turn-at : ℕ → In 6 row-turn-kinds.ps
+row-turn-at t = and 6 row-turn-kinds.ps (is 6 row-turn-kinds.ps μ-row-turn t) row-turn.Pre
+
+abbrev row-turn-below : ℕ → In 6 row-turn-kinds.ps
+row-turn-below t =
+    and 6 row-turn-kinds.ps (falls 6 row-turn-kinds.ps _<_ μ-row-turn t) row-turn.Pre
+
+abbrev vector-at : ℕ → In 6 vector-kinds.ps
+vector-at t = and 6 vector-kinds.ps (is 6 vector-kinds.ps μ-vector t) vector.Pre
+
+abbrev vector-below : ℕ → In 6 vector-kinds.ps
+vector-below t = and 6 vector-kinds.ps (falls 6 vector-kinds.ps _<_ μ-vector t) vector.Pre
+
+arg-item-refuse-requires : (t : ℕ) → arg-item-lts.Need-refuse-requires (
+  refuse-reads.Asked,
+  refuse-reads.Learnt,
+  mark-reads.Asked,
+  mark-reads.Learnt,
+  pat-must-below t,
+  pat-must.Post,
+  at-reads.Asked,
+  at-reads.Learnt,
+  bump-reads.Asked,
+  bump-reads.Learnt,
+  close-reads.Asked,
+  close-reads.Learnt,
+) (arg-item-at t) arg-item.Post
+arg-item-refuse-requires t c κs =
+    let falls = c .before .before .before .before .before .before .before .pre .0 in
+    let pre0 = c .before .before .before .before .before .before .before .pre .1 in
+    let if1 = c .if1 .taken in
+    search asks depth 8
+
+arg-item-returns : (t : ℕ) → arg-item-lts.Need-returns (
+  refuse-reads.Asked,
+  refuse-reads.Learnt,
+  mark-reads.Asked,
+  mark-reads.Learnt,
+  pat-must-below t,
+  pat-must.Post,
+  at-reads.Asked,
+  at-reads.Learnt,
+  bump-reads.Asked,
+  bump-reads.Learnt,
+  close-reads.Asked,
+  close-reads.Learnt,
+) (arg-item-at t) arg-item.Post
+unfolding util.endItem plan choose chosen
+arg-item-returns t c =
+    let falls = c .before .before .before .before .before .before .before .before .pre .0 in
+    let pre0 = c .before .before .before .before .before .before .before .before .pre .1 in
+    let if1 = c .before .if1 .taken in
+    let refuse = c .refuse .ensures in
+    by-steps pre0 (λ b. s-deep if1 refuse s-end)
+
+arg-item-mark-requires : (t : ℕ) → arg-item-lts.Need-mark-requires (
+  refuse-reads.Asked,
+  refuse-reads.Learnt,
+  mark-reads.Asked,
+  mark-reads.Learnt,
+  pat-must-below t,
+  pat-must.Post,
+  at-reads.Asked,
+  at-reads.Learnt,
+  bump-reads.Asked,
+  bump-reads.Learnt,
+  close-reads.Asked,
+  close-reads.Learnt,
+) (arg-item-at t) arg-item.Post
+arg-item-mark-requires t c κs =
+    let falls = c .before .before .before .before .before .before .before .pre .0 in
+    let pre0 = c .before .before .before .before .before .before .before .pre .1 in
+    let if1 = c .if1 .left in
+    search asks depth 8
+
+arg-item-sub-pat-must : (t : ℕ) → arg-item-lts.Need-sub-pat-must (
+  refuse-reads.Asked,
+  refuse-reads.Learnt,
+  mark-reads.Asked,
+  mark-reads.Learnt,
+  pat-must-below t,
+  pat-must.Post,
+  at-reads.Asked,
+  at-reads.Learnt,
+  bump-reads.Asked,
+  bump-reads.Learnt,
+  close-reads.Asked,
+  close-reads.Learnt,
+) (arg-item-at t) arg-item.Post
+arg-item-sub-pat-must t c =
+    let falls = c .before .before .before .before .before .before .before .before .before .before .pre .0 in
+    let pre0 = c .before .before .before .before .before .before .before .before .before .before .pre .1 in
+    let if1 = c .before .before .before .if1 .left in
+    search needs
+
+arg-item-pat-must-requires : (t : ℕ) → arg-item-lts.Need-pat-must-requires (
+  refuse-reads.Asked,
+  refuse-reads.Learnt,
+  mark-reads.Asked,
+  mark-reads.Learnt,
+  pat-must-below t,
+  pat-must.Post,
+  at-reads.Asked,
+  at-reads.Learnt,
+  bump-reads.Asked,
+  bump-reads.Learnt,
+  close-reads.Asked,
+  close-reads.Learnt,
+) (arg-item-at t) arg-item.Post
+arg-item-pat-must-requires t c κs =
+    let falls = c .before .before .before .before .before .before .before .before .before .before .pre .0 in
+    let pre0 = c .before .before .before .before .before .before .before .before .before .before .pre .1 in
+    let if1 = c .before .before .before .if1 .left in
+    let mark = c .before .before .mark .ensures in
+    let mark-ok = ok-marks mark pre0 in
+    search asks depth 8
+
+arg-item-at-requires : (t : ℕ) → arg-item-lts.Need-at-requires (
+  refuse-reads.Asked,
+  refuse-reads.Learnt,
+  mark-reads.Asked,
+  mark-reads.Learnt,
+  pat-must-below t,
+  pat-must.Post,
+  at-reads.Asked,
+  at-reads.Learnt,
+  bump-reads.Asked,
+  bump-reads.Learnt,
+  close-reads.Asked,
+  close-reads.Learnt,
+) (arg-item-at t) arg-item.Post
+arg-item-at-requires t c κs =
+    let falls = c .before .before .before .before .before .before .before .before .before .before .before .before .before .before .before .pre .0 in
+    let pre0 = c .before .before .before .before .before .before .before .before .before .before .before .before .before .before .before .pre .1 in
+    let if1 = c .before .before .before .before .before .before .before .before .if1 .left in
+    let mark = c .before .before .before .before .before .before .before .mark .ensures in
+    let mark-ok = ok-marks mark pre0 in
+    let pat-must = c .before .before .before .before .pat-must .ensures in
+    let pat-must-ok = pat-must .ok in
+    search asks depth 8
+
+arg-item-bump-requires : (t : ℕ) → arg-item-lts.Need-bump-requires (
+  refuse-reads.Asked,
+  refuse-reads.Learnt,
+  mark-reads.Asked,
+  mark-reads.Learnt,
+  pat-must-below t,
+  pat-must.Post,
+  at-reads.Asked,
+  at-reads.Learnt,
+  bump-reads.Asked,
+  bump-reads.Learnt,
+  close-reads.Asked,
+  close-reads.Learnt,
+) (arg-item-at t) arg-item.Post
+arg-item-bump-requires t c κs =
+    let falls = c .before .before .before .before .before .before .before .before .before .before .before .before .before .before .before .before .before .before .pre .0 in
+    let pre0 = c .before .before .before .before .before .before .before .before .before .before .before .before .before .before .before .before .before .before .pre .1 in
+    let if1 = c .before .before .before .before .before .before .before .before .before .before .before .if1 .left in
+    let mark = c .before .before .before .before .before .before .before .before .before .before .mark .ensures in
+    let mark-ok = ok-marks mark pre0 in
+    let pat-must = c .before .before .before .before .before .before .before .pat-must .ensures in
+    let pat-must-ok = pat-must .ok in
+    let at = c .before .before .at .ensures in
+    let if2 = c .before .if2 .taken in
+    search asks depth 8
+
+arg-item-close-requires : (t : ℕ) → arg-item-lts.Need-close-requires (
+  refuse-reads.Asked,
+  refuse-reads.Learnt,
+  mark-reads.Asked,
+  mark-reads.Learnt,
+  pat-must-below t,
+  pat-must.Post,
+  at-reads.Asked,
+  at-reads.Learnt,
+  bump-reads.Asked,
+  bump-reads.Learnt,
+  close-reads.Asked,
+  close-reads.Learnt,
+) (arg-item-at t) arg-item.Post
+arg-item-close-requires t c κs =
+    let falls = c .before .before .before .before .before .before .before .before .before .before .before .before .before .before .before .before .before .before .before .before .before .before .pre .0 in
+    let pre0 = c .before .before .before .before .before .before .before .before .before .before .before .before .before .before .before .before .before .before .before .before .before .before .pre .1 in
+    let if1 = c .before .before .before .before .before .before .before .before .before .before .before .before .before .before .before .if1 .left in
+    let mark = c .before .before .before .before .before .before .before .before .before .before .before .before .before .before .mark .ensures in
+    let mark-ok = ok-marks mark pre0 in
+    let pat-must = c .before .before .before .before .before .before .before .before .before .before .before .pat-must .ensures in
+    let pat-must-ok = pat-must .ok in
+    let at = c .before .before .before .before .before .before .at .ensures in
+    let if2 = c .before .before .before .before .before .if2 .taken in
+    let bump = c .before .before .before .bump .ensures in
+    let bump-ok = ok-bumps bump pat-must-ok in
+    search asks depth 8
+
+arg-item-same-length : (t : ℕ) → arg-item-lts.Need-same-length (
+  refuse-reads.Asked,
+  refuse-reads.Learnt,
+  mark-reads.Asked,
+  mark-reads.Learnt,
+  pat-must-below t,
+  pat-must.Post,
+  at-reads.Asked,
+  at-reads.Learnt,
+  bump-reads.Asked,
+  bump-reads.Learnt,
+  close-reads.Asked,
+  close-reads.Learnt,
+) (arg-item-at t) arg-item.Post
+arg-item-same-length t c =
+    c .before .before .close .kept .0 ∙ c .before .before .before .before .before .before .bump .kept .1 .0 ∙ c .before .before .before .before .before .before .before .before .before .before .before .before .before .before .pat-must .kept .1 .1 .1 .1 .0
+
+arg-item-same-length-2 : (t : ℕ) → arg-item-lts.Need-same-length-2 (
+  refuse-reads.Asked,
+  refuse-reads.Learnt,
+  mark-reads.Asked,
+  mark-reads.Learnt,
+  pat-must-below t,
+  pat-must.Post,
+  at-reads.Asked,
+  at-reads.Learnt,
+  bump-reads.Asked,
+  bump-reads.Learnt,
+  close-reads.Asked,
+  close-reads.Learnt,
+) (arg-item-at t) arg-item.Post
+arg-item-same-length-2 t c =
+    c .before .before .before .before .before .before .before .before .before .before .before .before .before .before .pat-must .kept .1 .1 .1 .1 .1 .0
+
+arg-item-returns-2 : (t : ℕ) → arg-item-lts.Need-returns-2 (
+  refuse-reads.Asked,
+  refuse-reads.Learnt,
+  mark-reads.Asked,
+  mark-reads.Learnt,
+  pat-must-below t,
+  pat-must.Post,
+  at-reads.Asked,
+  at-reads.Learnt,
+  bump-reads.Asked,
+  bump-reads.Learnt,
+  close-reads.Asked,
+  close-reads.Learnt,
+) (arg-item-at t) arg-item.Post
+unfolding util.endItem plan choose chosen
+arg-item-returns-2 t c =
+    let falls = c .before .before .before .before .before .before .before .before .before .before .before .before .before .before .before .before .before .before .before .before .before .before .before .before .before .pre .0 in
+    let pre0 = c .before .before .before .before .before .before .before .before .before .before .before .before .before .before .before .before .before .before .before .before .before .before .before .before .before .pre .1 in
+    let if1 = c .before .before .before .before .before .before .before .before .before .before .before .before .before .before .before .before .before .before .if1 .left in
+    let mark = c .before .before .before .before .before .before .before .before .before .before .before .before .before .before .before .before .before .mark .ensures in
+    let pat-must = c .before .before .before .before .before .before .before .before .before .before .before .before .before .before .pat-must .ensures in
+    let at = c .before .before .before .before .before .before .before .before .before .at .ensures in
+    let if2 = c .before .before .before .before .before .before .before .before .if2 .taken in
+    let bump = c .before .before .before .before .before .before .bump .ensures in
+    let close = c .before .before .close .ensures in
+    by-steps pre0 (λ b. s-mark if1 mark (s-by _ (runs-in pat-must) (s-kind (s-true _ _ (kind-at _ _ _ _ at if2) (s-bump bump (s-close close s-end))))))
+
+arg-item-close-requires-2 : (t : ℕ) → arg-item-lts.Need-close-requires-2 (
+  refuse-reads.Asked,
+  refuse-reads.Learnt,
+  mark-reads.Asked,
+  mark-reads.Learnt,
+  pat-must-below t,
+  pat-must.Post,
+  at-reads.Asked,
+  at-reads.Learnt,
+  bump-reads.Asked,
+  bump-reads.Learnt,
+  close-reads.Asked,
+  close-reads.Learnt,
+) (arg-item-at t) arg-item.Post
+arg-item-close-requires-2 t c κs =
+    let falls = c .before .before .before .before .before .before .before .before .before .before .before .before .before .before .before .before .before .before .pre .0 in
+    let pre0 = c .before .before .before .before .before .before .before .before .before .before .before .before .before .before .before .before .before .before .pre .1 in
+    let if1 = c .before .before .before .before .before .before .before .before .before .before .before .if1 .left in
+    let mark = c .before .before .before .before .before .before .before .before .before .before .mark .ensures in
+    let mark-ok = ok-marks mark pre0 in
+    let pat-must = c .before .before .before .before .before .before .before .pat-must .ensures in
+    let pat-must-ok = pat-must .ok in
+    let at = c .before .before .at .ensures in
+    let if2 = c .before .if2 .left in
+    search asks depth 8
+
+arg-item-same-length-3 : (t : ℕ) → arg-item-lts.Need-same-length-3 (
+  refuse-reads.Asked,
+  refuse-reads.Learnt,
+  mark-reads.Asked,
+  mark-reads.Learnt,
+  pat-must-below t,
+  pat-must.Post,
+  at-reads.Asked,
+  at-reads.Learnt,
+  bump-reads.Asked,
+  bump-reads.Learnt,
+  close-reads.Asked,
+  close-reads.Learnt,
+) (arg-item-at t) arg-item.Post
+arg-item-same-length-3 t c =
+    c .before .before .close2 .kept .0 ∙ c .before .before .before .before .before .before .before .before .before .before .pat-must .kept .1 .1 .1 .1 .0
+
+arg-item-same-length-4 : (t : ℕ) → arg-item-lts.Need-same-length-4 (
+  refuse-reads.Asked,
+  refuse-reads.Learnt,
+  mark-reads.Asked,
+  mark-reads.Learnt,
+  pat-must-below t,
+  pat-must.Post,
+  at-reads.Asked,
+  at-reads.Learnt,
+  bump-reads.Asked,
+  bump-reads.Learnt,
+  close-reads.Asked,
+  close-reads.Learnt,
+) (arg-item-at t) arg-item.Post
+arg-item-same-length-4 t c =
+    c .before .before .before .before .before .before .before .before .before .before .pat-must .kept .1 .1 .1 .1 .1 .0
+
+arg-item-returns-3 : (t : ℕ) → arg-item-lts.Need-returns-3 (
+  refuse-reads.Asked,
+  refuse-reads.Learnt,
+  mark-reads.Asked,
+  mark-reads.Learnt,
+  pat-must-below t,
+  pat-must.Post,
+  at-reads.Asked,
+  at-reads.Learnt,
+  bump-reads.Asked,
+  bump-reads.Learnt,
+  close-reads.Asked,
+  close-reads.Learnt,
+) (arg-item-at t) arg-item.Post
+unfolding util.endItem plan choose chosen
+arg-item-returns-3 t c =
+    let falls = c .before .before .before .before .before .before .before .before .before .before .before .before .before .before .before .before .before .before .before .before .before .pre .0 in
+    let pre0 = c .before .before .before .before .before .before .before .before .before .before .before .before .before .before .before .before .before .before .before .before .before .pre .1 in
+    let if1 = c .before .before .before .before .before .before .before .before .before .before .before .before .before .before .if1 .left in
+    let mark = c .before .before .before .before .before .before .before .before .before .before .before .before .before .mark .ensures in
+    let pat-must = c .before .before .before .before .before .before .before .before .before .before .pat-must .ensures in
+    let at = c .before .before .before .before .before .at .ensures in
+    let if2 = c .before .before .before .before .if2 .left in
+    let close2 = c .before .before .close2 .ensures in
+    by-steps pre0 (λ b. s-mark if1 mark (s-by _ (runs-in pat-must) (s-kind (s-false _ _ (kind-off _ _ _ _ at if2) (s-close close2 s-end)))))
+
+arg-turn-at-requires : (t : ℕ) → arg-turn-lts.Need-at-requires (
+  at-reads.Asked,
+  at-reads.Learnt,
+  bump-reads.Asked,
+  bump-reads.Learnt,
+  arg-item-below t,
+  arg-item.Post,
+  eat-reads.Asked,
+  eat-reads.Learnt,
+  state-reads.Asked,
+  state-reads.Learnt,
+) (arg-turn-at t) arg-turn.Post
+arg-turn-at-requires t c κs =
+    let falls = c .before .before .before .before .before .before .pre .0 in
+    let pre0 = c .before .before .before .before .before .before .pre .1 .0 in
+    let pre1 = c .before .before .before .before .before .before .pre .1 .1 in
+    search asks depth 8
+
+arg-turn-bump-requires : (t : ℕ) → arg-turn-lts.Need-bump-requires (
+  at-reads.Asked,
+  at-reads.Learnt,
+  bump-reads.Asked,
+  bump-reads.Learnt,
+  arg-item-below t,
+  arg-item.Post,
+  eat-reads.Asked,
+  eat-reads.Learnt,
+  state-reads.Asked,
+  state-reads.Learnt,
+) (arg-turn-at t) arg-turn.Post
+arg-turn-bump-requires t c κs =
+    let falls = c .before .before .before .before .before .before .before .before .before .pre .0 in
+    let pre0 = c .before .before .before .before .before .before .before .before .before .pre .1 .0 in
+    let pre1 = c .before .before .before .before .before .before .before .before .before .pre .1 .1 in
+    let at = c .before .before .at .ensures in
+    let if1 = c .before .if1 .taken in
+    search asks depth 8
+
+arg-turn-same-length : (t : ℕ) → arg-turn-lts.Need-same-length (
+  at-reads.Asked,
+  at-reads.Learnt,
+  bump-reads.Asked,
+  bump-reads.Learnt,
+  arg-item-below t,
+  arg-item.Post,
+  eat-reads.Asked,
+  eat-reads.Learnt,
+  state-reads.Asked,
+  state-reads.Learnt,
+) (arg-turn-at t) arg-turn.Post
+arg-turn-same-length t c =
+    c .before .before .bump .kept .1 .0
+
+arg-turn-returns : (t : ℕ) → arg-turn-lts.Need-returns (
+  at-reads.Asked,
+  at-reads.Learnt,
+  bump-reads.Asked,
+  bump-reads.Learnt,
+  arg-item-below t,
+  arg-item.Post,
+  eat-reads.Asked,
+  eat-reads.Learnt,
+  state-reads.Asked,
+  state-reads.Learnt,
+) (arg-turn-at t) arg-turn.Post
+unfolding util.endTurn plan choose chosen
+arg-turn-returns t c =
+    let falls = c .before .before .before .before .before .before .before .before .before .before .before .before .pre .0 in
+    let pre0 = c .before .before .before .before .before .before .before .before .before .before .before .before .pre .1 .0 in
+    let pre1 = c .before .before .before .before .before .before .before .before .before .before .before .before .pre .1 .1 in
+    let at = c .before .before .before .before .before .at .ensures in
+    let if1 = c .before .before .before .before .if1 .taken in
+    let bump = c .before .before .bump .ensures in
+    by-steps pre0 (λ b. s-kind (s-true _ _ (kind-at _ _ _ _ at if1) (s-bump bump s-end)))
+
+arg-turn-arg-item-requires : (t : ℕ) → arg-turn-lts.Need-arg-item-requires (
+  at-reads.Asked,
+  at-reads.Learnt,
+  bump-reads.Asked,
+  bump-reads.Learnt,
+  arg-item-below t,
+  arg-item.Post,
+  eat-reads.Asked,
+  eat-reads.Learnt,
+  state-reads.Asked,
+  state-reads.Learnt,
+) (arg-turn-at t) arg-turn.Post
+arg-turn-arg-item-requires t c κs =
+    let falls = c .before .before .before .before .before .before .before .before .before .before .pre .0 in
+    let pre0 = c .before .before .before .before .before .before .before .before .before .before .pre .1 .0 in
+    let pre1 = c .before .before .before .before .before .before .before .before .before .before .pre .1 .1 in
+    let at = c .before .before .before .at .ensures in
+    let if1 = c .before .before .if1 .left in
+    search asks depth 8
+
+arg-turn-enum-known-item : (t : ℕ) → arg-turn-lts.Need-enum-known-item (
+  at-reads.Asked,
+  at-reads.Learnt,
+  bump-reads.Asked,
+  bump-reads.Learnt,
+  arg-item-below t,
+  arg-item.Post,
+  eat-reads.Asked,
+  eat-reads.Learnt,
+  state-reads.Asked,
+  state-reads.Learnt,
+) (arg-turn-at t) arg-turn.Post
+arg-turn-enum-known-item t c =
+    let falls = c .before .before .before .before .before .before .before .before .before .before .before .before .before .before .before .before .pre .0 in
+    let pre0 = c .before .before .before .before .before .before .before .before .before .before .before .before .before .before .before .before .pre .1 .0 in
+    let pre1 = c .before .before .before .before .before .before .before .before .before .before .before .before .before .before .before .before .pre .1 .1 in
+    let if1 = c .before .before .before .before .before .before .before .before .if1 .left in
+    search needs
+
+arg-turn-enum-known-item-2 : (t : ℕ) → arg-turn-lts.Need-enum-known-item-2 (
+  at-reads.Asked,
+  at-reads.Learnt,
+  bump-reads.Asked,
+  bump-reads.Learnt,
+  arg-item-below t,
+  arg-item.Post,
+  eat-reads.Asked,
+  eat-reads.Learnt,
+  state-reads.Asked,
+  state-reads.Learnt,
+) (arg-turn-at t) arg-turn.Post
+arg-turn-enum-known-item-2 t c =
+    let falls = c .before .before .before .before .before .before .before .before .before .before .before .before .before .before .before .before .pre .0 in
+    let pre0 = c .before .before .before .before .before .before .before .before .before .before .before .before .before .before .before .before .pre .1 .0 in
+    let pre1 = c .before .before .before .before .before .before .before .before .before .before .before .before .before .before .before .before .pre .1 .1 in
+    let if1 = c .before .before .before .before .before .before .before .before .if1 .left in
+    search needs
+
+arg-turn-eat-requires : (t : ℕ) → arg-turn-lts.Need-eat-requires (
+  at-reads.Asked,
+  at-reads.Learnt,
+  bump-reads.Asked,
+  bump-reads.Learnt,
+  arg-item-below t,
+  arg-item.Post,
+  eat-reads.Asked,
+  eat-reads.Learnt,
+  state-reads.Asked,
+  state-reads.Learnt,
+) (arg-turn-at t) arg-turn.Post
+arg-turn-eat-requires t c κs =
+    let falls = c .before .before .before .before .before .before .before .before .before .before .before .before .before .before .before .before .before .before .before .before .pre .0 in
+    let pre0 = c .before .before .before .before .before .before .before .before .before .before .before .before .before .before .before .before .before .before .before .before .pre .1 .0 in
+    let pre1 = c .before .before .before .before .before .before .before .before .before .before .before .before .before .before .before .before .before .before .before .before .pre .1 .1 in
+    let at = c .before .before .before .before .before .before .before .before .before .before .before .before .before .at .ensures in
+    let if1 = c .before .before .before .before .before .before .before .before .before .before .before .before .if1 .left in
+    let arg-item = rw (c .before .before .before .item2 .given .1) at (c .before .before .before .before .before .before .before .before .before .arg-item .ensures) in
+    let arg-item-ok = arg-item .ok in
+    search asks depth 8
+
+arg-turn-state-requires : (t : ℕ) → arg-turn-lts.Need-state-requires (
+  at-reads.Asked,
+  at-reads.Learnt,
+  bump-reads.Asked,
+  bump-reads.Learnt,
+  arg-item-below t,
+  arg-item.Post,
+  eat-reads.Asked,
+  eat-reads.Learnt,
+  state-reads.Asked,
+  state-reads.Learnt,
+) (arg-turn-at t) arg-turn.Post
+arg-turn-state-requires t c κs =
+    let falls = c .before .before .before .before .before .before .before .before .before .before .before .before .before .before .before .before .before .before .before .before .before .before .before .before .before .pre .0 in
+    let pre0 = c .before .before .before .before .before .before .before .before .before .before .before .before .before .before .before .before .before .before .before .before .before .before .before .before .before .pre .1 .0 in
+    let pre1 = c .before .before .before .before .before .before .before .before .before .before .before .before .before .before .before .before .before .before .before .before .before .before .before .before .before .pre .1 .1 in
+    let at = c .before .before .before .before .before .before .before .before .before .before .before .before .before .before .before .before .before .before .at .ensures in
+    let if1 = c .before .before .before .before .before .before .before .before .before .before .before .before .before .before .before .before .before .if1 .left in
+    let arg-item = rw (c .before .before .before .before .before .before .before .before .item2 .given .1) at (c .before .before .before .before .before .before .before .before .before .before .before .before .before .before .arg-item .ensures) in
+    let arg-item-ok = arg-item .ok in
+    let eat = c .before .before .before .before .eat .ensures in
+    let eat-ok = eat .ok in
+    search asks depth 8
+
+arg-turn-same-length-2 : (t : ℕ) → arg-turn-lts.Need-same-length-2 (
+  at-reads.Asked,
+  at-reads.Learnt,
+  bump-reads.Asked,
+  bump-reads.Learnt,
+  arg-item-below t,
+  arg-item.Post,
+  eat-reads.Asked,
+  eat-reads.Learnt,
+  state-reads.Asked,
+  state-reads.Learnt,
+) (arg-turn-at t) arg-turn.Post
+arg-turn-same-length-2 t c =
+    c .before .before .before .before .before .before .before .arg-item .kept .1 .1 .1 .1 .0
+
+arg-turn-same-length-3 : (t : ℕ) → arg-turn-lts.Need-same-length-3 (
+  at-reads.Asked,
+  at-reads.Learnt,
+  bump-reads.Asked,
+  bump-reads.Learnt,
+  arg-item-below t,
+  arg-item.Post,
+  eat-reads.Asked,
+  eat-reads.Learnt,
+  state-reads.Asked,
+  state-reads.Learnt,
+) (arg-turn-at t) arg-turn.Post
+arg-turn-same-length-3 t c =
+    c .before .before .before .before .before .before .before .arg-item .kept .1 .1 .1 .1 .1 .0
+
+arg-turn-returns-2 : (t : ℕ) → arg-turn-lts.Need-returns-2 (
+  at-reads.Asked,
+  at-reads.Learnt,
+  bump-reads.Asked,
+  bump-reads.Learnt,
+  arg-item-below t,
+  arg-item.Post,
+  eat-reads.Asked,
+  eat-reads.Learnt,
+  state-reads.Asked,
+  state-reads.Learnt,
+) (arg-turn-at t) arg-turn.Post
+unfolding util.endTurn plan choose chosen
+arg-turn-returns-2 t c =
+    let falls = c .before .before .before .before .before .before .before .before .before .before .before .before .before .before .before .before .before .before .pre .0 in
+    let pre0 = c .before .before .before .before .before .before .before .before .before .before .before .before .before .before .before .before .before .before .pre .1 .0 in
+    let pre1 = c .before .before .before .before .before .before .before .before .before .before .before .before .before .before .before .before .before .before .pre .1 .1 in
+    let at = c .before .before .before .before .before .before .before .before .before .before .before .at .ensures in
+    let if1 = c .before .before .before .before .before .before .before .before .before .before .if1 .left in
+    let arg-item = rw (c .before .item .given .1) at (c .before .before .before .before .before .before .before .arg-item .ensures) in
+    by-steps pre0 (λ b. s-kind (s-false _ _ (kind-off _ _ _ _ at if1) (s-by _ (runs-in arg-item) s-end)))
+
+arg-turn-same-length-4 : (t : ℕ) → arg-turn-lts.Need-same-length-4 (
+  at-reads.Asked,
+  at-reads.Learnt,
+  bump-reads.Asked,
+  bump-reads.Learnt,
+  arg-item-below t,
+  arg-item.Post,
+  eat-reads.Asked,
+  eat-reads.Learnt,
+  state-reads.Asked,
+  state-reads.Learnt,
+) (arg-turn-at t) arg-turn.Post
+arg-turn-same-length-4 t c =
+    c .before .before .before .before .before .eat .kept .1 .1 .1 .1 .0 ∙ c .before .before .before .before .before .before .before .before .before .before .before .before .before .before .before .arg-item .kept .1 .1 .1 .1 .0
+
+arg-turn-same-length-5 : (t : ℕ) → arg-turn-lts.Need-same-length-5 (
+  at-reads.Asked,
+  at-reads.Learnt,
+  bump-reads.Asked,
+  bump-reads.Learnt,
+  arg-item-below t,
+  arg-item.Post,
+  eat-reads.Asked,
+  eat-reads.Learnt,
+  state-reads.Asked,
+  state-reads.Learnt,
+) (arg-turn-at t) arg-turn.Post
+arg-turn-same-length-5 t c =
+    c .before .before .before .before .before .eat .kept .1 .1 .1 .1 .1 .0 ∙ c .before .before .before .before .before .before .before .before .before .before .before .before .before .before .before .arg-item .kept .1 .1 .1 .1 .1 .0
+
+arg-turn-returns-3 : (t : ℕ) → arg-turn-lts.Need-returns-3 (
+  at-reads.Asked,
+  at-reads.Learnt,
+  bump-reads.Asked,
+  bump-reads.Learnt,
+  arg-item-below t,
+  arg-item.Post,
+  eat-reads.Asked,
+  eat-reads.Learnt,
+  state-reads.Asked,
+  state-reads.Learnt,
+) (arg-turn-at t) arg-turn.Post
+unfolding util.endTurn plan choose chosen
+arg-turn-returns-3 t c =
+    let falls = c .before .before .before .before .before .before .before .before .before .before .before .before .before .before .before .before .before .before .before .before .before .before .before .before .before .before .pre .0 in
+    let pre0 = c .before .before .before .before .before .before .before .before .before .before .before .before .before .before .before .before .before .before .before .before .before .before .before .before .before .before .pre .1 .0 in
+    let pre1 = c .before .before .before .before .before .before .before .before .before .before .before .before .before .before .before .before .before .before .before .before .before .before .before .before .before .before .pre .1 .1 in
+    let at = c .before .before .before .before .before .before .before .before .before .before .before .before .before .before .before .before .before .before .before .at .ensures in
+    let if1 = c .before .before .before .before .before .before .before .before .before .before .before .before .before .before .before .before .before .before .if1 .left in
+    let arg-item = rw (c .before .before .before .before .before .before .before .before .before .item2 .given .1) at (c .before .before .before .before .before .before .before .before .before .before .before .before .before .before .before .arg-item .ensures) in
+    let eat = c .before .before .before .before .before .eat .ensures in
+    let state = c .state .ensures in
+    by-steps pre0 (λ b. s-kind (s-false _ _ (kind-off _ _ _ _ at if1) (s-by _ (runs-in arg-item) (s-by _ (settled state (runs-always eat)) s-end))))
+
+as-pat-tl-at-requires : (t : ℕ) → as-pat-tl-lts.Need-at-requires (
+  at-reads.Asked,
+  at-reads.Learnt,
+  refuse-reads.Asked,
+  refuse-reads.Learnt,
+  mark-reads.Asked,
+  mark-reads.Learnt,
+  bump-reads.Asked,
+  bump-reads.Learnt,
+  pat-must-below t,
+  pat-must.Post,
+  close-reads.Asked,
+  close-reads.Learnt,
+) (as-pat-tl-at t) as-pat-tl.Post
+as-pat-tl-at-requires t c κs =
+    let falls = c .before .before .before .before .before .before .pre .0 in
+    let pre0 = c .before .before .before .before .before .before .pre .1 in
+    search asks depth 8
+
+as-pat-tl-refuse-requires : (t : ℕ) → as-pat-tl-lts.Need-refuse-requires (
+  at-reads.Asked,
+  at-reads.Learnt,
+  refuse-reads.Asked,
+  refuse-reads.Learnt,
+  mark-reads.Asked,
+  mark-reads.Learnt,
+  bump-reads.Asked,
+  bump-reads.Learnt,
+  pat-must-below t,
+  pat-must.Post,
+  close-reads.Asked,
+  close-reads.Learnt,
+) (as-pat-tl-at t) as-pat-tl.Post
+as-pat-tl-refuse-requires t c κs =
+    let falls = c .before .before .before .before .before .before .before .before .before .pre .0 in
+    let pre0 = c .before .before .before .before .before .before .before .before .before .pre .1 in
+    let at = c .before .before .at .ensures in
+    let if1 = c .before .if1 .taken in
+    let if2 = c .if2 .taken in
+    search asks depth 8
+
+as-pat-tl-returns : (t : ℕ) → as-pat-tl-lts.Need-returns (
+  at-reads.Asked,
+  at-reads.Learnt,
+  refuse-reads.Asked,
+  refuse-reads.Learnt,
+  mark-reads.Asked,
+  mark-reads.Learnt,
+  bump-reads.Asked,
+  bump-reads.Learnt,
+  pat-must-below t,
+  pat-must.Post,
+  close-reads.Asked,
+  close-reads.Learnt,
+) (as-pat-tl-at t) as-pat-tl.Post
+unfolding pat.asPatTl plan choose chosen
+as-pat-tl-returns t c =
+    let falls = c .before .before .before .before .before .before .before .before .before .before .pre .0 in
+    let pre0 = c .before .before .before .before .before .before .before .before .before .before .pre .1 in
+    let at = c .before .before .before .at .ensures in
+    let if1 = c .before .before .if1 .taken in
+    let if2 = c .before .if2 .taken in
+    let refuse = c .refuse .ensures in
+    by-steps pre0 (λ b. s-kind (s-true _ _ (kind-at _ _ _ _ at if1) (s-deep if2 refuse s-end)))
+
+as-pat-tl-mark-requires : (t : ℕ) → as-pat-tl-lts.Need-mark-requires (
+  at-reads.Asked,
+  at-reads.Learnt,
+  refuse-reads.Asked,
+  refuse-reads.Learnt,
+  mark-reads.Asked,
+  mark-reads.Learnt,
+  bump-reads.Asked,
+  bump-reads.Learnt,
+  pat-must-below t,
+  pat-must.Post,
+  close-reads.Asked,
+  close-reads.Learnt,
+) (as-pat-tl-at t) as-pat-tl.Post
+as-pat-tl-mark-requires t c κs =
+    let falls = c .before .before .before .before .before .before .before .before .before .pre .0 in
+    let pre0 = c .before .before .before .before .before .before .before .before .before .pre .1 in
+    let at = c .before .before .at .ensures in
+    let if1 = c .before .if1 .taken in
+    let if2 = c .if2 .left in
+    search asks depth 8
+
+as-pat-tl-bump-requires : (t : ℕ) → as-pat-tl-lts.Need-bump-requires (
+  at-reads.Asked,
+  at-reads.Learnt,
+  refuse-reads.Asked,
+  refuse-reads.Learnt,
+  mark-reads.Asked,
+  mark-reads.Learnt,
+  bump-reads.Asked,
+  bump-reads.Learnt,
+  pat-must-below t,
+  pat-must.Post,
+  close-reads.Asked,
+  close-reads.Learnt,
+) (as-pat-tl-at t) as-pat-tl.Post
+as-pat-tl-bump-requires t c κs =
+    let falls = c .before .before .before .before .before .before .before .before .before .before .before .pre .0 in
+    let pre0 = c .before .before .before .before .before .before .before .before .before .before .before .pre .1 in
+    let at = c .before .before .before .before .at .ensures in
+    let if1 = c .before .before .before .if1 .taken in
+    let if2 = c .before .before .if2 .left in
+    let mark = c .before .mark .ensures in
+    let mark-ok = ok-marks mark pre0 in
+    search asks depth 8
+
+as-pat-tl-sub-pat-must : (t : ℕ) → as-pat-tl-lts.Need-sub-pat-must (
+  at-reads.Asked,
+  at-reads.Learnt,
+  refuse-reads.Asked,
+  refuse-reads.Learnt,
+  mark-reads.Asked,
+  mark-reads.Learnt,
+  bump-reads.Asked,
+  bump-reads.Learnt,
+  pat-must-below t,
+  pat-must.Post,
+  close-reads.Asked,
+  close-reads.Learnt,
+) (as-pat-tl-at t) as-pat-tl.Post
+as-pat-tl-sub-pat-must t c =
+    let falls = c .before .before .before .before .before .before .before .before .before .before .before .before .before .before .before .before .pre .0 in
+    let pre0 = c .before .before .before .before .before .before .before .before .before .before .before .before .before .before .before .before .pre .1 in
+    let if1 = c .before .before .before .before .before .before .before .before .if1 .taken in
+    let if2 = c .before .before .before .before .before .before .before .if2 .left in
+    search needs
+
+as-pat-tl-pat-must-requires : (t : ℕ) → as-pat-tl-lts.Need-pat-must-requires (
+  at-reads.Asked,
+  at-reads.Learnt,
+  refuse-reads.Asked,
+  refuse-reads.Learnt,
+  mark-reads.Asked,
+  mark-reads.Learnt,
+  bump-reads.Asked,
+  bump-reads.Learnt,
+  pat-must-below t,
+  pat-must.Post,
+  close-reads.Asked,
+  close-reads.Learnt,
+) (as-pat-tl-at t) as-pat-tl.Post
+as-pat-tl-pat-must-requires t c κs =
+    let falls = c .before .before .before .before .before .before .before .before .before .before .before .before .before .before .before .before .pre .0 in
+    let pre0 = c .before .before .before .before .before .before .before .before .before .before .before .before .before .before .before .before .pre .1 in
+    let at = c .before .before .before .before .before .before .before .before .before .at .ensures in
+    let if1 = c .before .before .before .before .before .before .before .before .if1 .taken in
+    let if2 = c .before .before .before .before .before .before .before .if2 .left in
+    let mark = c .before .before .before .before .before .before .mark .ensures in
+    let mark-ok = ok-marks mark pre0 in
+    let bump = c .before .before .before .before .bump .ensures in
+    let bump-ok = ok-bumps bump mark-ok in
+    search asks depth 8
+
+as-pat-tl-close-requires : (t : ℕ) → as-pat-tl-lts.Need-close-requires (
+  at-reads.Asked,
+  at-reads.Learnt,
+  refuse-reads.Asked,
+  refuse-reads.Learnt,
+  mark-reads.Asked,
+  mark-reads.Learnt,
+  bump-reads.Asked,
+  bump-reads.Learnt,
+  pat-must-below t,
+  pat-must.Post,
+  close-reads.Asked,
+  close-reads.Learnt,
+) (as-pat-tl-at t) as-pat-tl.Post
+as-pat-tl-close-requires t c κs =
+    let falls = c .before .before .before .before .before .before .before .before .before .before .before .before .before .before .before .before .before .before .before .before .before .before .pre .0 in
+    let pre0 = c .before .before .before .before .before .before .before .before .before .before .before .before .before .before .before .before .before .before .before .before .before .before .pre .1 in
+    let at = c .before .before .before .before .before .before .before .before .before .before .before .before .before .before .before .at .ensures in
+    let if1 = c .before .before .before .before .before .before .before .before .before .before .before .before .before .before .if1 .taken in
+    let if2 = c .before .before .before .before .before .before .before .before .before .before .before .before .before .if2 .left in
+    let mark = c .before .before .before .before .before .before .before .before .before .before .before .before .mark .ensures in
+    let mark-ok = ok-marks mark pre0 in
+    let bump = c .before .before .before .before .before .before .before .before .before .before .bump .ensures in
+    let bump-ok = ok-bumps bump mark-ok in
+    let pat-must = c .before .before .before .before .before .pat-must .ensures in
+    let pat-must-ok = pat-must .ok in
+    search asks depth 8
+
+as-pat-tl-same-length : (t : ℕ) → as-pat-tl-lts.Need-same-length (
+  at-reads.Asked,
+  at-reads.Learnt,
+  refuse-reads.Asked,
+  refuse-reads.Learnt,
+  mark-reads.Asked,
+  mark-reads.Learnt,
+  bump-reads.Asked,
+  bump-reads.Learnt,
+  pat-must-below t,
+  pat-must.Post,
+  close-reads.Asked,
+  close-reads.Learnt,
+) (as-pat-tl-at t) as-pat-tl.Post
+as-pat-tl-same-length t c =
+    c .before .before .close .kept .0 ∙ c .before .before .before .before .before .before .before .before .pat-must .kept .1 .1 .1 .1 .0 ∙ c .before .before .before .before .before .before .before .before .before .before .before .before .before .bump .kept .1 .0
+
+as-pat-tl-same-length-2 : (t : ℕ) → as-pat-tl-lts.Need-same-length-2 (
+  at-reads.Asked,
+  at-reads.Learnt,
+  refuse-reads.Asked,
+  refuse-reads.Learnt,
+  mark-reads.Asked,
+  mark-reads.Learnt,
+  bump-reads.Asked,
+  bump-reads.Learnt,
+  pat-must-below t,
+  pat-must.Post,
+  close-reads.Asked,
+  close-reads.Learnt,
+) (as-pat-tl-at t) as-pat-tl.Post
+as-pat-tl-same-length-2 t c =
+    c .before .before .before .before .before .before .before .before .pat-must .kept .1 .1 .1 .1 .1 .0
+
+as-pat-tl-returns-2 : (t : ℕ) → as-pat-tl-lts.Need-returns-2 (
+  at-reads.Asked,
+  at-reads.Learnt,
+  refuse-reads.Asked,
+  refuse-reads.Learnt,
+  mark-reads.Asked,
+  mark-reads.Learnt,
+  bump-reads.Asked,
+  bump-reads.Learnt,
+  pat-must-below t,
+  pat-must.Post,
+  close-reads.Asked,
+  close-reads.Learnt,
+) (as-pat-tl-at t) as-pat-tl.Post
+unfolding pat.asPatTl plan choose chosen
+as-pat-tl-returns-2 t c =
+    let falls = c .before .before .before .before .before .before .before .before .before .before .before .before .before .before .before .before .before .before .before .before .before .before .before .before .before .pre .0 in
+    let pre0 = c .before .before .before .before .before .before .before .before .before .before .before .before .before .before .before .before .before .before .before .before .before .before .before .before .before .pre .1 in
+    let at = c .before .before .before .before .before .before .before .before .before .before .before .before .before .before .before .before .before .before .at .ensures in
+    let if1 = c .before .before .before .before .before .before .before .before .before .before .before .before .before .before .before .before .before .if1 .taken in
+    let if2 = c .before .before .before .before .before .before .before .before .before .before .before .before .before .before .before .before .if2 .left in
+    let mark = c .before .before .before .before .before .before .before .before .before .before .before .before .before .before .before .mark .ensures in
+    let bump = c .before .before .before .before .before .before .before .before .before .before .before .before .before .bump .ensures in
+    let pat-must = c .before .before .before .before .before .before .before .before .pat-must .ensures in
+    let close = c .before .before .close .ensures in
+    by-steps pre0 (λ b. s-kind (s-true _ _ (kind-at _ _ _ _ at if1) (s-mark if2 mark (s-bump bump (s-by _ (runs-in pat-must) (s-close close s-end))))))
+
+as-pat-tl-returns-3 : (t : ℕ) → as-pat-tl-lts.Need-returns-3 (
+  at-reads.Asked,
+  at-reads.Learnt,
+  refuse-reads.Asked,
+  refuse-reads.Learnt,
+  mark-reads.Asked,
+  mark-reads.Learnt,
+  bump-reads.Asked,
+  bump-reads.Learnt,
+  pat-must-below t,
+  pat-must.Post,
+  close-reads.Asked,
+  close-reads.Learnt,
+) (as-pat-tl-at t) as-pat-tl.Post
+unfolding pat.asPatTl plan choose chosen
+as-pat-tl-returns-3 t c =
+    let falls = c .before .before .before .before .before .before .before .before .pre .0 in
+    let pre0 = c .before .before .before .before .before .before .before .before .pre .1 in
+    let at = c .before .at .ensures in
+    let if1 = c .if1 .left in
+    by-steps pre0 (λ b. s-kind (s-false _ _ (kind-off _ _ _ _ at if1) s-end))
+
+as-step-is-infix-requires : (t : ℕ) → as-step-lts.Need-is-infix-requires (
+  is-infix-reads.Asked,
+  is-infix-reads.Learnt,
+  refuse-reads.Asked,
+  refuse-reads.Learnt,
+  mark-reads.Asked,
+  mark-reads.Learnt,
+  as-pat-tl-below t,
+  as-pat-tl.Post,
+  close-reads.Asked,
+  close-reads.Learnt,
+  report-reads.Asked,
+  report-reads.Learnt,
+) (as-step-at t) as-step.Post
+as-step-is-infix-requires t c κs =
+    let falls = c .before .before .before .before .before .before .pre .0 in
+    let pre0 = c .before .before .before .before .before .before .pre .1 .0 in
+    let pre1 = c .before .before .before .before .before .before .pre .1 .1 in
+    search asks depth 8
+
+as-step-returns : (t : ℕ) → as-step-lts.Need-returns (
+  is-infix-reads.Asked,
+  is-infix-reads.Learnt,
+  refuse-reads.Asked,
+  refuse-reads.Learnt,
+  mark-reads.Asked,
+  mark-reads.Learnt,
+  as-pat-tl-below t,
+  as-pat-tl.Post,
+  close-reads.Asked,
+  close-reads.Learnt,
+  report-reads.Asked,
+  report-reads.Learnt,
+) (as-step-at t) as-step.Post
+unfolding pat.asStep plan choose chosen
+as-step-returns t c =
+    let falls = c .before .before .before .before .before .before .before .before .pre .0 in
+    let pre0 = c .before .before .before .before .before .before .before .before .pre .1 .0 in
+    let pre1 = c .before .before .before .before .before .before .before .before .pre .1 .1 in
+    let is-infix = c .before .is-infix .ensures in
+    let if1 = c .if1 .taken in
+    in-steps pre0 (s-true _ _ (test-true is-infix if1) s-end)
+
+as-step-refuse-requires : (t : ℕ) → as-step-lts.Need-refuse-requires (
+  is-infix-reads.Asked,
+  is-infix-reads.Learnt,
+  refuse-reads.Asked,
+  refuse-reads.Learnt,
+  mark-reads.Asked,
+  mark-reads.Learnt,
+  as-pat-tl-below t,
+  as-pat-tl.Post,
+  close-reads.Asked,
+  close-reads.Learnt,
+  report-reads.Asked,
+  report-reads.Learnt,
+) (as-step-at t) as-step.Post
+as-step-refuse-requires t c κs =
+    let falls = c .before .before .before .before .before .before .before .before .before .pre .0 in
+    let pre0 = c .before .before .before .before .before .before .before .before .before .pre .1 .0 in
+    let pre1 = c .before .before .before .before .before .before .before .before .before .pre .1 .1 in
+    let is-infix = c .before .before .is-infix .ensures in
+    let if1 = c .before .if1 .left in
+    let if2 = c .if2 .taken in
+    search asks depth 8
+
+as-step-returns-2 : (t : ℕ) → as-step-lts.Need-returns-2 (
+  is-infix-reads.Asked,
+  is-infix-reads.Learnt,
+  refuse-reads.Asked,
+  refuse-reads.Learnt,
+  mark-reads.Asked,
+  mark-reads.Learnt,
+  as-pat-tl-below t,
+  as-pat-tl.Post,
+  close-reads.Asked,
+  close-reads.Learnt,
+  report-reads.Asked,
+  report-reads.Learnt,
+) (as-step-at t) as-step.Post
+unfolding pat.asStep plan choose chosen
+as-step-returns-2 t c =
+    let falls = c .before .before .before .before .before .before .before .before .before .before .pre .0 in
+    let pre0 = c .before .before .before .before .before .before .before .before .before .before .pre .1 .0 in
+    let pre1 = c .before .before .before .before .before .before .before .before .before .before .pre .1 .1 in
+    let is-infix = c .before .before .before .is-infix .ensures in
+    let if1 = c .before .before .if1 .left in
+    let if2 = c .before .if2 .taken in
+    let refuse = c .refuse .ensures in
+    in-steps pre0 (s-false _ _ (test-false is-infix if1) (s-deep if2 refuse s-end))
+
+as-step-mark-requires : (t : ℕ) → as-step-lts.Need-mark-requires (
+  is-infix-reads.Asked,
+  is-infix-reads.Learnt,
+  refuse-reads.Asked,
+  refuse-reads.Learnt,
+  mark-reads.Asked,
+  mark-reads.Learnt,
+  as-pat-tl-below t,
+  as-pat-tl.Post,
+  close-reads.Asked,
+  close-reads.Learnt,
+  report-reads.Asked,
+  report-reads.Learnt,
+) (as-step-at t) as-step.Post
+as-step-mark-requires t c κs =
+    let falls = c .before .before .before .before .before .before .before .before .before .pre .0 in
+    let pre0 = c .before .before .before .before .before .before .before .before .before .pre .1 .0 in
+    let pre1 = c .before .before .before .before .before .before .before .before .before .pre .1 .1 in
+    let is-infix = c .before .before .is-infix .ensures in
+    let if1 = c .before .if1 .left in
+    let if2 = c .if2 .left in
+    search asks depth 8
+
+as-step-sub-as-pat-tl : (t : ℕ) → as-step-lts.Need-sub-as-pat-tl (
+  is-infix-reads.Asked,
+  is-infix-reads.Learnt,
+  refuse-reads.Asked,
+  refuse-reads.Learnt,
+  mark-reads.Asked,
+  mark-reads.Learnt,
+  as-pat-tl-below t,
+  as-pat-tl.Post,
+  close-reads.Asked,
+  close-reads.Learnt,
+  report-reads.Asked,
+  report-reads.Learnt,
+) (as-step-at t) as-step.Post
+as-step-sub-as-pat-tl t c =
+    let falls = c .before .before .before .before .before .before .before .before .before .before .before .before .pre .0 in
+    let pre0 = c .before .before .before .before .before .before .before .before .before .before .before .before .pre .1 .0 in
+    let pre1 = c .before .before .before .before .before .before .before .before .before .before .before .before .pre .1 .1 in
+    let if1 = c .before .before .before .before .if1 .left in
+    let if2 = c .before .before .before .if2 .left in
+    search needs
+
+as-step-as-pat-tl-requires : (t : ℕ) → as-step-lts.Need-as-pat-tl-requires (
+  is-infix-reads.Asked,
+  is-infix-reads.Learnt,
+  refuse-reads.Asked,
+  refuse-reads.Learnt,
+  mark-reads.Asked,
+  mark-reads.Learnt,
+  as-pat-tl-below t,
+  as-pat-tl.Post,
+  close-reads.Asked,
+  close-reads.Learnt,
+  report-reads.Asked,
+  report-reads.Learnt,
+) (as-step-at t) as-step.Post
+as-step-as-pat-tl-requires t c κs =
+    let falls = c .before .before .before .before .before .before .before .before .before .before .before .before .pre .0 in
+    let pre0 = c .before .before .before .before .before .before .before .before .before .before .before .before .pre .1 .0 in
+    let pre1 = c .before .before .before .before .before .before .before .before .before .before .before .before .pre .1 .1 in
+    let is-infix = c .before .before .before .before .before .is-infix .ensures in
+    let if1 = c .before .before .before .before .if1 .left in
+    let if2 = c .before .before .before .if2 .left in
+    let mark = c .before .before .mark .ensures in
+    let mark-ok = ok-marks mark pre0 in
+    search asks depth 8
+
+as-step-enum-known-got : (t : ℕ) → as-step-lts.Need-enum-known-got (
+  is-infix-reads.Asked,
+  is-infix-reads.Learnt,
+  refuse-reads.Asked,
+  refuse-reads.Learnt,
+  mark-reads.Asked,
+  mark-reads.Learnt,
+  as-pat-tl-below t,
+  as-pat-tl.Post,
+  close-reads.Asked,
+  close-reads.Learnt,
+  report-reads.Asked,
+  report-reads.Learnt,
+) (as-step-at t) as-step.Post
+as-step-enum-known-got t c =
+    let falls = c .before .before .before .before .before .before .before .before .before .before .before .before .before .before .before .before .before .before .pre .0 in
+    let pre0 = c .before .before .before .before .before .before .before .before .before .before .before .before .before .before .before .before .before .before .pre .1 .0 in
+    let pre1 = c .before .before .before .before .before .before .before .before .before .before .before .before .before .before .before .before .before .before .pre .1 .1 in
+    let if1 = c .before .before .before .before .before .before .before .before .before .before .if1 .left in
+    let if2 = c .before .before .before .before .before .before .before .before .before .if2 .left in
+    search needs
+
+as-step-close-requires : (t : ℕ) → as-step-lts.Need-close-requires (
+  is-infix-reads.Asked,
+  is-infix-reads.Learnt,
+  refuse-reads.Asked,
+  refuse-reads.Learnt,
+  mark-reads.Asked,
+  mark-reads.Learnt,
+  as-pat-tl-below t,
+  as-pat-tl.Post,
+  close-reads.Asked,
+  close-reads.Learnt,
+  report-reads.Asked,
+  report-reads.Learnt,
+) (as-step-at t) as-step.Post
+as-step-close-requires t c κs =
+    let falls = c .before .before .before .before .before .before .before .before .before .before .before .before .before .before .before .before .before .before .before .before .before .pre .0 in
+    let pre0 = c .before .before .before .before .before .before .before .before .before .before .before .before .before .before .before .before .before .before .before .before .before .pre .1 .0 in
+    let pre1 = c .before .before .before .before .before .before .before .before .before .before .before .before .before .before .before .before .before .before .before .before .before .pre .1 .1 in
+    let is-infix = c .before .before .before .before .before .before .before .before .before .before .before .before .before .before .is-infix .ensures in
+    let if1 = c .before .before .before .before .before .before .before .before .before .before .before .before .before .if1 .left in
+    let if2 = c .before .before .before .before .before .before .before .before .before .before .before .before .if2 .left in
+    let mark = c .before .before .before .before .before .before .before .before .before .before .before .mark .ensures in
+    let mark-ok = ok-marks mark pre0 in
+    let as-pat-tl = rw (c .before .before .got .given .1) at (c .before .before .before .before .before .before .before .before .as-pat-tl .ensures) in
+    let as-pat-tl-ok = as-pat-tl .ok in
+    search asks depth 8
+
+as-step-enum-known-got-2 : (t : ℕ) → as-step-lts.Need-enum-known-got-2 (
+  is-infix-reads.Asked,
+  is-infix-reads.Learnt,
+  refuse-reads.Asked,
+  refuse-reads.Learnt,
+  mark-reads.Asked,
+  mark-reads.Learnt,
+  as-pat-tl-below t,
+  as-pat-tl.Post,
+  close-reads.Asked,
+  close-reads.Learnt,
+  report-reads.Asked,
+  report-reads.Learnt,
+) (as-step-at t) as-step.Post
+as-step-enum-known-got-2 t c =
+    let falls = c .before .before .before .before .before .before .before .before .before .before .before .before .before .before .before .before .before .before .pre .0 in
+    let pre0 = c .before .before .before .before .before .before .before .before .before .before .before .before .before .before .before .before .before .before .pre .1 .0 in
+    let pre1 = c .before .before .before .before .before .before .before .before .before .before .before .before .before .before .before .before .before .before .pre .1 .1 in
+    let if1 = c .before .before .before .before .before .before .before .before .before .before .if1 .left in
+    let if2 = c .before .before .before .before .before .before .before .before .before .if2 .left in
+    search needs
+
+as-step-report-requires : (t : ℕ) → as-step-lts.Need-report-requires (
+  is-infix-reads.Asked,
+  is-infix-reads.Learnt,
+  refuse-reads.Asked,
+  refuse-reads.Learnt,
+  mark-reads.Asked,
+  mark-reads.Learnt,
+  as-pat-tl-below t,
+  as-pat-tl.Post,
+  close-reads.Asked,
+  close-reads.Learnt,
+  report-reads.Asked,
+  report-reads.Learnt,
+) (as-step-at t) as-step.Post
+as-step-report-requires t c κs =
+    let falls = c .before .before .before .before .before .before .before .before .before .before .before .before .before .before .before .before .before .before .before .before .before .pre .0 in
+    let pre0 = c .before .before .before .before .before .before .before .before .before .before .before .before .before .before .before .before .before .before .before .before .before .pre .1 .0 in
+    let pre1 = c .before .before .before .before .before .before .before .before .before .before .before .before .before .before .before .before .before .before .before .before .before .pre .1 .1 in
+    let is-infix = c .before .before .before .before .before .before .before .before .before .before .before .before .before .before .is-infix .ensures in
+    let if1 = c .before .before .before .before .before .before .before .before .before .before .before .before .before .if1 .left in
+    let if2 = c .before .before .before .before .before .before .before .before .before .before .before .before .if2 .left in
+    let mark = c .before .before .before .before .before .before .before .before .before .before .before .mark .ensures in
+    let mark-ok = ok-marks mark pre0 in
+    let as-pat-tl = rw (c .before .before .got2 .given .1) at (c .before .before .before .before .before .before .before .before .as-pat-tl .ensures) in
+    let as-pat-tl-ok = as-pat-tl .ok in
+    search asks depth 8
+
+as-step-close-requires-2 : (t : ℕ) → as-step-lts.Need-close-requires-2 (
+  is-infix-reads.Asked,
+  is-infix-reads.Learnt,
+  refuse-reads.Asked,
+  refuse-reads.Learnt,
+  mark-reads.Asked,
+  mark-reads.Learnt,
+  as-pat-tl-below t,
+  as-pat-tl.Post,
+  close-reads.Asked,
+  close-reads.Learnt,
+  report-reads.Asked,
+  report-reads.Learnt,
+) (as-step-at t) as-step.Post
+as-step-close-requires-2 t c κs =
+    let falls = c .before .before .before .before .before .before .before .before .before .before .before .before .before .before .before .before .before .before .before .before .before .before .before .before .before .pre .0 in
+    let pre0 = c .before .before .before .before .before .before .before .before .before .before .before .before .before .before .before .before .before .before .before .before .before .before .before .before .before .pre .1 .0 in
+    let pre1 = c .before .before .before .before .before .before .before .before .before .before .before .before .before .before .before .before .before .before .before .before .before .before .before .before .before .pre .1 .1 in
+    let is-infix = c .before .before .before .before .before .before .before .before .before .before .before .before .before .before .before .before .before .before .is-infix .ensures in
+    let if1 = c .before .before .before .before .before .before .before .before .before .before .before .before .before .before .before .before .before .if1 .left in
+    let if2 = c .before .before .before .before .before .before .before .before .before .before .before .before .before .before .before .before .if2 .left in
+    let mark = c .before .before .before .before .before .before .before .before .before .before .before .before .before .before .before .mark .ensures in
+    let mark-ok = ok-marks mark pre0 in
+    let as-pat-tl = rw (c .before .before .before .before .before .before .got2 .given .1) at (c .before .before .before .before .before .before .before .before .before .before .before .before .as-pat-tl .ensures) in
+    let as-pat-tl-ok = as-pat-tl .ok in
+    let report = c .before .before .before .report .ensures in
+    let report-ok = ok-tells report as-pat-tl-ok in
+    search asks depth 8
+
+as-step-same-length : (t : ℕ) → as-step-lts.Need-same-length (
+  is-infix-reads.Asked,
+  is-infix-reads.Learnt,
+  refuse-reads.Asked,
+  refuse-reads.Learnt,
+  mark-reads.Asked,
+  mark-reads.Learnt,
+  as-pat-tl-below t,
+  as-pat-tl.Post,
+  close-reads.Asked,
+  close-reads.Learnt,
+  report-reads.Asked,
+  report-reads.Learnt,
+) (as-step-at t) as-step.Post
+as-step-same-length t c =
+    c .before .before .close .kept .0 ∙ c .before .before .before .before .before .before .before .before .before .before .before .as-pat-tl .kept .1 .1 .1 .1 .0
+
+as-step-same-length-2 : (t : ℕ) → as-step-lts.Need-same-length-2 (
+  is-infix-reads.Asked,
+  is-infix-reads.Learnt,
+  refuse-reads.Asked,
+  refuse-reads.Learnt,
+  mark-reads.Asked,
+  mark-reads.Learnt,
+  as-pat-tl-below t,
+  as-pat-tl.Post,
+  close-reads.Asked,
+  close-reads.Learnt,
+  report-reads.Asked,
+  report-reads.Learnt,
+) (as-step-at t) as-step.Post
+as-step-same-length-2 t c =
+    c .before .before .before .before .before .before .before .before .before .before .before .as-pat-tl .kept .1 .1 .1 .1 .1 .0
+
+as-step-returns-3 : (t : ℕ) → as-step-lts.Need-returns-3 (
+  is-infix-reads.Asked,
+  is-infix-reads.Learnt,
+  refuse-reads.Asked,
+  refuse-reads.Learnt,
+  mark-reads.Asked,
+  mark-reads.Learnt,
+  as-pat-tl-below t,
+  as-pat-tl.Post,
+  close-reads.Asked,
+  close-reads.Learnt,
+  report-reads.Asked,
+  report-reads.Learnt,
+) (as-step-at t) as-step.Post
+unfolding pat.asStep plan choose chosen
+as-step-returns-3 t c =
+    let falls = c .before .before .before .before .before .before .before .before .before .before .before .before .before .before .before .before .before .before .before .before .before .before .before .before .pre .0 in
+    let pre0 = c .before .before .before .before .before .before .before .before .before .before .before .before .before .before .before .before .before .before .before .before .before .before .before .before .pre .1 .0 in
+    let pre1 = c .before .before .before .before .before .before .before .before .before .before .before .before .before .before .before .before .before .before .before .before .before .before .before .before .pre .1 .1 in
+    let is-infix = c .before .before .before .before .before .before .before .before .before .before .before .before .before .before .before .before .before .is-infix .ensures in
+    let if1 = c .before .before .before .before .before .before .before .before .before .before .before .before .before .before .before .before .if1 .left in
+    let if2 = c .before .before .before .before .before .before .before .before .before .before .before .before .before .before .before .if2 .left in
+    let mark = c .before .before .before .before .before .before .before .before .before .before .before .before .before .before .mark .ensures in
+    let as-pat-tl = rw (c .before .before .before .before .before .got .given .1) at (c .before .before .before .before .before .before .before .before .before .before .before .as-pat-tl .ensures) in
+    let close = c .before .before .close .ensures in
+    in-steps pre0 (s-false _ _ (test-false is-infix if1) (s-mark if2 mark (s-by _ (runs-in as-pat-tl) (s-close close s-end))))
+
+as-step-same-length-3 : (t : ℕ) → as-step-lts.Need-same-length-3 (
+  is-infix-reads.Asked,
+  is-infix-reads.Learnt,
+  refuse-reads.Asked,
+  refuse-reads.Learnt,
+  mark-reads.Asked,
+  mark-reads.Learnt,
+  as-pat-tl-below t,
+  as-pat-tl.Post,
+  close-reads.Asked,
+  close-reads.Learnt,
+  report-reads.Asked,
+  report-reads.Learnt,
+) (as-step-at t) as-step.Post
+as-step-same-length-3 t c =
+    c .before .before .close2 .kept .0 ∙ c .before .before .before .before .before .before .before .before .before .before .before .before .before .before .before .as-pat-tl .kept .1 .1 .1 .1 .0
+
+as-step-same-length-4 : (t : ℕ) → as-step-lts.Need-same-length-4 (
+  is-infix-reads.Asked,
+  is-infix-reads.Learnt,
+  refuse-reads.Asked,
+  refuse-reads.Learnt,
+  mark-reads.Asked,
+  mark-reads.Learnt,
+  as-pat-tl-below t,
+  as-pat-tl.Post,
+  close-reads.Asked,
+  close-reads.Learnt,
+  report-reads.Asked,
+  report-reads.Learnt,
+) (as-step-at t) as-step.Post
+as-step-same-length-4 t c =
+    c .before .before .before .before .before .before .report .kept .0 ∙ c .before .before .before .before .before .before .before .before .before .before .before .before .before .before .before .as-pat-tl .kept .1 .1 .1 .1 .1 .0
+
+as-step-returns-4 : (t : ℕ) → as-step-lts.Need-returns-4 (
+  is-infix-reads.Asked,
+  is-infix-reads.Learnt,
+  refuse-reads.Asked,
+  refuse-reads.Learnt,
+  mark-reads.Asked,
+  mark-reads.Learnt,
+  as-pat-tl-below t,
+  as-pat-tl.Post,
+  close-reads.Asked,
+  close-reads.Learnt,
+  report-reads.Asked,
+  report-reads.Learnt,
+) (as-step-at t) as-step.Post
+unfolding pat.asStep plan choose chosen
+as-step-returns-4 t c =
+    let falls = c .before .before .before .before .before .before .before .before .before .before .before .before .before .before .before .before .before .before .before .before .before .before .before .before .before .before .before .before .pre .0 in
+    let pre0 = c .before .before .before .before .before .before .before .before .before .before .before .before .before .before .before .before .before .before .before .before .before .before .before .before .before .before .before .before .pre .1 .0 in
+    let pre1 = c .before .before .before .before .before .before .before .before .before .before .before .before .before .before .before .before .before .before .before .before .before .before .before .before .before .before .before .before .pre .1 .1 in
+    let is-infix = c .before .before .before .before .before .before .before .before .before .before .before .before .before .before .before .before .before .before .before .before .before .is-infix .ensures in
+    let if1 = c .before .before .before .before .before .before .before .before .before .before .before .before .before .before .before .before .before .before .before .before .if1 .left in
+    let if2 = c .before .before .before .before .before .before .before .before .before .before .before .before .before .before .before .before .before .before .before .if2 .left in
+    let mark = c .before .before .before .before .before .before .before .before .before .before .before .before .before .before .before .before .before .before .mark .ensures in
+    let as-pat-tl = rw (c .before .before .before .before .before .before .before .before .before .got2 .given .1) at (c .before .before .before .before .before .before .before .before .before .before .before .before .before .before .before .as-pat-tl .ensures) in
+    let report = c .before .before .before .before .before .before .report .ensures in
+    let close2 = c .before .before .close2 .ensures in
+    in-steps pre0 (s-false _ _ (test-false is-infix if1) (s-mark if2 mark (s-by _ (runs-in as-pat-tl) (s-report report (s-close close2 s-end)))))
+
+at-head-s-con-requires : (t : ℕ) → at-head-lts.Need-s-con-requires (
+  s-con-reads.Asked,
+  s-con-reads.Learnt,
+  bump-reads.Asked,
+  bump-reads.Learnt,
+  close-reads.Asked,
+  close-reads.Learnt,
+  path-infix-reads.Asked,
+  path-infix-reads.Learnt,
+  state-reads.Asked,
+  state-reads.Learnt,
+  name-star-reads.Asked,
+  name-star-reads.Learnt,
+  con-path-reads.Asked,
+  con-path-reads.Learnt,
+  at-rest-below t,
+  at-rest.Post,
+) (at-head-at t) at-head.Post
+at-head-s-con-requires t c κs =
+    let falls = c .before .before .before .before .before .before .pre .0 in
+    let pre0 = c .before .before .before .before .before .before .pre .1 .0 in
+    let pre1 = c .before .before .before .before .before .before .pre .1 .1 in
+    search asks depth 8
+
+at-head-bump-requires : (t : ℕ) → at-head-lts.Need-bump-requires (
+  s-con-reads.Asked,
+  s-con-reads.Learnt,
+  bump-reads.Asked,
+  bump-reads.Learnt,
+  close-reads.Asked,
+  close-reads.Learnt,
+  path-infix-reads.Asked,
+  path-infix-reads.Learnt,
+  state-reads.Asked,
+  state-reads.Learnt,
+  name-star-reads.Asked,
+  name-star-reads.Learnt,
+  con-path-reads.Asked,
+  con-path-reads.Learnt,
+  at-rest-below t,
+  at-rest.Post,
+) (at-head-at t) at-head.Post
+at-head-bump-requires t c κs =
+    let falls = c .before .before .before .before .before .before .before .before .before .pre .0 in
+    let pre0 = c .before .before .before .before .before .before .before .before .before .pre .1 .0 in
+    let pre1 = c .before .before .before .before .before .before .before .before .before .pre .1 .1 in
+    let s-con = c .before .before .s-con .ensures in
+    let if1 = c .before .if1 .taken in
+    search asks depth 8
+
+at-head-close-requires : (t : ℕ) → at-head-lts.Need-close-requires (
+  s-con-reads.Asked,
+  s-con-reads.Learnt,
+  bump-reads.Asked,
+  bump-reads.Learnt,
+  close-reads.Asked,
+  close-reads.Learnt,
+  path-infix-reads.Asked,
+  path-infix-reads.Learnt,
+  state-reads.Asked,
+  state-reads.Learnt,
+  name-star-reads.Asked,
+  name-star-reads.Learnt,
+  con-path-reads.Asked,
+  con-path-reads.Learnt,
+  at-rest-below t,
+  at-rest.Post,
+) (at-head-at t) at-head.Post
+at-head-close-requires t c κs =
+    let falls = c .before .before .before .before .before .before .before .before .before .before .before .before .before .pre .0 in
+    let pre0 = c .before .before .before .before .before .before .before .before .before .before .before .before .before .pre .1 .0 in
+    let pre1 = c .before .before .before .before .before .before .before .before .before .before .before .before .before .pre .1 .1 in
+    let s-con = c .before .before .before .before .before .before .s-con .ensures in
+    let if1 = c .before .before .before .before .before .if1 .taken in
+    let bump = c .before .before .before .bump .ensures in
+    let bump-ok = ok-bumps bump pre0 in
+    search asks depth 8
+
+at-head-same-length : (t : ℕ) → at-head-lts.Need-same-length (
+  s-con-reads.Asked,
+  s-con-reads.Learnt,
+  bump-reads.Asked,
+  bump-reads.Learnt,
+  close-reads.Asked,
+  close-reads.Learnt,
+  path-infix-reads.Asked,
+  path-infix-reads.Learnt,
+  state-reads.Asked,
+  state-reads.Learnt,
+  name-star-reads.Asked,
+  name-star-reads.Learnt,
+  con-path-reads.Asked,
+  con-path-reads.Learnt,
+  at-rest-below t,
+  at-rest.Post,
+) (at-head-at t) at-head.Post
+at-head-same-length t c =
+    c .before .before .close .kept .0 ∙ c .before .before .before .before .before .before .bump .kept .1 .0
+
+at-head-returns : (t : ℕ) → at-head-lts.Need-returns (
+  s-con-reads.Asked,
+  s-con-reads.Learnt,
+  bump-reads.Asked,
+  bump-reads.Learnt,
+  close-reads.Asked,
+  close-reads.Learnt,
+  path-infix-reads.Asked,
+  path-infix-reads.Learnt,
+  state-reads.Asked,
+  state-reads.Learnt,
+  name-star-reads.Asked,
+  name-star-reads.Learnt,
+  con-path-reads.Asked,
+  con-path-reads.Learnt,
+  at-rest-below t,
+  at-rest.Post,
+) (at-head-at t) at-head.Post
+unfolding pat.atPatHead plan choose chosen
+at-head-returns t c =
+    let falls = c .before .before .before .before .before .before .before .before .before .before .before .before .before .before .before .before .pre .0 in
+    let pre0 = c .before .before .before .before .before .before .before .before .before .before .before .before .before .before .before .before .pre .1 .0 in
+    let pre1 = c .before .before .before .before .before .before .before .before .before .before .before .before .before .before .before .before .pre .1 .1 in
+    let s-con = c .before .before .before .before .before .before .before .before .before .s-con .ensures in
+    let if1 = c .before .before .before .before .before .before .before .before .if1 .taken in
+    let bump = c .before .before .before .before .before .before .bump .ensures in
+    let close = c .before .before .close .ensures in
+    in-steps pre0 (s-true _ _ (test-true s-con if1) (s-bump bump (s-close close s-end)))
+
+at-head-bump-requires-2 : (t : ℕ) → at-head-lts.Need-bump-requires-2 (
+  s-con-reads.Asked,
+  s-con-reads.Learnt,
+  bump-reads.Asked,
+  bump-reads.Learnt,
+  close-reads.Asked,
+  close-reads.Learnt,
+  path-infix-reads.Asked,
+  path-infix-reads.Learnt,
+  state-reads.Asked,
+  state-reads.Learnt,
+  name-star-reads.Asked,
+  name-star-reads.Learnt,
+  con-path-reads.Asked,
+  con-path-reads.Learnt,
+  at-rest-below t,
+  at-rest.Post,
+) (at-head-at t) at-head.Post
+at-head-bump-requires-2 t c κs =
+    let falls = c .before .before .before .before .before .before .before .before .before .before .pre .0 in
+    let pre0 = c .before .before .before .before .before .before .before .before .before .before .pre .1 .0 in
+    let pre1 = c .before .before .before .before .before .before .before .before .before .before .pre .1 .1 in
+    let s-con = c .before .before .before .s-con .ensures in
+    let if1 = c .before .before .if1 .left in
+    let if2 = c .before .if2 .taken in
+    search asks depth 8
+
+at-head-close-requires-2 : (t : ℕ) → at-head-lts.Need-close-requires-2 (
+  s-con-reads.Asked,
+  s-con-reads.Learnt,
+  bump-reads.Asked,
+  bump-reads.Learnt,
+  close-reads.Asked,
+  close-reads.Learnt,
+  path-infix-reads.Asked,
+  path-infix-reads.Learnt,
+  state-reads.Asked,
+  state-reads.Learnt,
+  name-star-reads.Asked,
+  name-star-reads.Learnt,
+  con-path-reads.Asked,
+  con-path-reads.Learnt,
+  at-rest-below t,
+  at-rest.Post,
+) (at-head-at t) at-head.Post
+at-head-close-requires-2 t c κs =
+    let falls = c .before .before .before .before .before .before .before .before .before .before .before .before .before .before .pre .0 in
+    let pre0 = c .before .before .before .before .before .before .before .before .before .before .before .before .before .before .pre .1 .0 in
+    let pre1 = c .before .before .before .before .before .before .before .before .before .before .before .before .before .before .pre .1 .1 in
+    let s-con = c .before .before .before .before .before .before .before .s-con .ensures in
+    let if1 = c .before .before .before .before .before .before .if1 .left in
+    let if2 = c .before .before .before .before .before .if2 .taken in
+    let bump2 = c .before .before .before .bump2 .ensures in
+    let bump2-ok = ok-bumps bump2 pre0 in
+    search asks depth 8
+
+at-head-same-length-2 : (t : ℕ) → at-head-lts.Need-same-length-2 (
+  s-con-reads.Asked,
+  s-con-reads.Learnt,
+  bump-reads.Asked,
+  bump-reads.Learnt,
+  close-reads.Asked,
+  close-reads.Learnt,
+  path-infix-reads.Asked,
+  path-infix-reads.Learnt,
+  state-reads.Asked,
+  state-reads.Learnt,
+  name-star-reads.Asked,
+  name-star-reads.Learnt,
+  con-path-reads.Asked,
+  con-path-reads.Learnt,
+  at-rest-below t,
+  at-rest.Post,
+) (at-head-at t) at-head.Post
+at-head-same-length-2 t c =
+    c .before .before .close2 .kept .0 ∙ c .before .before .before .before .before .before .bump2 .kept .1 .0
+
+at-head-returns-2 : (t : ℕ) → at-head-lts.Need-returns-2 (
+  s-con-reads.Asked,
+  s-con-reads.Learnt,
+  bump-reads.Asked,
+  bump-reads.Learnt,
+  close-reads.Asked,
+  close-reads.Learnt,
+  path-infix-reads.Asked,
+  path-infix-reads.Learnt,
+  state-reads.Asked,
+  state-reads.Learnt,
+  name-star-reads.Asked,
+  name-star-reads.Learnt,
+  con-path-reads.Asked,
+  con-path-reads.Learnt,
+  at-rest-below t,
+  at-rest.Post,
+) (at-head-at t) at-head.Post
+unfolding pat.atPatHead plan choose chosen
+at-head-returns-2 t c =
+    let falls = c .before .before .before .before .before .before .before .before .before .before .before .before .before .before .before .before .before .pre .0 in
+    let pre0 = c .before .before .before .before .before .before .before .before .before .before .before .before .before .before .before .before .before .pre .1 .0 in
+    let pre1 = c .before .before .before .before .before .before .before .before .before .before .before .before .before .before .before .before .before .pre .1 .1 in
+    let s-con = c .before .before .before .before .before .before .before .before .before .before .s-con .ensures in
+    let if1 = c .before .before .before .before .before .before .before .before .before .if1 .left in
+    let if2 = c .before .before .before .before .before .before .before .before .if2 .taken in
+    let bump2 = c .before .before .before .before .before .before .bump2 .ensures in
+    let close2 = c .before .before .close2 .ensures in
+    in-steps pre0 (s-false _ _ (test-false s-con if1) (s-true _ _ (kind-is if2) (s-bump bump2 (s-close close2 s-end))))
+
+at-head-path-infix-requires : (t : ℕ) → at-head-lts.Need-path-infix-requires (
+  s-con-reads.Asked,
+  s-con-reads.Learnt,
+  bump-reads.Asked,
+  bump-reads.Learnt,
+  close-reads.Asked,
+  close-reads.Learnt,
+  path-infix-reads.Asked,
+  path-infix-reads.Learnt,
+  state-reads.Asked,
+  state-reads.Learnt,
+  name-star-reads.Asked,
+  name-star-reads.Learnt,
+  con-path-reads.Asked,
+  con-path-reads.Learnt,
+  at-rest-below t,
+  at-rest.Post,
+) (at-head-at t) at-head.Post
+at-head-path-infix-requires t c κs =
+    let falls = c .before .before .before .before .before .before .before .before .before .before .before .before .pre .0 in
+    let pre0 = c .before .before .before .before .before .before .before .before .before .before .before .before .pre .1 .0 in
+    let pre1 = c .before .before .before .before .before .before .before .before .before .before .before .before .pre .1 .1 in
+    let s-con = c .before .before .before .before .before .s-con .ensures in
+    let if1 = c .before .before .before .before .if1 .left in
+    let if2 = c .before .before .before .if2 .left in
+    let if3 = c .before .before .if3 .taken in
+    search asks depth 8
+
+at-head-state-requires : (t : ℕ) → at-head-lts.Need-state-requires (
+  s-con-reads.Asked,
+  s-con-reads.Learnt,
+  bump-reads.Asked,
+  bump-reads.Learnt,
+  close-reads.Asked,
+  close-reads.Learnt,
+  path-infix-reads.Asked,
+  path-infix-reads.Learnt,
+  state-reads.Asked,
+  state-reads.Learnt,
+  name-star-reads.Asked,
+  name-star-reads.Learnt,
+  con-path-reads.Asked,
+  con-path-reads.Learnt,
+  at-rest-below t,
+  at-rest.Post,
+) (at-head-at t) at-head.Post
+at-head-state-requires t c κs =
+    let falls = c .before .before .before .before .before .before .before .before .before .before .before .before .before .before .before .before .before .pre .0 in
+    let pre0 = c .before .before .before .before .before .before .before .before .before .before .before .before .before .before .before .before .before .pre .1 .0 in
+    let pre1 = c .before .before .before .before .before .before .before .before .before .before .before .before .before .before .before .before .before .pre .1 .1 in
+    let s-con = c .before .before .before .before .before .before .before .before .before .before .s-con .ensures in
+    let if1 = c .before .before .before .before .before .before .before .before .before .if1 .left in
+    let if2 = c .before .before .before .before .before .before .before .before .if2 .left in
+    let if3 = c .before .before .before .before .before .before .before .if3 .taken in
+    let path-infix = c .before .before .before .before .path-infix .ensures in
+    let path-infix-ok = path-infix .ok in
+    search asks depth 8
+
+at-head-close-requires-3 : (t : ℕ) → at-head-lts.Need-close-requires-3 (
+  s-con-reads.Asked,
+  s-con-reads.Learnt,
+  bump-reads.Asked,
+  bump-reads.Learnt,
+  close-reads.Asked,
+  close-reads.Learnt,
+  path-infix-reads.Asked,
+  path-infix-reads.Learnt,
+  state-reads.Asked,
+  state-reads.Learnt,
+  name-star-reads.Asked,
+  name-star-reads.Learnt,
+  con-path-reads.Asked,
+  con-path-reads.Learnt,
+  at-rest-below t,
+  at-rest.Post,
+) (at-head-at t) at-head.Post
+at-head-close-requires-3 t c κs =
+    let falls = c .before .before .before .before .before .before .before .before .before .before .before .before .before .before .before .before .before .before .before .pre .0 in
+    let pre0 = c .before .before .before .before .before .before .before .before .before .before .before .before .before .before .before .before .before .before .before .pre .1 .0 in
+    let pre1 = c .before .before .before .before .before .before .before .before .before .before .before .before .before .before .before .before .before .before .before .pre .1 .1 in
+    let s-con = c .before .before .before .before .before .before .before .before .before .before .before .before .s-con .ensures in
+    let if1 = c .before .before .before .before .before .before .before .before .before .before .before .if1 .left in
+    let if2 = c .before .before .before .before .before .before .before .before .before .before .if2 .left in
+    let if3 = c .before .before .before .before .before .before .before .before .before .if3 .taken in
+    let path-infix = c .before .before .before .before .before .before .path-infix .ensures in
+    let path-infix-ok = path-infix .ok in
+    let state = c .before .state .ensures in
+    let state-ok = ok-state state path-infix-ok in
+    search asks depth 8
+
+at-head-same-length-3 : (t : ℕ) → at-head-lts.Need-same-length-3 (
+  s-con-reads.Asked,
+  s-con-reads.Learnt,
+  bump-reads.Asked,
+  bump-reads.Learnt,
+  close-reads.Asked,
+  close-reads.Learnt,
+  path-infix-reads.Asked,
+  path-infix-reads.Learnt,
+  state-reads.Asked,
+  state-reads.Learnt,
+  name-star-reads.Asked,
+  name-star-reads.Learnt,
+  con-path-reads.Asked,
+  con-path-reads.Learnt,
+  at-rest-below t,
+  at-rest.Post,
+) (at-head-at t) at-head.Post
+at-head-same-length-3 t c =
+    c .before .before .close3 .kept .0 ∙ c .before .before .before .before .before .before .before .before .before .path-infix .kept .1 .1 .1 .1 .0
+
+at-head-same-length-4 : (t : ℕ) → at-head-lts.Need-same-length-4 (
+  s-con-reads.Asked,
+  s-con-reads.Learnt,
+  bump-reads.Asked,
+  bump-reads.Learnt,
+  close-reads.Asked,
+  close-reads.Learnt,
+  path-infix-reads.Asked,
+  path-infix-reads.Learnt,
+  state-reads.Asked,
+  state-reads.Learnt,
+  name-star-reads.Asked,
+  name-star-reads.Learnt,
+  con-path-reads.Asked,
+  con-path-reads.Learnt,
+  at-rest-below t,
+  at-rest.Post,
+) (at-head-at t) at-head.Post
+at-head-same-length-4 t c =
+    c .before .before .before .before .before .before .before .before .before .path-infix .kept .1 .1 .1 .1 .1 .0
+
+at-head-returns-3 : (t : ℕ) → at-head-lts.Need-returns-3 (
+  s-con-reads.Asked,
+  s-con-reads.Learnt,
+  bump-reads.Asked,
+  bump-reads.Learnt,
+  close-reads.Asked,
+  close-reads.Learnt,
+  path-infix-reads.Asked,
+  path-infix-reads.Learnt,
+  state-reads.Asked,
+  state-reads.Learnt,
+  name-star-reads.Asked,
+  name-star-reads.Learnt,
+  con-path-reads.Asked,
+  con-path-reads.Learnt,
+  at-rest-below t,
+  at-rest.Post,
+) (at-head-at t) at-head.Post
+unfolding pat.atPatHead plan choose chosen
+at-head-returns-3 t c =
+    let falls = c .before .before .before .before .before .before .before .before .before .before .before .before .before .before .before .before .before .before .before .before .before .before .pre .0 in
+    let pre0 = c .before .before .before .before .before .before .before .before .before .before .before .before .before .before .before .before .before .before .before .before .before .before .pre .1 .0 in
+    let pre1 = c .before .before .before .before .before .before .before .before .before .before .before .before .before .before .before .before .before .before .before .before .before .before .pre .1 .1 in
+    let s-con = c .before .before .before .before .before .before .before .before .before .before .before .before .before .before .before .s-con .ensures in
+    let if1 = c .before .before .before .before .before .before .before .before .before .before .before .before .before .before .if1 .left in
+    let if2 = c .before .before .before .before .before .before .before .before .before .before .before .before .before .if2 .left in
+    let if3 = c .before .before .before .before .before .before .before .before .before .before .before .before .if3 .taken in
+    let path-infix = c .before .before .before .before .before .before .before .before .before .path-infix .ensures in
+    let state = c .before .before .before .before .state .ensures in
+    let close3 = c .before .before .close3 .ensures in
+    in-steps pre0 (s-false _ _ (test-false s-con if1) (s-false _ _ (kind-not if2) (s-true _ _ (kind-is if3) (s-by _ (settled state (runs-in path-infix)) (s-close close3 s-end)))))
+
+at-head-name-star-requires : (t : ℕ) → at-head-lts.Need-name-star-requires (
+  s-con-reads.Asked,
+  s-con-reads.Learnt,
+  bump-reads.Asked,
+  bump-reads.Learnt,
+  close-reads.Asked,
+  close-reads.Learnt,
+  path-infix-reads.Asked,
+  path-infix-reads.Learnt,
+  state-reads.Asked,
+  state-reads.Learnt,
+  name-star-reads.Asked,
+  name-star-reads.Learnt,
+  con-path-reads.Asked,
+  con-path-reads.Learnt,
+  at-rest-below t,
+  at-rest.Post,
+) (at-head-at t) at-head.Post
+at-head-name-star-requires t c κs =
+    let falls = c .before .before .before .before .before .before .before .before .before .before .pre .0 in
+    let pre0 = c .before .before .before .before .before .before .before .before .before .before .pre .1 .0 in
+    let pre1 = c .before .before .before .before .before .before .before .before .before .before .pre .1 .1 in
+    let s-con = c .before .before .before .s-con .ensures in
+    let if1 = c .before .before .if1 .left in
+    let if2 = c .before .if2 .left in
+    let if3 = c .if3 .left in
+    search asks depth 8
+
+at-head-con-path-requires : (t : ℕ) → at-head-lts.Need-con-path-requires (
+  s-con-reads.Asked,
+  s-con-reads.Learnt,
+  bump-reads.Asked,
+  bump-reads.Learnt,
+  close-reads.Asked,
+  close-reads.Learnt,
+  path-infix-reads.Asked,
+  path-infix-reads.Learnt,
+  state-reads.Asked,
+  state-reads.Learnt,
+  name-star-reads.Asked,
+  name-star-reads.Learnt,
+  con-path-reads.Asked,
+  con-path-reads.Learnt,
+  at-rest-below t,
+  at-rest.Post,
+) (at-head-at t) at-head.Post
+at-head-con-path-requires t c κs =
+    let falls = c .before .before .before .before .before .before .before .before .before .before .before .before .before .before .pre .0 in
+    let pre0 = c .before .before .before .before .before .before .before .before .before .before .before .before .before .before .pre .1 .0 in
+    let pre1 = c .before .before .before .before .before .before .before .before .before .before .before .before .before .before .pre .1 .1 in
+    let s-con = c .before .before .before .before .before .before .before .s-con .ensures in
+    let if1 = c .before .before .before .before .before .before .if1 .left in
+    let if2 = c .before .before .before .before .before .if2 .left in
+    let if3 = c .before .before .before .before .if3 .left in
+    let name-star = c .before .before .before .name-star .ensures in
+    let if4 = c .before .before .if4 .taken in
+    search asks depth 8
+
+at-head-state-requires-2 : (t : ℕ) → at-head-lts.Need-state-requires-2 (
+  s-con-reads.Asked,
+  s-con-reads.Learnt,
+  bump-reads.Asked,
+  bump-reads.Learnt,
+  close-reads.Asked,
+  close-reads.Learnt,
+  path-infix-reads.Asked,
+  path-infix-reads.Learnt,
+  state-reads.Asked,
+  state-reads.Learnt,
+  name-star-reads.Asked,
+  name-star-reads.Learnt,
+  con-path-reads.Asked,
+  con-path-reads.Learnt,
+  at-rest-below t,
+  at-rest.Post,
+) (at-head-at t) at-head.Post
+at-head-state-requires-2 t c κs =
+    let falls = c .before .before .before .before .before .before .before .before .before .before .before .before .before .before .before .before .before .before .before .pre .0 in
+    let pre0 = c .before .before .before .before .before .before .before .before .before .before .before .before .before .before .before .before .before .before .before .pre .1 .0 in
+    let pre1 = c .before .before .before .before .before .before .before .before .before .before .before .before .before .before .before .before .before .before .before .pre .1 .1 in
+    let s-con = c .before .before .before .before .before .before .before .before .before .before .before .before .s-con .ensures in
+    let if1 = c .before .before .before .before .before .before .before .before .before .before .before .if1 .left in
+    let if2 = c .before .before .before .before .before .before .before .before .before .before .if2 .left in
+    let if3 = c .before .before .before .before .before .before .before .before .before .if3 .left in
+    let name-star = c .before .before .before .before .before .before .before .before .name-star .ensures in
+    let if4 = c .before .before .before .before .before .before .before .if4 .taken in
+    let con-path = c .before .before .before .before .con-path .ensures in
+    let con-path-ok = con-path .ok in
+    search asks depth 8
+
+at-head-close-requires-4 : (t : ℕ) → at-head-lts.Need-close-requires-4 (
+  s-con-reads.Asked,
+  s-con-reads.Learnt,
+  bump-reads.Asked,
+  bump-reads.Learnt,
+  close-reads.Asked,
+  close-reads.Learnt,
+  path-infix-reads.Asked,
+  path-infix-reads.Learnt,
+  state-reads.Asked,
+  state-reads.Learnt,
+  name-star-reads.Asked,
+  name-star-reads.Learnt,
+  con-path-reads.Asked,
+  con-path-reads.Learnt,
+  at-rest-below t,
+  at-rest.Post,
+) (at-head-at t) at-head.Post
+at-head-close-requires-4 t c κs =
+    let falls = c .before .before .before .before .before .before .before .before .before .before .before .before .before .before .before .before .before .before .before .before .before .pre .0 in
+    let pre0 = c .before .before .before .before .before .before .before .before .before .before .before .before .before .before .before .before .before .before .before .before .before .pre .1 .0 in
+    let pre1 = c .before .before .before .before .before .before .before .before .before .before .before .before .before .before .before .before .before .before .before .before .before .pre .1 .1 in
+    let s-con = c .before .before .before .before .before .before .before .before .before .before .before .before .before .before .s-con .ensures in
+    let if1 = c .before .before .before .before .before .before .before .before .before .before .before .before .before .if1 .left in
+    let if2 = c .before .before .before .before .before .before .before .before .before .before .before .before .if2 .left in
+    let if3 = c .before .before .before .before .before .before .before .before .before .before .before .if3 .left in
+    let name-star = c .before .before .before .before .before .before .before .before .before .before .name-star .ensures in
+    let if4 = c .before .before .before .before .before .before .before .before .before .if4 .taken in
+    let con-path = c .before .before .before .before .before .before .con-path .ensures in
+    let con-path-ok = con-path .ok in
+    let state2 = c .before .state2 .ensures in
+    let state2-ok = ok-state state2 con-path-ok in
+    search asks depth 8
+
+at-head-same-length-5 : (t : ℕ) → at-head-lts.Need-same-length-5 (
+  s-con-reads.Asked,
+  s-con-reads.Learnt,
+  bump-reads.Asked,
+  bump-reads.Learnt,
+  close-reads.Asked,
+  close-reads.Learnt,
+  path-infix-reads.Asked,
+  path-infix-reads.Learnt,
+  state-reads.Asked,
+  state-reads.Learnt,
+  name-star-reads.Asked,
+  name-star-reads.Learnt,
+  con-path-reads.Asked,
+  con-path-reads.Learnt,
+  at-rest-below t,
+  at-rest.Post,
+) (at-head-at t) at-head.Post
+at-head-same-length-5 t c =
+    c .before .before .close4 .kept .0 ∙ c .before .before .before .before .before .before .before .before .before .con-path .kept .1 .1 .1 .1 .0
+
+at-head-same-length-6 : (t : ℕ) → at-head-lts.Need-same-length-6 (
+  s-con-reads.Asked,
+  s-con-reads.Learnt,
+  bump-reads.Asked,
+  bump-reads.Learnt,
+  close-reads.Asked,
+  close-reads.Learnt,
+  path-infix-reads.Asked,
+  path-infix-reads.Learnt,
+  state-reads.Asked,
+  state-reads.Learnt,
+  name-star-reads.Asked,
+  name-star-reads.Learnt,
+  con-path-reads.Asked,
+  con-path-reads.Learnt,
+  at-rest-below t,
+  at-rest.Post,
+) (at-head-at t) at-head.Post
+at-head-same-length-6 t c =
+    c .before .before .before .before .before .before .before .before .before .con-path .kept .1 .1 .1 .1 .1 .0
+
+at-head-returns-4 : (t : ℕ) → at-head-lts.Need-returns-4 (
+  s-con-reads.Asked,
+  s-con-reads.Learnt,
+  bump-reads.Asked,
+  bump-reads.Learnt,
+  close-reads.Asked,
+  close-reads.Learnt,
+  path-infix-reads.Asked,
+  path-infix-reads.Learnt,
+  state-reads.Asked,
+  state-reads.Learnt,
+  name-star-reads.Asked,
+  name-star-reads.Learnt,
+  con-path-reads.Asked,
+  con-path-reads.Learnt,
+  at-rest-below t,
+  at-rest.Post,
+) (at-head-at t) at-head.Post
+unfolding pat.atPatHead plan choose chosen
+at-head-returns-4 t c =
+    let falls = c .before .before .before .before .before .before .before .before .before .before .before .before .before .before .before .before .before .before .before .before .before .before .before .before .pre .0 in
+    let pre0 = c .before .before .before .before .before .before .before .before .before .before .before .before .before .before .before .before .before .before .before .before .before .before .before .before .pre .1 .0 in
+    let pre1 = c .before .before .before .before .before .before .before .before .before .before .before .before .before .before .before .before .before .before .before .before .before .before .before .before .pre .1 .1 in
+    let s-con = c .before .before .before .before .before .before .before .before .before .before .before .before .before .before .before .before .before .s-con .ensures in
+    let if1 = c .before .before .before .before .before .before .before .before .before .before .before .before .before .before .before .before .if1 .left in
+    let if2 = c .before .before .before .before .before .before .before .before .before .before .before .before .before .before .before .if2 .left in
+    let if3 = c .before .before .before .before .before .before .before .before .before .before .before .before .before .before .if3 .left in
+    let name-star = c .before .before .before .before .before .before .before .before .before .before .before .before .before .name-star .ensures in
+    let if4 = c .before .before .before .before .before .before .before .before .before .before .before .before .if4 .taken in
+    let con-path = c .before .before .before .before .before .before .before .before .before .con-path .ensures in
+    let state2 = c .before .before .before .before .state2 .ensures in
+    let close4 = c .before .before .close4 .ensures in
+    in-steps pre0 (s-false _ _ (test-false s-con if1) (s-false _ _ (kind-not if2) (s-false _ _ (kind-not if3) (s-true _ _ (test-true name-star if4) (s-by _ (settled state2 (runs-in con-path)) (s-close close4 s-end))))))
+
+at-head-at-rest-requires : (t : ℕ) → at-head-lts.Need-at-rest-requires (
+  s-con-reads.Asked,
+  s-con-reads.Learnt,
+  bump-reads.Asked,
+  bump-reads.Learnt,
+  close-reads.Asked,
+  close-reads.Learnt,
+  path-infix-reads.Asked,
+  path-infix-reads.Learnt,
+  state-reads.Asked,
+  state-reads.Learnt,
+  name-star-reads.Asked,
+  name-star-reads.Learnt,
+  con-path-reads.Asked,
+  con-path-reads.Learnt,
+  at-rest-below t,
+  at-rest.Post,
+) (at-head-at t) at-head.Post
+at-head-at-rest-requires t c κs =
+    let falls = c .before .before .before .before .before .before .before .before .before .before .before .before .before .before .pre .0 in
+    let pre0 = c .before .before .before .before .before .before .before .before .before .before .before .before .before .before .pre .1 .0 in
+    let pre1 = c .before .before .before .before .before .before .before .before .before .before .before .before .before .before .pre .1 .1 in
+    let s-con = c .before .before .before .before .before .before .before .s-con .ensures in
+    let if1 = c .before .before .before .before .before .before .if1 .left in
+    let if2 = c .before .before .before .before .before .if2 .left in
+    let if3 = c .before .before .before .before .if3 .left in
+    let name-star = c .before .before .before .name-star .ensures in
+    let if4 = c .before .before .if4 .left in
+    search asks depth 8
+
+at-head-same-length-7 : (t : ℕ) → at-head-lts.Need-same-length-7 (
+  s-con-reads.Asked,
+  s-con-reads.Learnt,
+  bump-reads.Asked,
+  bump-reads.Learnt,
+  close-reads.Asked,
+  close-reads.Learnt,
+  path-infix-reads.Asked,
+  path-infix-reads.Learnt,
+  state-reads.Asked,
+  state-reads.Learnt,
+  name-star-reads.Asked,
+  name-star-reads.Learnt,
+  con-path-reads.Asked,
+  con-path-reads.Learnt,
+  at-rest-below t,
+  at-rest.Post,
+) (at-head-at t) at-head.Post
+at-head-same-length-7 t c =
+    c .before .before .before .before .at-rest .kept .1 .1 .1 .1 .0
+
+at-head-same-length-8 : (t : ℕ) → at-head-lts.Need-same-length-8 (
+  s-con-reads.Asked,
+  s-con-reads.Learnt,
+  bump-reads.Asked,
+  bump-reads.Learnt,
+  close-reads.Asked,
+  close-reads.Learnt,
+  path-infix-reads.Asked,
+  path-infix-reads.Learnt,
+  state-reads.Asked,
+  state-reads.Learnt,
+  name-star-reads.Asked,
+  name-star-reads.Learnt,
+  con-path-reads.Asked,
+  con-path-reads.Learnt,
+  at-rest-below t,
+  at-rest.Post,
+) (at-head-at t) at-head.Post
+at-head-same-length-8 t c =
+    c .before .before .before .before .at-rest .kept .1 .1 .1 .1 .1 .0
+
+at-head-returns-5 : (t : ℕ) → at-head-lts.Need-returns-5 (
+  s-con-reads.Asked,
+  s-con-reads.Learnt,
+  bump-reads.Asked,
+  bump-reads.Learnt,
+  close-reads.Asked,
+  close-reads.Learnt,
+  path-infix-reads.Asked,
+  path-infix-reads.Learnt,
+  state-reads.Asked,
+  state-reads.Learnt,
+  name-star-reads.Asked,
+  name-star-reads.Learnt,
+  con-path-reads.Asked,
+  con-path-reads.Learnt,
+  at-rest-below t,
+  at-rest.Post,
+) (at-head-at t) at-head.Post
+unfolding pat.atPatHead plan choose chosen
+at-head-returns-5 t c =
+    let falls = c .before .before .before .before .before .before .before .before .before .before .before .before .before .before .before .before .before .before .before .pre .0 in
+    let pre0 = c .before .before .before .before .before .before .before .before .before .before .before .before .before .before .before .before .before .before .before .pre .1 .0 in
+    let pre1 = c .before .before .before .before .before .before .before .before .before .before .before .before .before .before .before .before .before .before .before .pre .1 .1 in
+    let s-con = c .before .before .before .before .before .before .before .before .before .before .before .before .s-con .ensures in
+    let if1 = c .before .before .before .before .before .before .before .before .before .before .before .if1 .left in
+    let if2 = c .before .before .before .before .before .before .before .before .before .before .if2 .left in
+    let if3 = c .before .before .before .before .before .before .before .before .before .if3 .left in
+    let name-star = c .before .before .before .before .before .before .before .before .name-star .ensures in
+    let if4 = c .before .before .before .before .before .before .before .if4 .left in
+    let at-rest = c .before .before .before .before .at-rest .ensures in
+    in-steps pre0 (s-false _ _ (test-false s-con if1) (s-false _ _ (kind-not if2) (s-false _ _ (kind-not if3) (s-false _ _ (test-false name-star if4) (s-by _ at-rest s-end)))))
+
+at-pat-peek-requires : (t : ℕ) → at-pat-lts.Need-peek-requires (
+  peek-reads.Asked,
+  peek-reads.Learnt,
+  refuse-reads.Asked,
+  refuse-reads.Learnt,
+  mark-reads.Asked,
+  mark-reads.Learnt,
+  at-head-below t,
+  at-head.Post,
+) (at-pat-at t) at-pat.Post
+at-pat-peek-requires t c κs =
+    let falls = c .before .before .before .before .before .before .pre .0 in
+    let pre0 = c .before .before .before .before .before .before .pre .1 in
+    search asks depth 8
+
+at-pat-enum-known-k : (t : ℕ) → at-pat-lts.Need-enum-known-k (
+  peek-reads.Asked,
+  peek-reads.Learnt,
+  refuse-reads.Asked,
+  refuse-reads.Learnt,
+  mark-reads.Asked,
+  mark-reads.Learnt,
+  at-head-below t,
+  at-head.Post,
+) (at-pat-at t) at-pat.Post
+at-pat-enum-known-k t c =
+    let falls = c .before .before .before .before .before .before .before .before .pre .0 in
+    let pre0 = c .before .before .before .before .before .before .before .before .pre .1 in
+    search needs
+
+at-pat-enum-told : (t : ℕ) → at-pat-lts.Need-enum-told (
+  peek-reads.Asked,
+  peek-reads.Learnt,
+  refuse-reads.Asked,
+  refuse-reads.Learnt,
+  mark-reads.Asked,
+  mark-reads.Learnt,
+  at-head-below t,
+  at-head.Post,
+) (at-pat-at t) at-pat.Post
+at-pat-enum-told t c =
+    let falls = c .before .before .before .before .before .before .before .before .pre .0 in
+    let pre0 = c .before .before .before .before .before .before .before .before .pre .1 in
+    search needs
+
+at-pat-returns : (t : ℕ) → at-pat-lts.Need-returns (
+  peek-reads.Asked,
+  peek-reads.Learnt,
+  refuse-reads.Asked,
+  refuse-reads.Learnt,
+  mark-reads.Asked,
+  mark-reads.Learnt,
+  at-head-below t,
+  at-head.Post,
+) (at-pat-at t) at-pat.Post
+unfolding pat.atPat plan choose chosen
+at-pat-returns t c =
+    let falls = c .before .before .before .before .before .before .before .before .before .pre .0 in
+    let pre0 = c .before .before .before .before .before .before .before .before .before .pre .1 in
+    let peek = rw (c .enum-told .given .1) at (c .before .before .peek .ensures) in
+    λ g. by-steps pre0 (λ b. s-look peek s-end)
+
+at-pat-refuse-requires : (t : ℕ) → at-pat-lts.Need-refuse-requires (
+  peek-reads.Asked,
+  peek-reads.Learnt,
+  refuse-reads.Asked,
+  refuse-reads.Learnt,
+  mark-reads.Asked,
+  mark-reads.Learnt,
+  at-head-below t,
+  at-head.Post,
+) (at-pat-at t) at-pat.Post
+at-pat-refuse-requires t c κs =
+    let falls = c .before .before .before .before .before .before .before .before .before .before .before .pre .0 in
+    let pre0 = c .before .before .before .before .before .before .before .before .before .before .before .pre .1 in
+    let peek = rw (c .before .before .k .given .1) at (c .before .before .before .before .peek .ensures) in
+    let if1 = c .if1 .taken in
+    search asks depth 8
+
+at-pat-returns-2 : (t : ℕ) → at-pat-lts.Need-returns-2 (
+  peek-reads.Asked,
+  peek-reads.Learnt,
+  refuse-reads.Asked,
+  refuse-reads.Learnt,
+  mark-reads.Asked,
+  mark-reads.Learnt,
+  at-head-below t,
+  at-head.Post,
+) (at-pat-at t) at-pat.Post
+unfolding pat.atPat plan choose chosen
+at-pat-returns-2 t c =
+    let falls = c .before .before .before .before .before .before .before .before .before .before .before .before .pre .0 in
+    let pre0 = c .before .before .before .before .before .before .before .before .before .before .before .before .pre .1 in
+    let peek = rw (c .before .before .before .k .given .1) at (c .before .before .before .before .before .peek .ensures) in
+    let if1 = c .before .if1 .taken in
+    let refuse = c .refuse .ensures in
+    λ g. by-steps pre0 (λ b. s-look peek (s-deep if1 refuse s-end))
+
+at-pat-mark-requires : (t : ℕ) → at-pat-lts.Need-mark-requires (
+  peek-reads.Asked,
+  peek-reads.Learnt,
+  refuse-reads.Asked,
+  refuse-reads.Learnt,
+  mark-reads.Asked,
+  mark-reads.Learnt,
+  at-head-below t,
+  at-head.Post,
+) (at-pat-at t) at-pat.Post
+at-pat-mark-requires t c κs =
+    let falls = c .before .before .before .before .before .before .before .before .before .before .before .pre .0 in
+    let pre0 = c .before .before .before .before .before .before .before .before .before .before .before .pre .1 in
+    let peek = rw (c .before .before .k .given .1) at (c .before .before .before .before .peek .ensures) in
+    let if1 = c .if1 .left in
+    search asks depth 8
+
+at-pat-sub-at-head : (t : ℕ) → at-pat-lts.Need-sub-at-head (
+  peek-reads.Asked,
+  peek-reads.Learnt,
+  refuse-reads.Asked,
+  refuse-reads.Learnt,
+  mark-reads.Asked,
+  mark-reads.Learnt,
+  at-head-below t,
+  at-head.Post,
+) (at-pat-at t) at-pat.Post
+at-pat-sub-at-head t c =
+    let falls = c .before .before .before .before .before .before .before .before .before .before .before .before .before .before .pre .0 in
+    let pre0 = c .before .before .before .before .before .before .before .before .before .before .before .before .before .before .pre .1 in
+    let if1 = c .before .before .before .if1 .left in
+    search needs
+
+at-pat-at-head-requires : (t : ℕ) → at-pat-lts.Need-at-head-requires (
+  peek-reads.Asked,
+  peek-reads.Learnt,
+  refuse-reads.Asked,
+  refuse-reads.Learnt,
+  mark-reads.Asked,
+  mark-reads.Learnt,
+  at-head-below t,
+  at-head.Post,
+) (at-pat-at t) at-pat.Post
+at-pat-at-head-requires t c κs =
+    let falls = c .before .before .before .before .before .before .before .before .before .before .before .before .before .before .pre .0 in
+    let pre0 = c .before .before .before .before .before .before .before .before .before .before .before .before .before .before .pre .1 in
+    let peek = rw (c .before .before .before .before .before .k .given .1) at (c .before .before .before .before .before .before .before .peek .ensures) in
+    let if1 = c .before .before .before .if1 .left in
+    let mark = c .before .before .mark .ensures in
+    let mark-ok = ok-marks mark pre0 in
+    search asks depth 8
+
+at-pat-same-length : (t : ℕ) → at-pat-lts.Need-same-length (
+  peek-reads.Asked,
+  peek-reads.Learnt,
+  refuse-reads.Asked,
+  refuse-reads.Learnt,
+  mark-reads.Asked,
+  mark-reads.Learnt,
+  at-head-below t,
+  at-head.Post,
+) (at-pat-at t) at-pat.Post
+at-pat-same-length t c =
+    c .before .before .before .before .at-head .kept .1 .1 .1 .1 .0
+
+at-pat-same-length-2 : (t : ℕ) → at-pat-lts.Need-same-length-2 (
+  peek-reads.Asked,
+  peek-reads.Learnt,
+  refuse-reads.Asked,
+  refuse-reads.Learnt,
+  mark-reads.Asked,
+  mark-reads.Learnt,
+  at-head-below t,
+  at-head.Post,
+) (at-pat-at t) at-pat.Post
+at-pat-same-length-2 t c =
+    c .before .before .before .before .at-head .kept .1 .1 .1 .1 .1 .0
+
+at-pat-returns-3 : (t : ℕ) → at-pat-lts.Need-returns-3 (
+  peek-reads.Asked,
+  peek-reads.Learnt,
+  refuse-reads.Asked,
+  refuse-reads.Learnt,
+  mark-reads.Asked,
+  mark-reads.Learnt,
+  at-head-below t,
+  at-head.Post,
+) (at-pat-at t) at-pat.Post
+unfolding pat.atPat plan choose chosen
+at-pat-returns-3 t c =
+    let falls = c .before .before .before .before .before .before .before .before .before .before .before .before .before .before .before .before .before .before .before .pre .0 in
+    let pre0 = c .before .before .before .before .before .before .before .before .before .before .before .before .before .before .before .before .before .before .before .pre .1 in
+    let peek = rw (c .before .before .before .before .before .before .before .before .before .before .k .given .1) at (c .before .before .before .before .before .before .before .before .before .before .before .before .peek .ensures) in
+    let if1 = c .before .before .before .before .before .before .before .before .if1 .left in
+    let mark = c .before .before .before .before .before .before .before .mark .ensures in
+    let at-head = c .before .before .before .before .at-head .ensures in
+    λ g. by-steps pre0 (λ b. s-look peek (s-mark if1 mark (s-by _ at-head s-end)))
+
+at-pat-l-round-at-requires : (t : ℕ) → at-pat-l-round-lts.Need-at-requires (
+  at-reads.Asked,
+  at-reads.Learnt,
+  bump-reads.Asked,
+  bump-reads.Learnt,
+  close-reads.Asked,
+  close-reads.Learnt,
+  pat-arg-below t,
+  pat-arg.Post,
+  pat-args-below t,
+  pat-args.Post,
+) (at-pat-l-round-at t) at-pat-l-round.Post
+at-pat-l-round-at-requires t c κs =
+    let falls = c .before .before .before .before .before .before .pre .0 in
+    let pre0 = c .before .before .before .before .before .before .pre .1 .0 in
+    let pre1 = c .before .before .before .before .before .before .pre .1 .1 in
+    search asks depth 8
+
+at-pat-l-round-bump-requires : (t : ℕ) → at-pat-l-round-lts.Need-bump-requires (
+  at-reads.Asked,
+  at-reads.Learnt,
+  bump-reads.Asked,
+  bump-reads.Learnt,
+  close-reads.Asked,
+  close-reads.Learnt,
+  pat-arg-below t,
+  pat-arg.Post,
+  pat-args-below t,
+  pat-args.Post,
+) (at-pat-l-round-at t) at-pat-l-round.Post
+at-pat-l-round-bump-requires t c κs =
+    let falls = c .before .before .before .before .before .before .before .before .before .pre .0 in
+    let pre0 = c .before .before .before .before .before .before .before .before .before .pre .1 .0 in
+    let pre1 = c .before .before .before .before .before .before .before .before .before .pre .1 .1 in
+    let at = c .before .before .at .ensures in
+    let if1 = c .before .if1 .taken in
+    search asks depth 8
+
+at-pat-l-round-close-requires : (t : ℕ) → at-pat-l-round-lts.Need-close-requires (
+  at-reads.Asked,
+  at-reads.Learnt,
+  bump-reads.Asked,
+  bump-reads.Learnt,
+  close-reads.Asked,
+  close-reads.Learnt,
+  pat-arg-below t,
+  pat-arg.Post,
+  pat-args-below t,
+  pat-args.Post,
+) (at-pat-l-round-at t) at-pat-l-round.Post
+at-pat-l-round-close-requires t c κs =
+    let falls = c .before .before .before .before .before .before .before .before .before .before .before .before .before .pre .0 in
+    let pre0 = c .before .before .before .before .before .before .before .before .before .before .before .before .before .pre .1 .0 in
+    let pre1 = c .before .before .before .before .before .before .before .before .before .before .before .before .before .pre .1 .1 in
+    let at = c .before .before .before .before .before .before .at .ensures in
+    let if1 = c .before .before .before .before .before .if1 .taken in
+    let bump = c .before .before .before .bump .ensures in
+    let bump-ok = ok-bumps bump pre0 in
+    search asks depth 8
+
+at-pat-l-round-same-length : (t : ℕ) → at-pat-l-round-lts.Need-same-length (
+  at-reads.Asked,
+  at-reads.Learnt,
+  bump-reads.Asked,
+  bump-reads.Learnt,
+  close-reads.Asked,
+  close-reads.Learnt,
+  pat-arg-below t,
+  pat-arg.Post,
+  pat-args-below t,
+  pat-args.Post,
+) (at-pat-l-round-at t) at-pat-l-round.Post
+at-pat-l-round-same-length t c =
+    c .before .before .close .kept .0 ∙ c .before .before .before .before .before .before .bump .kept .1 .0
+
+at-pat-l-round-returns : (t : ℕ) → at-pat-l-round-lts.Need-returns (
+  at-reads.Asked,
+  at-reads.Learnt,
+  bump-reads.Asked,
+  bump-reads.Learnt,
+  close-reads.Asked,
+  close-reads.Learnt,
+  pat-arg-below t,
+  pat-arg.Post,
+  pat-args-below t,
+  pat-args.Post,
+) (at-pat-l-round-at t) at-pat-l-round.Post
+unfolding pat.atPatLRound util.endSep plan choose chosen
+at-pat-l-round-returns t c =
+    let falls = c .before .before .before .before .before .before .before .before .before .before .before .before .before .before .before .before .pre .0 in
+    let pre0 = c .before .before .before .before .before .before .before .before .before .before .before .before .before .before .before .before .pre .1 .0 in
+    let pre1 = c .before .before .before .before .before .before .before .before .before .before .before .before .before .before .before .before .pre .1 .1 in
+    let at = c .before .before .before .before .before .before .before .before .before .at .ensures in
+    let if1 = c .before .before .before .before .before .before .before .before .if1 .taken in
+    let bump = c .before .before .before .before .before .before .bump .ensures in
+    let close = c .before .before .close .ensures in
+    in-steps pre0 (s-kind (s-true _ _ (kind-at _ _ _ _ at if1) (s-bump bump (s-close close s-end))))
+
+at-pat-l-round-pat-arg-requires : (t : ℕ) → at-pat-l-round-lts.Need-pat-arg-requires (
+  at-reads.Asked,
+  at-reads.Learnt,
+  bump-reads.Asked,
+  bump-reads.Learnt,
+  close-reads.Asked,
+  close-reads.Learnt,
+  pat-arg-below t,
+  pat-arg.Post,
+  pat-args-below t,
+  pat-args.Post,
+) (at-pat-l-round-at t) at-pat-l-round.Post
+at-pat-l-round-pat-arg-requires t c κs =
+    let falls = c .before .before .before .before .before .before .before .before .before .before .pre .0 in
+    let pre0 = c .before .before .before .before .before .before .before .before .before .before .pre .1 .0 in
+    let pre1 = c .before .before .before .before .before .before .before .before .before .before .pre .1 .1 in
+    let at = c .before .before .before .at .ensures in
+    let if1 = c .before .before .if1 .left in
+    search asks depth 8
+
+at-pat-l-round-enum-known-first : (t : ℕ) → at-pat-l-round-lts.Need-enum-known-first (
+  at-reads.Asked,
+  at-reads.Learnt,
+  bump-reads.Asked,
+  bump-reads.Learnt,
+  close-reads.Asked,
+  close-reads.Learnt,
+  pat-arg-below t,
+  pat-arg.Post,
+  pat-args-below t,
+  pat-args.Post,
+) (at-pat-l-round-at t) at-pat-l-round.Post
+at-pat-l-round-enum-known-first t c =
+    let falls = c .before .before .before .before .before .before .before .before .before .before .before .before .before .before .before .before .pre .0 in
+    let pre0 = c .before .before .before .before .before .before .before .before .before .before .before .before .before .before .before .before .pre .1 .0 in
+    let pre1 = c .before .before .before .before .before .before .before .before .before .before .before .before .before .before .before .before .pre .1 .1 in
+    let if1 = c .before .before .before .before .before .before .before .before .if1 .left in
+    search needs
+
+at-pat-l-round-pat-args-requires : (t : ℕ) → at-pat-l-round-lts.Need-pat-args-requires (
+  at-reads.Asked,
+  at-reads.Learnt,
+  bump-reads.Asked,
+  bump-reads.Learnt,
+  close-reads.Asked,
+  close-reads.Learnt,
+  pat-arg-below t,
+  pat-arg.Post,
+  pat-args-below t,
+  pat-args.Post,
+) (at-pat-l-round-at t) at-pat-l-round.Post
+at-pat-l-round-pat-args-requires t c κs =
+    let falls = c .before .before .before .before .before .before .before .before .before .before .before .before .before .before .before .before .before .before .before .before .pre .0 in
+    let pre0 = c .before .before .before .before .before .before .before .before .before .before .before .before .before .before .before .before .before .before .before .before .pre .1 .0 in
+    let pre1 = c .before .before .before .before .before .before .before .before .before .before .before .before .before .before .before .before .before .before .before .before .pre .1 .1 in
+    let at = c .before .before .before .before .before .before .before .before .before .before .before .before .before .at .ensures in
+    let if1 = c .before .before .before .before .before .before .before .before .before .before .before .before .if1 .left in
+    let pat-arg = rw (c .before .before .before .first .given .1) at (c .before .before .before .before .before .before .before .before .before .pat-arg .ensures) in
+    let pat-arg-ok = pat-arg .ok in
+    search asks depth 8
+
+at-pat-l-round-close-requires-2 : (t : ℕ) → at-pat-l-round-lts.Need-close-requires-2 (
+  at-reads.Asked,
+  at-reads.Learnt,
+  bump-reads.Asked,
+  bump-reads.Learnt,
+  close-reads.Asked,
+  close-reads.Learnt,
+  pat-arg-below t,
+  pat-arg.Post,
+  pat-args-below t,
+  pat-args.Post,
+) (at-pat-l-round-at t) at-pat-l-round.Post
+at-pat-l-round-close-requires-2 t c κs =
+    let falls = c .before .before .before .before .before .before .before .before .before .before .before .before .before .before .before .before .before .before .before .before .before .before .before .before .before .before .pre .0 in
+    let pre0 = c .before .before .before .before .before .before .before .before .before .before .before .before .before .before .before .before .before .before .before .before .before .before .before .before .before .before .pre .1 .0 in
+    let pre1 = c .before .before .before .before .before .before .before .before .before .before .before .before .before .before .before .before .before .before .before .before .before .before .before .before .before .before .pre .1 .1 in
+    let at = c .before .before .before .before .before .before .before .before .before .before .before .before .before .before .before .before .before .before .before .at .ensures in
+    let if1 = c .before .before .before .before .before .before .before .before .before .before .before .before .before .before .before .before .before .before .if1 .left in
+    let pat-arg = rw (c .before .before .before .before .before .before .before .before .before .first .given .1) at (c .before .before .before .before .before .before .before .before .before .before .before .before .before .before .before .pat-arg .ensures) in
+    let pat-arg-ok = pat-arg .ok in
+    let pat-args = c .before .before .before .before .before .pat-args .ensures in
+    let pat-args-ok = pat-args .ok in
+    search asks depth 8
+
+at-pat-l-round-enum-known-first-2 : (t : ℕ) → at-pat-l-round-lts.Need-enum-known-first-2 (
+  at-reads.Asked,
+  at-reads.Learnt,
+  bump-reads.Asked,
+  bump-reads.Learnt,
+  close-reads.Asked,
+  close-reads.Learnt,
+  pat-arg-below t,
+  pat-arg.Post,
+  pat-args-below t,
+  pat-args.Post,
+) (at-pat-l-round-at t) at-pat-l-round.Post
+at-pat-l-round-enum-known-first-2 t c =
+    let falls = c .before .before .before .before .before .before .before .before .before .before .before .before .before .before .before .before .pre .0 in
+    let pre0 = c .before .before .before .before .before .before .before .before .before .before .before .before .before .before .before .before .pre .1 .0 in
+    let pre1 = c .before .before .before .before .before .before .before .before .before .before .before .before .before .before .before .before .pre .1 .1 in
+    let if1 = c .before .before .before .before .before .before .before .before .if1 .left in
+    search needs
+
+at-pat-l-round-bump-requires-2 : (t : ℕ) → at-pat-l-round-lts.Need-bump-requires-2 (
+  at-reads.Asked,
+  at-reads.Learnt,
+  bump-reads.Asked,
+  bump-reads.Learnt,
+  close-reads.Asked,
+  close-reads.Learnt,
+  pat-arg-below t,
+  pat-arg.Post,
+  pat-args-below t,
+  pat-args.Post,
+) (at-pat-l-round-at t) at-pat-l-round.Post
+at-pat-l-round-bump-requires-2 t c κs =
+    let falls = c .before .before .before .before .before .before .before .before .before .before .before .before .before .before .before .before .before .before .before .pre .0 in
+    let pre0 = c .before .before .before .before .before .before .before .before .before .before .before .before .before .before .before .before .before .before .before .pre .1 .0 in
+    let pre1 = c .before .before .before .before .before .before .before .before .before .before .before .before .before .before .before .before .before .before .before .pre .1 .1 in
+    let at = c .before .before .before .before .before .before .before .before .before .before .before .before .at .ensures in
+    let if1 = c .before .before .before .before .before .before .before .before .before .before .before .if1 .left in
+    let pat-arg = rw (c .before .before .first2 .given .1) at (c .before .before .before .before .before .before .before .before .pat-arg .ensures) in
+    let pat-arg-ok = pat-arg .ok in
+    search asks depth 8
+
+at-pat-l-round-close-requires-3 : (t : ℕ) → at-pat-l-round-lts.Need-close-requires-3 (
+  at-reads.Asked,
+  at-reads.Learnt,
+  bump-reads.Asked,
+  bump-reads.Learnt,
+  close-reads.Asked,
+  close-reads.Learnt,
+  pat-arg-below t,
+  pat-arg.Post,
+  pat-args-below t,
+  pat-args.Post,
+) (at-pat-l-round-at t) at-pat-l-round.Post
+at-pat-l-round-close-requires-3 t c κs =
+    let falls = c .before .before .before .before .before .before .before .before .before .before .before .before .before .before .before .before .before .before .before .before .before .before .before .pre .0 in
+    let pre0 = c .before .before .before .before .before .before .before .before .before .before .before .before .before .before .before .before .before .before .before .before .before .before .before .pre .1 .0 in
+    let pre1 = c .before .before .before .before .before .before .before .before .before .before .before .before .before .before .before .before .before .before .before .before .before .before .before .pre .1 .1 in
+    let at = c .before .before .before .before .before .before .before .before .before .before .before .before .before .before .before .before .at .ensures in
+    let if1 = c .before .before .before .before .before .before .before .before .before .before .before .before .before .before .before .if1 .left in
+    let pat-arg = rw (c .before .before .before .before .before .before .first2 .given .1) at (c .before .before .before .before .before .before .before .before .before .before .before .before .pat-arg .ensures) in
+    let pat-arg-ok = pat-arg .ok in
+    let bump2 = c .before .before .before .bump2 .ensures in
+    let bump2-ok = ok-bumps bump2 pat-arg-ok in
+    search asks depth 8
+
+at-pat-l-round-same-length-2 : (t : ℕ) → at-pat-l-round-lts.Need-same-length-2 (
+  at-reads.Asked,
+  at-reads.Learnt,
+  bump-reads.Asked,
+  bump-reads.Learnt,
+  close-reads.Asked,
+  close-reads.Learnt,
+  pat-arg-below t,
+  pat-arg.Post,
+  pat-args-below t,
+  pat-args.Post,
+) (at-pat-l-round-at t) at-pat-l-round.Post
+at-pat-l-round-same-length-2 t c =
+    c .before .before .close2 .kept .0 ∙ c .before .before .before .before .before .before .before .before .pat-args .kept .1 .1 .1 .1 .0 ∙ c .before .before .before .before .before .before .before .before .before .before .before .before .before .before .before .before .before .before .pat-arg .kept .1 .1 .1 .1 .0
+
+at-pat-l-round-same-length-3 : (t : ℕ) → at-pat-l-round-lts.Need-same-length-3 (
+  at-reads.Asked,
+  at-reads.Learnt,
+  bump-reads.Asked,
+  bump-reads.Learnt,
+  close-reads.Asked,
+  close-reads.Learnt,
+  pat-arg-below t,
+  pat-arg.Post,
+  pat-args-below t,
+  pat-args.Post,
+) (at-pat-l-round-at t) at-pat-l-round.Post
+at-pat-l-round-same-length-3 t c =
+    c .before .before .before .before .before .before .before .before .pat-args .kept .1 .1 .1 .1 .1 .0 ∙ c .before .before .before .before .before .before .before .before .before .before .before .before .before .before .before .before .before .before .pat-arg .kept .1 .1 .1 .1 .1 .0
+
+at-pat-l-round-returns-2 : (t : ℕ) → at-pat-l-round-lts.Need-returns-2 (
+  at-reads.Asked,
+  at-reads.Learnt,
+  bump-reads.Asked,
+  bump-reads.Learnt,
+  close-reads.Asked,
+  close-reads.Learnt,
+  pat-arg-below t,
+  pat-arg.Post,
+  pat-args-below t,
+  pat-args.Post,
+) (at-pat-l-round-at t) at-pat-l-round.Post
+unfolding pat.atPatLRound util.endSep plan choose chosen
+at-pat-l-round-returns-2 t c =
+    let falls = c .before .before .before .before .before .before .before .before .before .before .before .before .before .before .before .before .before .before .before .before .before .before .before .before .before .before .before .before .before .pre .0 in
+    let pre0 = c .before .before .before .before .before .before .before .before .before .before .before .before .before .before .before .before .before .before .before .before .before .before .before .before .before .before .before .before .before .pre .1 .0 in
+    let pre1 = c .before .before .before .before .before .before .before .before .before .before .before .before .before .before .before .before .before .before .before .before .before .before .before .before .before .before .before .before .before .pre .1 .1 in
+    let at = c .before .before .before .before .before .before .before .before .before .before .before .before .before .before .before .before .before .before .before .before .before .before .at .ensures in
+    let if1 = c .before .before .before .before .before .before .before .before .before .before .before .before .before .before .before .before .before .before .before .before .before .if1 .left in
+    let pat-arg = rw (c .before .before .before .before .before .before .before .before .before .before .before .before .first .given .1) at (c .before .before .before .before .before .before .before .before .before .before .before .before .before .before .before .before .before .before .pat-arg .ensures) in
+    let pat-args = c .before .before .before .before .before .before .before .before .pat-args .ensures in
+    let close2 = c .before .before .close2 .ensures in
+    in-steps pre0 (s-kind (s-false _ _ (kind-off _ _ _ _ at if1) (s-by _ (runs-in pat-arg) (s-run pat-args (s-close close2 s-end)))))
+
+at-pat-l-round-same-length-4 : (t : ℕ) → at-pat-l-round-lts.Need-same-length-4 (
+  at-reads.Asked,
+  at-reads.Learnt,
+  bump-reads.Asked,
+  bump-reads.Learnt,
+  close-reads.Asked,
+  close-reads.Learnt,
+  pat-arg-below t,
+  pat-arg.Post,
+  pat-args-below t,
+  pat-args.Post,
+) (at-pat-l-round-at t) at-pat-l-round.Post
+at-pat-l-round-same-length-4 t c =
+    c .before .before .close3 .kept .0 ∙ c .before .before .before .before .before .before .bump2 .kept .1 .0 ∙ c .before .before .before .before .before .before .before .before .before .before .before .before .before .before .before .pat-arg .kept .1 .1 .1 .1 .0
+
+at-pat-l-round-same-length-5 : (t : ℕ) → at-pat-l-round-lts.Need-same-length-5 (
+  at-reads.Asked,
+  at-reads.Learnt,
+  bump-reads.Asked,
+  bump-reads.Learnt,
+  close-reads.Asked,
+  close-reads.Learnt,
+  pat-arg-below t,
+  pat-arg.Post,
+  pat-args-below t,
+  pat-args.Post,
+) (at-pat-l-round-at t) at-pat-l-round.Post
+at-pat-l-round-same-length-5 t c =
+    c .before .before .before .before .before .before .before .before .before .before .before .before .before .before .before .pat-arg .kept .1 .1 .1 .1 .1 .0
+
+at-pat-l-round-returns-3 : (t : ℕ) → at-pat-l-round-lts.Need-returns-3 (
+  at-reads.Asked,
+  at-reads.Learnt,
+  bump-reads.Asked,
+  bump-reads.Learnt,
+  close-reads.Asked,
+  close-reads.Learnt,
+  pat-arg-below t,
+  pat-arg.Post,
+  pat-args-below t,
+  pat-args.Post,
+) (at-pat-l-round-at t) at-pat-l-round.Post
+unfolding pat.atPatLRound util.endSep plan choose chosen
+at-pat-l-round-returns-3 t c =
+    let falls = c .before .before .before .before .before .before .before .before .before .before .before .before .before .before .before .before .before .before .before .before .before .before .before .before .before .before .pre .0 in
+    let pre0 = c .before .before .before .before .before .before .before .before .before .before .before .before .before .before .before .before .before .before .before .before .before .before .before .before .before .before .pre .1 .0 in
+    let pre1 = c .before .before .before .before .before .before .before .before .before .before .before .before .before .before .before .before .before .before .before .before .before .before .before .before .before .before .pre .1 .1 in
+    let at = c .before .before .before .before .before .before .before .before .before .before .before .before .before .before .before .before .before .before .before .at .ensures in
+    let if1 = c .before .before .before .before .before .before .before .before .before .before .before .before .before .before .before .before .before .before .if1 .left in
+    let pat-arg = rw (c .before .before .before .before .before .before .before .before .before .first2 .given .1) at (c .before .before .before .before .before .before .before .before .before .before .before .before .before .before .before .pat-arg .ensures) in
+    let bump2 = c .before .before .before .before .before .before .bump2 .ensures in
+    let close3 = c .before .before .close3 .ensures in
+    in-steps pre0 (s-kind (s-false _ _ (kind-off _ _ _ _ at if1) (s-by _ (runs-in pat-arg) (s-bump bump2 (s-close close3 s-end)))))
+
+at-pat-must-at-pat-requires : (t : ℕ) → at-pat-must-lts.Need-at-pat-requires (
+  at-pat-below t,
+  at-pat.Post,
+  report-reads.Asked,
+  report-reads.Learnt,
+) (at-pat-must-at t) at-pat-must.Post
+at-pat-must-at-pat-requires t c κs =
+    let falls = c .before .before .before .before .before .before .before .before .pre .0 in
+    let pre0 = c .before .before .before .before .before .before .before .before .pre .1 in
+    search asks depth 8
+
+at-pat-must-enum-known-got : (t : ℕ) → at-pat-must-lts.Need-enum-known-got (
+  at-pat-below t,
+  at-pat.Post,
+  report-reads.Asked,
+  report-reads.Learnt,
+) (at-pat-must-at t) at-pat-must.Post
+at-pat-must-enum-known-got t c =
+    let falls = c .before .before .before .before .before .before .before .before .before .before .before .before .before .before .pre .0 in
+    let pre0 = c .before .before .before .before .before .before .before .before .before .before .before .before .before .before .pre .1 in
+    search needs
+
+at-pat-must-enum-known-got-2 : (t : ℕ) → at-pat-must-lts.Need-enum-known-got-2 (
+  at-pat-below t,
+  at-pat.Post,
+  report-reads.Asked,
+  report-reads.Learnt,
+) (at-pat-must-at t) at-pat-must.Post
+at-pat-must-enum-known-got-2 t c =
+    let falls = c .before .before .before .before .before .before .before .before .before .before .before .before .before .before .pre .0 in
+    let pre0 = c .before .before .before .before .before .before .before .before .before .before .before .before .before .before .pre .1 in
+    search needs
+
+at-pat-must-report-requires : (t : ℕ) → at-pat-must-lts.Need-report-requires (
+  at-pat-below t,
+  at-pat.Post,
+  report-reads.Asked,
+  report-reads.Learnt,
+) (at-pat-must-at t) at-pat-must.Post
+at-pat-must-report-requires t c κs =
+    let falls = c .before .before .before .before .before .before .before .before .before .before .before .before .before .before .before .before .before .pre .0 in
+    let pre0 = c .before .before .before .before .before .before .before .before .before .before .before .before .before .before .before .before .before .pre .1 in
+    let at-pat = rw (c .before .before .got2 .given .1) at (c .before .before .before .before .before .before .before .before .at-pat .ensures) in
+    let at-pat-ok = at-pat true .ok in
+    search asks depth 8
+
+at-pat-must-same-length : (t : ℕ) → at-pat-must-lts.Need-same-length (
+  at-pat-below t,
+  at-pat.Post,
+  report-reads.Asked,
+  report-reads.Learnt,
+) (at-pat-must-at t) at-pat-must.Post
+at-pat-must-same-length t c =
+    c .before .before .before .before .before .before .before .at-pat .kept .1 .1 .1 .1 .0
+
+at-pat-must-same-length-2 : (t : ℕ) → at-pat-must-lts.Need-same-length-2 (
+  at-pat-below t,
+  at-pat.Post,
+  report-reads.Asked,
+  report-reads.Learnt,
+) (at-pat-must-at t) at-pat-must.Post
+at-pat-must-same-length-2 t c =
+    c .before .before .before .before .before .before .before .at-pat .kept .1 .1 .1 .1 .1 .0
+
+at-pat-must-returns : (t : ℕ) → at-pat-must-lts.Need-returns (
+  at-pat-below t,
+  at-pat.Post,
+  report-reads.Asked,
+  report-reads.Learnt,
+) (at-pat-must-at t) at-pat-must.Post
+unfolding pat.atPatMust plan choose chosen
+at-pat-must-returns t c =
+    let falls = c .before .before .before .before .before .before .before .before .before .before .before .before .before .before .before .before .pre .0 in
+    let pre0 = c .before .before .before .before .before .before .before .before .before .before .before .before .before .before .before .before .pre .1 in
+    let at-pat = rw (c .before .got .given .1) at (c .before .before .before .before .before .before .before .at-pat .ensures) in
+    by-steps pre0 (λ b. s-by _ (runs-in (at-pat _)) s-end)
+
+at-pat-must-same-length-3 : (t : ℕ) → at-pat-must-lts.Need-same-length-3 (
+  at-pat-below t,
+  at-pat.Post,
+  report-reads.Asked,
+  report-reads.Learnt,
+) (at-pat-must-at t) at-pat-must.Post
+at-pat-must-same-length-3 t c =
+    c .before .before .before .before .before .before .before .before .before .before .before .at-pat .kept .1 .1 .1 .1 .0
+
+at-pat-must-same-length-4 : (t : ℕ) → at-pat-must-lts.Need-same-length-4 (
+  at-pat-below t,
+  at-pat.Post,
+  report-reads.Asked,
+  report-reads.Learnt,
+) (at-pat-must-at t) at-pat-must.Post
+at-pat-must-same-length-4 t c =
+    c .before .before .report .kept .0 ∙ c .before .before .before .before .before .before .before .before .before .before .before .at-pat .kept .1 .1 .1 .1 .1 .0
+
+at-pat-must-returns-2 : (t : ℕ) → at-pat-must-lts.Need-returns-2 (
+  at-pat-below t,
+  at-pat.Post,
+  report-reads.Asked,
+  report-reads.Learnt,
+) (at-pat-must-at t) at-pat-must.Post
+unfolding pat.atPatMust plan choose chosen
+at-pat-must-returns-2 t c =
+    let falls = c .before .before .before .before .before .before .before .before .before .before .before .before .before .before .before .before .before .before .before .before .pre .0 in
+    let pre0 = c .before .before .before .before .before .before .before .before .before .before .before .before .before .before .before .before .before .before .before .before .pre .1 in
+    let at-pat = rw (c .before .before .before .before .before .got2 .given .1) at (c .before .before .before .before .before .before .before .before .before .before .before .at-pat .ensures) in
+    let report = c .before .before .report .ensures in
+    by-steps pre0 (λ b. s-by _ (runs-in (at-pat _)) (s-report report s-end))
+
+at-rest-bump-requires : (t : ℕ) → at-rest-lts.Need-bump-requires (
+  bump-reads.Asked,
+  bump-reads.Learnt,
+  pat-rows-below t,
+  pat-rows.Post,
+  close-reads.Asked,
+  close-reads.Learnt,
+  at-pat-l-round-below t,
+  at-pat-l-round.Post,
+  pat-args-below t,
+  pat-args.Post,
+  vector-below t,
+  vector.Post,
+) (at-rest-at t) at-rest.Post
+at-rest-bump-requires t c κs =
+    let falls = c .before .before .before .before .before .before .before .before .pre .0 in
+    let pre0 = c .before .before .before .before .before .before .before .before .pre .1 .0 in
+    let pre1 = c .before .before .before .before .before .before .before .before .pre .1 .1 in
+    let if1 = c .before .if1 .taken in
+    search asks depth 8
+
+at-rest-pat-rows-requires : (t : ℕ) → at-rest-lts.Need-pat-rows-requires (
+  bump-reads.Asked,
+  bump-reads.Learnt,
+  pat-rows-below t,
+  pat-rows.Post,
+  close-reads.Asked,
+  close-reads.Learnt,
+  at-pat-l-round-below t,
+  at-pat-l-round.Post,
+  pat-args-below t,
+  pat-args.Post,
+  vector-below t,
+  vector.Post,
+) (at-rest-at t) at-rest.Post
+at-rest-pat-rows-requires t c κs =
+    let falls = c .before .before .before .before .before .before .before .before .before .before .before .before .before .pre .0 in
+    let pre0 = c .before .before .before .before .before .before .before .before .before .before .before .before .before .pre .1 .0 in
+    let pre1 = c .before .before .before .before .before .before .before .before .before .before .before .before .before .pre .1 .1 in
+    let if1 = c .before .before .before .before .before .before .if1 .taken in
+    let bump = c .before .before .before .before .bump .ensures in
+    let bump-ok = ok-bumps bump pre0 in
+    search asks depth 8
+
+at-rest-close-requires : (t : ℕ) → at-rest-lts.Need-close-requires (
+  bump-reads.Asked,
+  bump-reads.Learnt,
+  pat-rows-below t,
+  pat-rows.Post,
+  close-reads.Asked,
+  close-reads.Learnt,
+  at-pat-l-round-below t,
+  at-pat-l-round.Post,
+  pat-args-below t,
+  pat-args.Post,
+  vector-below t,
+  vector.Post,
+) (at-rest-at t) at-rest.Post
+at-rest-close-requires t c κs =
+    let falls = c .before .before .before .before .before .before .before .before .before .before .before .before .before .before .before .before .before .before .before .pre .0 in
+    let pre0 = c .before .before .before .before .before .before .before .before .before .before .before .before .before .before .before .before .before .before .before .pre .1 .0 in
+    let pre1 = c .before .before .before .before .before .before .before .before .before .before .before .before .before .before .before .before .before .before .before .pre .1 .1 in
+    let if1 = c .before .before .before .before .before .before .before .before .before .before .before .before .if1 .taken in
+    let bump = c .before .before .before .before .before .before .before .before .before .before .bump .ensures in
+    let bump-ok = ok-bumps bump pre0 in
+    let pat-rows = c .before .before .before .before .before .pat-rows .ensures in
+    let pat-rows-ok = pat-rows .ok in
+    search asks depth 8
+
+at-rest-same-length : (t : ℕ) → at-rest-lts.Need-same-length (
+  bump-reads.Asked,
+  bump-reads.Learnt,
+  pat-rows-below t,
+  pat-rows.Post,
+  close-reads.Asked,
+  close-reads.Learnt,
+  at-pat-l-round-below t,
+  at-pat-l-round.Post,
+  pat-args-below t,
+  pat-args.Post,
+  vector-below t,
+  vector.Post,
+) (at-rest-at t) at-rest.Post
+at-rest-same-length t c =
+    c .before .before .close .kept .0 ∙ c .before .before .before .before .before .before .before .before .pat-rows .kept .1 .1 .1 .1 .0 ∙ c .before .before .before .before .before .before .before .before .before .before .before .before .before .bump .kept .1 .0
+
+at-rest-same-length-2 : (t : ℕ) → at-rest-lts.Need-same-length-2 (
+  bump-reads.Asked,
+  bump-reads.Learnt,
+  pat-rows-below t,
+  pat-rows.Post,
+  close-reads.Asked,
+  close-reads.Learnt,
+  at-pat-l-round-below t,
+  at-pat-l-round.Post,
+  pat-args-below t,
+  pat-args.Post,
+  vector-below t,
+  vector.Post,
+) (at-rest-at t) at-rest.Post
+at-rest-same-length-2 t c =
+    c .before .before .before .before .before .before .before .before .pat-rows .kept .1 .1 .1 .1 .1 .0
+
+at-rest-returns : (t : ℕ) → at-rest-lts.Need-returns (
+  bump-reads.Asked,
+  bump-reads.Learnt,
+  pat-rows-below t,
+  pat-rows.Post,
+  close-reads.Asked,
+  close-reads.Learnt,
+  at-pat-l-round-below t,
+  at-pat-l-round.Post,
+  pat-args-below t,
+  pat-args.Post,
+  vector-below t,
+  vector.Post,
+) (at-rest-at t) at-rest.Post
+unfolding pat.atPatRest util.endSep plan choose chosen
+at-rest-returns t c =
+    let falls = c .before .before .before .before .before .before .before .before .before .before .before .before .before .before .before .before .before .before .before .before .before .before .pre .0 in
+    let pre0 = c .before .before .before .before .before .before .before .before .before .before .before .before .before .before .before .before .before .before .before .before .before .before .pre .1 .0 in
+    let pre1 = c .before .before .before .before .before .before .before .before .before .before .before .before .before .before .before .before .before .before .before .before .before .before .pre .1 .1 in
+    let if1 = c .before .before .before .before .before .before .before .before .before .before .before .before .before .before .before .if1 .taken in
+    let bump = c .before .before .before .before .before .before .before .before .before .before .before .before .before .bump .ensures in
+    let pat-rows = c .before .before .before .before .before .before .before .before .pat-rows .ensures in
+    let close = c .before .before .close .ensures in
+    in-steps pre0 (s-true _ _ (kind-is if1) (s-bump bump (s-run pat-rows (s-close close s-end))))
+
+at-rest-bump-requires-2 : (t : ℕ) → at-rest-lts.Need-bump-requires-2 (
+  bump-reads.Asked,
+  bump-reads.Learnt,
+  pat-rows-below t,
+  pat-rows.Post,
+  close-reads.Asked,
+  close-reads.Learnt,
+  at-pat-l-round-below t,
+  at-pat-l-round.Post,
+  pat-args-below t,
+  pat-args.Post,
+  vector-below t,
+  vector.Post,
+) (at-rest-at t) at-rest.Post
+at-rest-bump-requires-2 t c κs =
+    let falls = c .before .before .before .before .before .before .before .before .before .pre .0 in
+    let pre0 = c .before .before .before .before .before .before .before .before .before .pre .1 .0 in
+    let pre1 = c .before .before .before .before .before .before .before .before .before .pre .1 .1 in
+    let if1 = c .before .before .if1 .left in
+    let if2 = c .before .if2 .taken in
+    search asks depth 8
+
+at-rest-at-pat-l-round-requires : (t : ℕ) → at-rest-lts.Need-at-pat-l-round-requires (
+  bump-reads.Asked,
+  bump-reads.Learnt,
+  pat-rows-below t,
+  pat-rows.Post,
+  close-reads.Asked,
+  close-reads.Learnt,
+  at-pat-l-round-below t,
+  at-pat-l-round.Post,
+  pat-args-below t,
+  pat-args.Post,
+  vector-below t,
+  vector.Post,
+) (at-rest-at t) at-rest.Post
+at-rest-at-pat-l-round-requires t c κs =
+    let falls = c .before .before .before .before .before .before .before .before .before .before .before .before .before .before .pre .0 in
+    let pre0 = c .before .before .before .before .before .before .before .before .before .before .before .before .before .before .pre .1 .0 in
+    let pre1 = c .before .before .before .before .before .before .before .before .before .before .before .before .before .before .pre .1 .1 in
+    let if1 = c .before .before .before .before .before .before .before .if1 .left in
+    let if2 = c .before .before .before .before .before .before .if2 .taken in
+    let bump2 = c .before .before .before .before .bump2 .ensures in
+    let bump2-ok = ok-bumps bump2 pre0 in
+    search asks depth 8
+
+at-rest-same-length-3 : (t : ℕ) → at-rest-lts.Need-same-length-3 (
+  bump-reads.Asked,
+  bump-reads.Learnt,
+  pat-rows-below t,
+  pat-rows.Post,
+  close-reads.Asked,
+  close-reads.Learnt,
+  at-pat-l-round-below t,
+  at-pat-l-round.Post,
+  pat-args-below t,
+  pat-args.Post,
+  vector-below t,
+  vector.Post,
+) (at-rest-at t) at-rest.Post
+at-rest-same-length-3 t c =
+    c .before .before .before .before .at-pat-l-round .kept .1 .1 .1 .1 .0 ∙ c .before .before .before .before .before .before .before .before .before .bump2 .kept .1 .0
+
+at-rest-same-length-4 : (t : ℕ) → at-rest-lts.Need-same-length-4 (
+  bump-reads.Asked,
+  bump-reads.Learnt,
+  pat-rows-below t,
+  pat-rows.Post,
+  close-reads.Asked,
+  close-reads.Learnt,
+  at-pat-l-round-below t,
+  at-pat-l-round.Post,
+  pat-args-below t,
+  pat-args.Post,
+  vector-below t,
+  vector.Post,
+) (at-rest-at t) at-rest.Post
+at-rest-same-length-4 t c =
+    c .before .before .before .before .at-pat-l-round .kept .1 .1 .1 .1 .1 .0
+
+at-rest-returns-2 : (t : ℕ) → at-rest-lts.Need-returns-2 (
+  bump-reads.Asked,
+  bump-reads.Learnt,
+  pat-rows-below t,
+  pat-rows.Post,
+  close-reads.Asked,
+  close-reads.Learnt,
+  at-pat-l-round-below t,
+  at-pat-l-round.Post,
+  pat-args-below t,
+  pat-args.Post,
+  vector-below t,
+  vector.Post,
+) (at-rest-at t) at-rest.Post
+unfolding pat.atPatRest util.endSep plan choose chosen
+at-rest-returns-2 t c =
+    let falls = c .before .before .before .before .before .before .before .before .before .before .before .before .before .before .before .before .before .before .before .pre .0 in
+    let pre0 = c .before .before .before .before .before .before .before .before .before .before .before .before .before .before .before .before .before .before .before .pre .1 .0 in
+    let pre1 = c .before .before .before .before .before .before .before .before .before .before .before .before .before .before .before .before .before .before .before .pre .1 .1 in
+    let if1 = c .before .before .before .before .before .before .before .before .before .before .before .before .if1 .left in
+    let if2 = c .before .before .before .before .before .before .before .before .before .before .before .if2 .taken in
+    let bump2 = c .before .before .before .before .before .before .before .before .before .bump2 .ensures in
+    let at-pat-l-round = c .before .before .before .before .at-pat-l-round .ensures in
+    in-steps pre0 (s-false _ _ (kind-not if1) (s-true _ _ (kind-is if2) (s-bump bump2 (s-by _ at-pat-l-round s-end))))
+
+at-rest-bump-requires-3 : (t : ℕ) → at-rest-lts.Need-bump-requires-3 (
+  bump-reads.Asked,
+  bump-reads.Learnt,
+  pat-rows-below t,
+  pat-rows.Post,
+  close-reads.Asked,
+  close-reads.Learnt,
+  at-pat-l-round-below t,
+  at-pat-l-round.Post,
+  pat-args-below t,
+  pat-args.Post,
+  vector-below t,
+  vector.Post,
+) (at-rest-at t) at-rest.Post
+at-rest-bump-requires-3 t c κs =
+    let falls = c .before .before .before .before .before .before .before .before .before .before .pre .0 in
+    let pre0 = c .before .before .before .before .before .before .before .before .before .before .pre .1 .0 in
+    let pre1 = c .before .before .before .before .before .before .before .before .before .before .pre .1 .1 in
+    let if1 = c .before .before .before .if1 .left in
+    let if2 = c .before .before .if2 .left in
+    let if3 = c .before .if3 .taken in
+    search asks depth 8
+
+at-rest-pat-args-requires : (t : ℕ) → at-rest-lts.Need-pat-args-requires (
+  bump-reads.Asked,
+  bump-reads.Learnt,
+  pat-rows-below t,
+  pat-rows.Post,
+  close-reads.Asked,
+  close-reads.Learnt,
+  at-pat-l-round-below t,
+  at-pat-l-round.Post,
+  pat-args-below t,
+  pat-args.Post,
+  vector-below t,
+  vector.Post,
+) (at-rest-at t) at-rest.Post
+at-rest-pat-args-requires t c κs =
+    let falls = c .before .before .before .before .before .before .before .before .before .before .before .before .before .before .before .pre .0 in
+    let pre0 = c .before .before .before .before .before .before .before .before .before .before .before .before .before .before .before .pre .1 .0 in
+    let pre1 = c .before .before .before .before .before .before .before .before .before .before .before .before .before .before .before .pre .1 .1 in
+    let if1 = c .before .before .before .before .before .before .before .before .if1 .left in
+    let if2 = c .before .before .before .before .before .before .before .if2 .left in
+    let if3 = c .before .before .before .before .before .before .if3 .taken in
+    let bump3 = c .before .before .before .before .bump3 .ensures in
+    let bump3-ok = ok-bumps bump3 pre0 in
+    search asks depth 8
+
+at-rest-close-requires-2 : (t : ℕ) → at-rest-lts.Need-close-requires-2 (
+  bump-reads.Asked,
+  bump-reads.Learnt,
+  pat-rows-below t,
+  pat-rows.Post,
+  close-reads.Asked,
+  close-reads.Learnt,
+  at-pat-l-round-below t,
+  at-pat-l-round.Post,
+  pat-args-below t,
+  pat-args.Post,
+  vector-below t,
+  vector.Post,
+) (at-rest-at t) at-rest.Post
+at-rest-close-requires-2 t c κs =
+    let falls = c .before .before .before .before .before .before .before .before .before .before .before .before .before .before .before .before .before .before .before .before .before .pre .0 in
+    let pre0 = c .before .before .before .before .before .before .before .before .before .before .before .before .before .before .before .before .before .before .before .before .before .pre .1 .0 in
+    let pre1 = c .before .before .before .before .before .before .before .before .before .before .before .before .before .before .before .before .before .before .before .before .before .pre .1 .1 in
+    let if1 = c .before .before .before .before .before .before .before .before .before .before .before .before .before .before .if1 .left in
+    let if2 = c .before .before .before .before .before .before .before .before .before .before .before .before .before .if2 .left in
+    let if3 = c .before .before .before .before .before .before .before .before .before .before .before .before .if3 .taken in
+    let bump3 = c .before .before .before .before .before .before .before .before .before .before .bump3 .ensures in
+    let bump3-ok = ok-bumps bump3 pre0 in
+    let pat-args = c .before .before .before .before .before .pat-args .ensures in
+    let pat-args-ok = pat-args .ok in
+    search asks depth 8
+
+at-rest-same-length-5 : (t : ℕ) → at-rest-lts.Need-same-length-5 (
+  bump-reads.Asked,
+  bump-reads.Learnt,
+  pat-rows-below t,
+  pat-rows.Post,
+  close-reads.Asked,
+  close-reads.Learnt,
+  at-pat-l-round-below t,
+  at-pat-l-round.Post,
+  pat-args-below t,
+  pat-args.Post,
+  vector-below t,
+  vector.Post,
+) (at-rest-at t) at-rest.Post
+at-rest-same-length-5 t c =
+    c .before .before .close2 .kept .0 ∙ c .before .before .before .before .before .before .before .before .pat-args .kept .1 .1 .1 .1 .0 ∙ c .before .before .before .before .before .before .before .before .before .before .before .before .before .bump3 .kept .1 .0
+
+at-rest-same-length-6 : (t : ℕ) → at-rest-lts.Need-same-length-6 (
+  bump-reads.Asked,
+  bump-reads.Learnt,
+  pat-rows-below t,
+  pat-rows.Post,
+  close-reads.Asked,
+  close-reads.Learnt,
+  at-pat-l-round-below t,
+  at-pat-l-round.Post,
+  pat-args-below t,
+  pat-args.Post,
+  vector-below t,
+  vector.Post,
+) (at-rest-at t) at-rest.Post
+at-rest-same-length-6 t c =
+    c .before .before .before .before .before .before .before .before .pat-args .kept .1 .1 .1 .1 .1 .0
+
+at-rest-returns-3 : (t : ℕ) → at-rest-lts.Need-returns-3 (
+  bump-reads.Asked,
+  bump-reads.Learnt,
+  pat-rows-below t,
+  pat-rows.Post,
+  close-reads.Asked,
+  close-reads.Learnt,
+  at-pat-l-round-below t,
+  at-pat-l-round.Post,
+  pat-args-below t,
+  pat-args.Post,
+  vector-below t,
+  vector.Post,
+) (at-rest-at t) at-rest.Post
+unfolding pat.atPatRest util.endSep plan choose chosen
+at-rest-returns-3 t c =
+    let falls = c .before .before .before .before .before .before .before .before .before .before .before .before .before .before .before .before .before .before .before .before .before .before .before .before .pre .0 in
+    let pre0 = c .before .before .before .before .before .before .before .before .before .before .before .before .before .before .before .before .before .before .before .before .before .before .before .before .pre .1 .0 in
+    let pre1 = c .before .before .before .before .before .before .before .before .before .before .before .before .before .before .before .before .before .before .before .before .before .before .before .before .pre .1 .1 in
+    let if1 = c .before .before .before .before .before .before .before .before .before .before .before .before .before .before .before .before .before .if1 .left in
+    let if2 = c .before .before .before .before .before .before .before .before .before .before .before .before .before .before .before .before .if2 .left in
+    let if3 = c .before .before .before .before .before .before .before .before .before .before .before .before .before .before .before .if3 .taken in
+    let bump3 = c .before .before .before .before .before .before .before .before .before .before .before .before .before .bump3 .ensures in
+    let pat-args = c .before .before .before .before .before .before .before .before .pat-args .ensures in
+    let close2 = c .before .before .close2 .ensures in
+    in-steps pre0 (s-false _ _ (kind-not if1) (s-false _ _ (kind-not if2) (s-true _ _ (kind-is if3) (s-bump bump3 (s-run pat-args (s-close close2 s-end))))))
+
+at-rest-bump-requires-4 : (t : ℕ) → at-rest-lts.Need-bump-requires-4 (
+  bump-reads.Asked,
+  bump-reads.Learnt,
+  pat-rows-below t,
+  pat-rows.Post,
+  close-reads.Asked,
+  close-reads.Learnt,
+  at-pat-l-round-below t,
+  at-pat-l-round.Post,
+  pat-args-below t,
+  pat-args.Post,
+  vector-below t,
+  vector.Post,
+) (at-rest-at t) at-rest.Post
+at-rest-bump-requires-4 t c κs =
+    let falls = c .before .before .before .before .before .before .before .before .before .before .before .pre .0 in
+    let pre0 = c .before .before .before .before .before .before .before .before .before .before .before .pre .1 .0 in
+    let pre1 = c .before .before .before .before .before .before .before .before .before .before .before .pre .1 .1 in
+    let if1 = c .before .before .before .before .if1 .left in
+    let if2 = c .before .before .before .if2 .left in
+    let if3 = c .before .before .if3 .left in
+    let if4 = c .before .if4 .taken in
+    search asks depth 8
+
+at-rest-vector-requires : (t : ℕ) → at-rest-lts.Need-vector-requires (
+  bump-reads.Asked,
+  bump-reads.Learnt,
+  pat-rows-below t,
+  pat-rows.Post,
+  close-reads.Asked,
+  close-reads.Learnt,
+  at-pat-l-round-below t,
+  at-pat-l-round.Post,
+  pat-args-below t,
+  pat-args.Post,
+  vector-below t,
+  vector.Post,
+) (at-rest-at t) at-rest.Post
+at-rest-vector-requires t c κs =
+    let falls = c .before .before .before .before .before .before .before .before .before .before .before .before .before .before .before .before .pre .0 in
+    let pre0 = c .before .before .before .before .before .before .before .before .before .before .before .before .before .before .before .before .pre .1 .0 in
+    let pre1 = c .before .before .before .before .before .before .before .before .before .before .before .before .before .before .before .before .pre .1 .1 in
+    let if1 = c .before .before .before .before .before .before .before .before .before .if1 .left in
+    let if2 = c .before .before .before .before .before .before .before .before .if2 .left in
+    let if3 = c .before .before .before .before .before .before .before .if3 .left in
+    let if4 = c .before .before .before .before .before .before .if4 .taken in
+    let bump4 = c .before .before .before .before .bump4 .ensures in
+    let bump4-ok = ok-bumps bump4 pre0 in
+    search asks depth 8
+
+at-rest-close-requires-3 : (t : ℕ) → at-rest-lts.Need-close-requires-3 (
+  bump-reads.Asked,
+  bump-reads.Learnt,
+  pat-rows-below t,
+  pat-rows.Post,
+  close-reads.Asked,
+  close-reads.Learnt,
+  at-pat-l-round-below t,
+  at-pat-l-round.Post,
+  pat-args-below t,
+  pat-args.Post,
+  vector-below t,
+  vector.Post,
+) (at-rest-at t) at-rest.Post
+at-rest-close-requires-3 t c κs =
+    let falls = c .before .before .before .before .before .before .before .before .before .before .before .before .before .before .before .before .before .before .before .before .before .before .pre .0 in
+    let pre0 = c .before .before .before .before .before .before .before .before .before .before .before .before .before .before .before .before .before .before .before .before .before .before .pre .1 .0 in
+    let pre1 = c .before .before .before .before .before .before .before .before .before .before .before .before .before .before .before .before .before .before .before .before .before .before .pre .1 .1 in
+    let if1 = c .before .before .before .before .before .before .before .before .before .before .before .before .before .before .before .if1 .left in
+    let if2 = c .before .before .before .before .before .before .before .before .before .before .before .before .before .before .if2 .left in
+    let if3 = c .before .before .before .before .before .before .before .before .before .before .before .before .before .if3 .left in
+    let if4 = c .before .before .before .before .before .before .before .before .before .before .before .before .if4 .taken in
+    let bump4 = c .before .before .before .before .before .before .before .before .before .before .bump4 .ensures in
+    let bump4-ok = ok-bumps bump4 pre0 in
+    let vector = c .before .before .before .before .before .vector .ensures in
+    let vector-ok = vector .ok in
+    search asks depth 8
+
+at-rest-same-length-7 : (t : ℕ) → at-rest-lts.Need-same-length-7 (
+  bump-reads.Asked,
+  bump-reads.Learnt,
+  pat-rows-below t,
+  pat-rows.Post,
+  close-reads.Asked,
+  close-reads.Learnt,
+  at-pat-l-round-below t,
+  at-pat-l-round.Post,
+  pat-args-below t,
+  pat-args.Post,
+  vector-below t,
+  vector.Post,
+) (at-rest-at t) at-rest.Post
+at-rest-same-length-7 t c =
+    c .before .before .close3 .kept .0 ∙ c .before .before .before .before .before .before .before .before .vector .kept .1 .1 .1 .1 .0 ∙ c .before .before .before .before .before .before .before .before .before .before .before .before .before .bump4 .kept .1 .0
+
+at-rest-same-length-8 : (t : ℕ) → at-rest-lts.Need-same-length-8 (
+  bump-reads.Asked,
+  bump-reads.Learnt,
+  pat-rows-below t,
+  pat-rows.Post,
+  close-reads.Asked,
+  close-reads.Learnt,
+  at-pat-l-round-below t,
+  at-pat-l-round.Post,
+  pat-args-below t,
+  pat-args.Post,
+  vector-below t,
+  vector.Post,
+) (at-rest-at t) at-rest.Post
+at-rest-same-length-8 t c =
+    c .before .before .before .before .before .before .before .before .vector .kept .1 .1 .1 .1 .1 .0
+
+at-rest-returns-4 : (t : ℕ) → at-rest-lts.Need-returns-4 (
+  bump-reads.Asked,
+  bump-reads.Learnt,
+  pat-rows-below t,
+  pat-rows.Post,
+  close-reads.Asked,
+  close-reads.Learnt,
+  at-pat-l-round-below t,
+  at-pat-l-round.Post,
+  pat-args-below t,
+  pat-args.Post,
+  vector-below t,
+  vector.Post,
+) (at-rest-at t) at-rest.Post
+unfolding pat.atPatRest util.endSep plan choose chosen
+at-rest-returns-4 t c =
+    let falls = c .before .before .before .before .before .before .before .before .before .before .before .before .before .before .before .before .before .before .before .before .before .before .before .before .before .pre .0 in
+    let pre0 = c .before .before .before .before .before .before .before .before .before .before .before .before .before .before .before .before .before .before .before .before .before .before .before .before .before .pre .1 .0 in
+    let pre1 = c .before .before .before .before .before .before .before .before .before .before .before .before .before .before .before .before .before .before .before .before .before .before .before .before .before .pre .1 .1 in
+    let if1 = c .before .before .before .before .before .before .before .before .before .before .before .before .before .before .before .before .before .before .if1 .left in
+    let if2 = c .before .before .before .before .before .before .before .before .before .before .before .before .before .before .before .before .before .if2 .left in
+    let if3 = c .before .before .before .before .before .before .before .before .before .before .before .before .before .before .before .before .if3 .left in
+    let if4 = c .before .before .before .before .before .before .before .before .before .before .before .before .before .before .before .if4 .taken in
+    let bump4 = c .before .before .before .before .before .before .before .before .before .before .before .before .before .bump4 .ensures in
+    let vector = c .before .before .before .before .before .before .before .before .vector .ensures in
+    let close3 = c .before .before .close3 .ensures in
+    in-steps pre0 (s-false _ _ (kind-not if1) (s-false _ _ (kind-not if2) (s-false _ _ (kind-not if3) (s-true _ _ (kind-is if4) (s-bump bump4 (s-by _ (runs-in vector) (s-close close3 s-end)))))))
+
+at-rest-returns-5 : (t : ℕ) → at-rest-lts.Need-returns-5 (
+  bump-reads.Asked,
+  bump-reads.Learnt,
+  pat-rows-below t,
+  pat-rows.Post,
+  close-reads.Asked,
+  close-reads.Learnt,
+  at-pat-l-round-below t,
+  at-pat-l-round.Post,
+  pat-args-below t,
+  pat-args.Post,
+  vector-below t,
+  vector.Post,
+) (at-rest-at t) at-rest.Post
+unfolding pat.atPatRest util.endSep plan choose chosen
+at-rest-returns-5 t c =
+    let falls = c .before .before .before .before .before .before .before .before .before .before .pre .0 in
+    let pre0 = c .before .before .before .before .before .before .before .before .before .before .pre .1 .0 in
+    let pre1 = c .before .before .before .before .before .before .before .before .before .before .pre .1 .1 in
+    let if1 = c .before .before .before .if1 .left in
+    let if2 = c .before .before .if2 .left in
+    let if3 = c .before .if3 .left in
+    let if4 = c .if4 .left in
+    in-steps pre0 (s-false _ _ (kind-not if1) (s-false _ _ (kind-not if2) (s-false _ _ (kind-not if3) (s-false _ _ (kind-not if4) s-end))))
+
+atom-pat-at-pat-requires : (t : ℕ) → atom-pat-lts.Need-at-pat-requires (
+  at-pat-below t,
+  at-pat.Post,
+  pat-tail-below t,
+  pat-tail.Post,
+) (atom-pat-at t) atom-pat.Post
+atom-pat-at-pat-requires t c κs =
+    let falls = c .before .before .before .before .before .before .before .before .pre .0 in
+    let pre0 = c .before .before .before .before .before .before .before .before .pre .1 .0 in
+    let pre1 = c .before .before .before .before .before .before .before .before .pre .1 .1 in
+    search asks depth 8
+
+atom-pat-enum-known-got : (t : ℕ) → atom-pat-lts.Need-enum-known-got (
+  at-pat-below t,
+  at-pat.Post,
+  pat-tail-below t,
+  pat-tail.Post,
+) (atom-pat-at t) atom-pat.Post
+atom-pat-enum-known-got t c =
+    let falls = c .before .before .before .before .before .before .before .before .before .before .before .before .before .before .pre .0 in
+    let pre0 = c .before .before .before .before .before .before .before .before .before .before .before .before .before .before .pre .1 .0 in
+    let pre1 = c .before .before .before .before .before .before .before .before .before .before .before .before .before .before .pre .1 .1 in
+    search needs
+
+atom-pat-enum-known-got-2 : (t : ℕ) → atom-pat-lts.Need-enum-known-got-2 (
+  at-pat-below t,
+  at-pat.Post,
+  pat-tail-below t,
+  pat-tail.Post,
+) (atom-pat-at t) atom-pat.Post
+atom-pat-enum-known-got-2 t c =
+    let falls = c .before .before .before .before .before .before .before .before .before .before .before .before .before .before .pre .0 in
+    let pre0 = c .before .before .before .before .before .before .before .before .before .before .before .before .before .before .pre .1 .0 in
+    let pre1 = c .before .before .before .before .before .before .before .before .before .before .before .before .before .before .pre .1 .1 in
+    search needs
+
+atom-pat-pat-tail-requires : (t : ℕ) → atom-pat-lts.Need-pat-tail-requires (
+  at-pat-below t,
+  at-pat.Post,
+  pat-tail-below t,
+  pat-tail.Post,
+) (atom-pat-at t) atom-pat.Post
+atom-pat-pat-tail-requires t c κs =
+    let falls = c .before .before .before .before .before .before .before .before .before .before .before .before .before .before .before .before .before .before .pre .0 in
+    let pre0 = c .before .before .before .before .before .before .before .before .before .before .before .before .before .before .before .before .before .before .pre .1 .0 in
+    let pre1 = c .before .before .before .before .before .before .before .before .before .before .before .before .before .before .before .before .before .before .pre .1 .1 in
+    let at-pat = rw (c .before .before .before .got2 .given .1) at (c .before .before .before .before .before .before .before .before .before .at-pat .ensures) in
+    let at-pat-ok = at-pat true .ok in
+    search asks depth 8
+
+atom-pat-same-length : (t : ℕ) → atom-pat-lts.Need-same-length (
+  at-pat-below t,
+  at-pat.Post,
+  pat-tail-below t,
+  pat-tail.Post,
+) (atom-pat-at t) atom-pat.Post
+atom-pat-same-length t c =
+    c .before .before .before .before .before .before .before .at-pat .kept .1 .1 .1 .1 .0
+
+atom-pat-same-length-2 : (t : ℕ) → atom-pat-lts.Need-same-length-2 (
+  at-pat-below t,
+  at-pat.Post,
+  pat-tail-below t,
+  pat-tail.Post,
+) (atom-pat-at t) atom-pat.Post
+atom-pat-same-length-2 t c =
+    c .before .before .before .before .before .before .before .at-pat .kept .1 .1 .1 .1 .1 .0
+
+atom-pat-returns : (t : ℕ) → atom-pat-lts.Need-returns (
+  at-pat-below t,
+  at-pat.Post,
+  pat-tail-below t,
+  pat-tail.Post,
+) (atom-pat-at t) atom-pat.Post
+unfolding pat.atomPat plan choose chosen
+atom-pat-returns t c =
+    let falls = c .before .before .before .before .before .before .before .before .before .before .before .before .before .before .before .before .pre .0 in
+    let pre0 = c .before .before .before .before .before .before .before .before .before .before .before .before .before .before .before .before .pre .1 .0 in
+    let pre1 = c .before .before .before .before .before .before .before .before .before .before .before .before .before .before .before .before .pre .1 .1 in
+    let at-pat = rw (c .before .got .given .1) at (c .before .before .before .before .before .before .before .at-pat .ensures) in
+    in-steps pre0 (s-by _ (runs-in (at-pat _)) s-end)
+
+atom-pat-same-length-3 : (t : ℕ) → atom-pat-lts.Need-same-length-3 (
+  at-pat-below t,
+  at-pat.Post,
+  pat-tail-below t,
+  pat-tail.Post,
+) (atom-pat-at t) atom-pat.Post
+atom-pat-same-length-3 t c =
+    c .before .before .before .before .pat-tail .kept .1 .1 .1 .1 .0 ∙ c .before .before .before .before .before .before .before .before .before .before .before .before .before .before .at-pat .kept .1 .1 .1 .1 .0
+
+atom-pat-same-length-4 : (t : ℕ) → atom-pat-lts.Need-same-length-4 (
+  at-pat-below t,
+  at-pat.Post,
+  pat-tail-below t,
+  pat-tail.Post,
+) (atom-pat-at t) atom-pat.Post
+atom-pat-same-length-4 t c =
+    c .before .before .before .before .pat-tail .kept .1 .1 .1 .1 .1 .0 ∙ c .before .before .before .before .before .before .before .before .before .before .before .before .before .before .at-pat .kept .1 .1 .1 .1 .1 .0
+
+atom-pat-returns-2 : (t : ℕ) → atom-pat-lts.Need-returns-2 (
+  at-pat-below t,
+  at-pat.Post,
+  pat-tail-below t,
+  pat-tail.Post,
+) (atom-pat-at t) atom-pat.Post
+unfolding pat.atomPat plan choose chosen
+atom-pat-returns-2 t c =
+    let falls = c .before .before .before .before .before .before .before .before .before .before .before .before .before .before .before .before .before .before .before .before .before .before .before .pre .0 in
+    let pre0 = c .before .before .before .before .before .before .before .before .before .before .before .before .before .before .before .before .before .before .before .before .before .before .before .pre .1 .0 in
+    let pre1 = c .before .before .before .before .before .before .before .before .before .before .before .before .before .before .before .before .before .before .before .before .before .before .before .pre .1 .1 in
+    let at-pat = rw (c .before .before .before .before .before .before .before .before .got2 .given .1) at (c .before .before .before .before .before .before .before .before .before .before .before .before .before .before .at-pat .ensures) in
+    let pat-tail = c .before .before .before .before .pat-tail .ensures in
+    in-steps pre0 (s-by _ (runs-in (at-pat _)) (s-run pat-tail s-end))
+
+con-head-refuse-requires : (t : ℕ) → con-head-lts.Need-refuse-requires (
+  refuse-reads.Asked,
+  refuse-reads.Learnt,
+  mark-reads.Asked,
+  mark-reads.Learnt,
+  con-name-reads.Asked,
+  con-name-reads.Learnt,
+  state-reads.Asked,
+  state-reads.Learnt,
+  con-turn-below t,
+  con-turn.Post,
+) (con-head-at t) con-head.Post
+con-head-refuse-requires t c κs =
+    let falls = c .before .before .before .before .before .before .before .pre .0 in
+    let pre0 = c .before .before .before .before .before .before .before .pre .1 .0 in
+    let pre1 = c .before .before .before .before .before .before .before .pre .1 .1 in
+    let if1 = c .if1 .taken in
+    search asks depth 8
+
+con-head-returns : (t : ℕ) → con-head-lts.Need-returns (
+  refuse-reads.Asked,
+  refuse-reads.Learnt,
+  mark-reads.Asked,
+  mark-reads.Learnt,
+  con-name-reads.Asked,
+  con-name-reads.Learnt,
+  state-reads.Asked,
+  state-reads.Learnt,
+  con-turn-below t,
+  con-turn.Post,
+) (con-head-at t) con-head.Post
+unfolding pat.conHead plan choose chosen
+con-head-returns t c =
+    let falls = c .before .before .before .before .before .before .before .before .pre .0 in
+    let pre0 = c .before .before .before .before .before .before .before .before .pre .1 .0 in
+    let pre1 = c .before .before .before .before .before .before .before .before .pre .1 .1 in
+    let if1 = c .before .if1 .taken in
+    let refuse = c .refuse .ensures in
+    in-steps pre0 (s-deep if1 refuse s-end)
+
+con-head-mark-requires : (t : ℕ) → con-head-lts.Need-mark-requires (
+  refuse-reads.Asked,
+  refuse-reads.Learnt,
+  mark-reads.Asked,
+  mark-reads.Learnt,
+  con-name-reads.Asked,
+  con-name-reads.Learnt,
+  state-reads.Asked,
+  state-reads.Learnt,
+  con-turn-below t,
+  con-turn.Post,
+) (con-head-at t) con-head.Post
+con-head-mark-requires t c κs =
+    let falls = c .before .before .before .before .before .before .before .pre .0 in
+    let pre0 = c .before .before .before .before .before .before .before .pre .1 .0 in
+    let pre1 = c .before .before .before .before .before .before .before .pre .1 .1 in
+    let if1 = c .if1 .left in
+    search asks depth 8
+
+con-head-sub-con-name : (t : ℕ) → con-head-lts.Need-sub-con-name (
+  refuse-reads.Asked,
+  refuse-reads.Learnt,
+  mark-reads.Asked,
+  mark-reads.Learnt,
+  con-name-reads.Asked,
+  con-name-reads.Learnt,
+  state-reads.Asked,
+  state-reads.Learnt,
+  con-turn-below t,
+  con-turn.Post,
+) (con-head-at t) con-head.Post
+con-head-sub-con-name t c =
+    let falls = c .before .before .before .before .before .before .before .before .before .before .pre .0 in
+    let pre0 = c .before .before .before .before .before .before .before .before .before .before .pre .1 .0 in
+    let pre1 = c .before .before .before .before .before .before .before .before .before .before .pre .1 .1 in
+    let if1 = c .before .before .before .if1 .left in
+    search needs
+
+con-head-con-name-requires : (t : ℕ) → con-head-lts.Need-con-name-requires (
+  refuse-reads.Asked,
+  refuse-reads.Learnt,
+  mark-reads.Asked,
+  mark-reads.Learnt,
+  con-name-reads.Asked,
+  con-name-reads.Learnt,
+  state-reads.Asked,
+  state-reads.Learnt,
+  con-turn-below t,
+  con-turn.Post,
+) (con-head-at t) con-head.Post
+con-head-con-name-requires t c κs =
+    let falls = c .before .before .before .before .before .before .before .before .before .before .pre .0 in
+    let pre0 = c .before .before .before .before .before .before .before .before .before .before .pre .1 .0 in
+    let pre1 = c .before .before .before .before .before .before .before .before .before .before .pre .1 .1 in
+    let if1 = c .before .before .before .if1 .left in
+    let mark = c .before .before .mark .ensures in
+    let mark-ok = ok-marks mark pre0 in
+    search asks depth 8
+
+con-head-state-requires : (t : ℕ) → con-head-lts.Need-state-requires (
+  refuse-reads.Asked,
+  refuse-reads.Learnt,
+  mark-reads.Asked,
+  mark-reads.Learnt,
+  con-name-reads.Asked,
+  con-name-reads.Learnt,
+  state-reads.Asked,
+  state-reads.Learnt,
+  con-turn-below t,
+  con-turn.Post,
+) (con-head-at t) con-head.Post
+con-head-state-requires t c κs =
+    let falls = c .before .before .before .before .before .before .before .before .before .before .before .before .before .before .before .pre .0 in
+    let pre0 = c .before .before .before .before .before .before .before .before .before .before .before .before .before .before .before .pre .1 .0 in
+    let pre1 = c .before .before .before .before .before .before .before .before .before .before .before .before .before .before .before .pre .1 .1 in
+    let if1 = c .before .before .before .before .before .before .before .before .if1 .left in
+    let mark = c .before .before .before .before .before .before .before .mark .ensures in
+    let mark-ok = ok-marks mark pre0 in
+    let con-name = c .before .before .before .before .con-name .ensures in
+    let con-name-ok = con-name .ok in
+    search asks depth 8
+
+con-head-sub-con-turn : (t : ℕ) → con-head-lts.Need-sub-con-turn (
+  refuse-reads.Asked,
+  refuse-reads.Learnt,
+  mark-reads.Asked,
+  mark-reads.Learnt,
+  con-name-reads.Asked,
+  con-name-reads.Learnt,
+  state-reads.Asked,
+  state-reads.Learnt,
+  con-turn-below t,
+  con-turn.Post,
+) (con-head-at t) con-head.Post
+con-head-sub-con-turn t c =
+    let falls = c .before .before .before .before .before .before .before .before .before .before .before .before .before .before .before .before .before .before .pre .0 in
+    let pre0 = c .before .before .before .before .before .before .before .before .before .before .before .before .before .before .before .before .before .before .pre .1 .0 in
+    let pre1 = c .before .before .before .before .before .before .before .before .before .before .before .before .before .before .before .before .before .before .pre .1 .1 in
+    let if1 = c .before .before .before .before .before .before .before .before .before .before .before .if1 .left in
+    search needs
+
+con-head-con-turn-requires : (t : ℕ) → con-head-lts.Need-con-turn-requires (
+  refuse-reads.Asked,
+  refuse-reads.Learnt,
+  mark-reads.Asked,
+  mark-reads.Learnt,
+  con-name-reads.Asked,
+  con-name-reads.Learnt,
+  state-reads.Asked,
+  state-reads.Learnt,
+  con-turn-below t,
+  con-turn.Post,
+) (con-head-at t) con-head.Post
+con-head-con-turn-requires t c κs =
+    let falls = c .before .before .before .before .before .before .before .before .before .before .before .before .before .before .before .before .before .before .pre .0 in
+    let pre0 = c .before .before .before .before .before .before .before .before .before .before .before .before .before .before .before .before .before .before .pre .1 .0 in
+    let pre1 = c .before .before .before .before .before .before .before .before .before .before .before .before .before .before .before .before .before .before .pre .1 .1 in
+    let if1 = c .before .before .before .before .before .before .before .before .before .before .before .if1 .left in
+    let mark = c .before .before .before .before .before .before .before .before .before .before .mark .ensures in
+    let mark-ok = ok-marks mark pre0 in
+    let con-name = c .before .before .before .before .before .before .before .con-name .ensures in
+    let con-name-ok = con-name .ok in
+    let state = c .before .before .state .ensures in
+    let state-ok = ok-state state con-name-ok in
+    search asks depth 8
+
+con-head-same-length : (t : ℕ) → con-head-lts.Need-same-length (
+  refuse-reads.Asked,
+  refuse-reads.Learnt,
+  mark-reads.Asked,
+  mark-reads.Learnt,
+  con-name-reads.Asked,
+  con-name-reads.Learnt,
+  state-reads.Asked,
+  state-reads.Learnt,
+  con-turn-below t,
+  con-turn.Post,
+) (con-head-at t) con-head.Post
+con-head-same-length t c =
+    c .before .before .before .before .con-turn .kept .1 .1 .1 .1 .0 ∙ c .before .before .before .before .before .before .before .before .before .before .before .before .con-name .kept .1 .1 .1 .1 .0
+
+con-head-same-length-2 : (t : ℕ) → con-head-lts.Need-same-length-2 (
+  refuse-reads.Asked,
+  refuse-reads.Learnt,
+  mark-reads.Asked,
+  mark-reads.Learnt,
+  con-name-reads.Asked,
+  con-name-reads.Learnt,
+  state-reads.Asked,
+  state-reads.Learnt,
+  con-turn-below t,
+  con-turn.Post,
+) (con-head-at t) con-head.Post
+con-head-same-length-2 t c =
+    c .before .before .before .before .con-turn .kept .1 .1 .1 .1 .1 .0 ∙ c .before .before .before .before .before .before .before .before .before .before .before .before .con-name .kept .1 .1 .1 .1 .1 .0
+
+con-head-returns-2 : (t : ℕ) → con-head-lts.Need-returns-2 (
+  refuse-reads.Asked,
+  refuse-reads.Learnt,
+  mark-reads.Asked,
+  mark-reads.Learnt,
+  con-name-reads.Asked,
+  con-name-reads.Learnt,
+  state-reads.Asked,
+  state-reads.Learnt,
+  con-turn-below t,
+  con-turn.Post,
+) (con-head-at t) con-head.Post
+unfolding pat.conHead plan choose chosen
+con-head-returns-2 t c =
+    let falls = c .before .before .before .before .before .before .before .before .before .before .before .before .before .before .before .before .before .before .before .before .before .before .before .pre .0 in
+    let pre0 = c .before .before .before .before .before .before .before .before .before .before .before .before .before .before .before .before .before .before .before .before .before .before .before .pre .1 .0 in
+    let pre1 = c .before .before .before .before .before .before .before .before .before .before .before .before .before .before .before .before .before .before .before .before .before .before .before .pre .1 .1 in
+    let if1 = c .before .before .before .before .before .before .before .before .before .before .before .before .before .before .before .before .if1 .left in
+    let mark = c .before .before .before .before .before .before .before .before .before .before .before .before .before .before .before .mark .ensures in
+    let con-name = c .before .before .before .before .before .before .before .before .before .before .before .before .con-name .ensures in
+    let state = c .before .before .before .before .before .before .before .state .ensures in
+    let con-turn = c .before .before .before .before .con-turn .ensures in
+    in-steps pre0 (s-mark if1 mark (s-by _ (settled state (runs-in con-name)) (s-by _ con-turn s-end)))
+
+con-pat-con-head-requires : (t : ℕ) → con-pat-lts.Need-con-head-requires (
+  con-head-below t,
+  con-head.Post,
+  pat-tail-below t,
+  pat-tail.Post,
+  op-tail-below t,
+  op-tail.Post,
+) (con-pat-at t) con-pat.Post
+con-pat-con-head-requires t c κs =
+    let falls = c .before .before .before .before .before .before .before .before .pre .0 in
+    let pre0 = c .before .before .before .before .before .before .before .before .pre .1 .0 in
+    let pre1 = c .before .before .before .before .before .before .before .before .pre .1 .1 in
+    search asks depth 8
+
+con-pat-enum-known-head : (t : ℕ) → con-pat-lts.Need-enum-known-head (
+  con-head-below t,
+  con-head.Post,
+  pat-tail-below t,
+  pat-tail.Post,
+  op-tail-below t,
+  op-tail.Post,
+) (con-pat-at t) con-pat.Post
+con-pat-enum-known-head t c =
+    let falls = c .before .before .before .before .before .before .before .before .before .before .before .before .before .before .pre .0 in
+    let pre0 = c .before .before .before .before .before .before .before .before .before .before .before .before .before .before .pre .1 .0 in
+    let pre1 = c .before .before .before .before .before .before .before .before .before .before .before .before .before .before .pre .1 .1 in
+    search needs
+
+con-pat-enum-known-head-2 : (t : ℕ) → con-pat-lts.Need-enum-known-head-2 (
+  con-head-below t,
+  con-head.Post,
+  pat-tail-below t,
+  pat-tail.Post,
+  op-tail-below t,
+  op-tail.Post,
+) (con-pat-at t) con-pat.Post
+con-pat-enum-known-head-2 t c =
+    let falls = c .before .before .before .before .before .before .before .before .before .before .before .before .before .before .pre .0 in
+    let pre0 = c .before .before .before .before .before .before .before .before .before .before .before .before .before .before .pre .1 .0 in
+    let pre1 = c .before .before .before .before .before .before .before .before .before .before .before .before .before .before .pre .1 .1 in
+    search needs
+
+con-pat-pat-tail-requires : (t : ℕ) → con-pat-lts.Need-pat-tail-requires (
+  con-head-below t,
+  con-head.Post,
+  pat-tail-below t,
+  pat-tail.Post,
+  op-tail-below t,
+  op-tail.Post,
+) (con-pat-at t) con-pat.Post
+con-pat-pat-tail-requires t c κs =
+    let falls = c .before .before .before .before .before .before .before .before .before .before .before .before .before .before .before .before .before .before .pre .0 in
+    let pre0 = c .before .before .before .before .before .before .before .before .before .before .before .before .before .before .before .before .before .before .pre .1 .0 in
+    let pre1 = c .before .before .before .before .before .before .before .before .before .before .before .before .before .before .before .before .before .before .pre .1 .1 in
+    let con-head = rw (c .before .before .before .head2 .given .1) at (c .before .before .before .before .before .before .before .before .before .con-head .ensures) in
+    let con-head-ok = con-head .ok in
+    search asks depth 8
+
+con-pat-enum-known-head-3 : (t : ℕ) → con-pat-lts.Need-enum-known-head-3 (
+  con-head-below t,
+  con-head.Post,
+  pat-tail-below t,
+  pat-tail.Post,
+  op-tail-below t,
+  op-tail.Post,
+) (con-pat-at t) con-pat.Post
+con-pat-enum-known-head-3 t c =
+    let falls = c .before .before .before .before .before .before .before .before .before .before .before .before .before .before .pre .0 in
+    let pre0 = c .before .before .before .before .before .before .before .before .before .before .before .before .before .before .pre .1 .0 in
+    let pre1 = c .before .before .before .before .before .before .before .before .before .before .before .before .before .before .pre .1 .1 in
+    search needs
+
+con-pat-op-tail-requires : (t : ℕ) → con-pat-lts.Need-op-tail-requires (
+  con-head-below t,
+  con-head.Post,
+  pat-tail-below t,
+  pat-tail.Post,
+  op-tail-below t,
+  op-tail.Post,
+) (con-pat-at t) con-pat.Post
+con-pat-op-tail-requires t c κs =
+    let falls = c .before .before .before .before .before .before .before .before .before .before .before .before .before .before .before .before .before .before .pre .0 in
+    let pre0 = c .before .before .before .before .before .before .before .before .before .before .before .before .before .before .before .before .before .before .pre .1 .0 in
+    let pre1 = c .before .before .before .before .before .before .before .before .before .before .before .before .before .before .before .before .before .before .pre .1 .1 in
+    let con-head = rw (c .before .before .before .head3 .given .1) at (c .before .before .before .before .before .before .before .before .before .con-head .ensures) in
+    let con-head-ok = con-head .ok in
+    search asks depth 8
+
+con-pat-pat-tail-requires-2 : (t : ℕ) → con-pat-lts.Need-pat-tail-requires-2 (
+  con-head-below t,
+  con-head.Post,
+  pat-tail-below t,
+  pat-tail.Post,
+  op-tail-below t,
+  op-tail.Post,
+) (con-pat-at t) con-pat.Post
+con-pat-pat-tail-requires-2 t c κs =
+    let falls = c .before .before .before .before .before .before .before .before .before .before .before .before .before .before .before .before .before .before .before .before .before .before .before .before .before .pre .0 in
+    let pre0 = c .before .before .before .before .before .before .before .before .before .before .before .before .before .before .before .before .before .before .before .before .before .before .before .before .before .pre .1 .0 in
+    let pre1 = c .before .before .before .before .before .before .before .before .before .before .before .before .before .before .before .before .before .before .before .before .before .before .before .before .before .pre .1 .1 in
+    let con-head = rw (c .before .before .before .before .before .before .before .before .before .before .head3 .given .1) at (c .before .before .before .before .before .before .before .before .before .before .before .before .before .before .before .before .con-head .ensures) in
+    let con-head-ok = con-head .ok in
+    let op-tail = c .before .before .before .before .before .before .op-tail .ensures in
+    let op-tail-ok = op-tail .ok in
+    search asks depth 8
+
+con-pat-enum-known-head-4 : (t : ℕ) → con-pat-lts.Need-enum-known-head-4 (
+  con-head-below t,
+  con-head.Post,
+  pat-tail-below t,
+  pat-tail.Post,
+  op-tail-below t,
+  op-tail.Post,
+) (con-pat-at t) con-pat.Post
+con-pat-enum-known-head-4 t c =
+    let falls = c .before .before .before .before .before .before .before .before .before .before .before .before .before .before .pre .0 in
+    let pre0 = c .before .before .before .before .before .before .before .before .before .before .before .before .before .before .pre .1 .0 in
+    let pre1 = c .before .before .before .before .before .before .before .before .before .before .before .before .before .before .pre .1 .1 in
+    search needs
+
+con-pat-same-length : (t : ℕ) → con-pat-lts.Need-same-length (
+  con-head-below t,
+  con-head.Post,
+  pat-tail-below t,
+  pat-tail.Post,
+  op-tail-below t,
+  op-tail.Post,
+) (con-pat-at t) con-pat.Post
+con-pat-same-length t c =
+    c .before .before .before .before .before .before .before .con-head .kept .1 .1 .1 .1 .0
+
+con-pat-same-length-2 : (t : ℕ) → con-pat-lts.Need-same-length-2 (
+  con-head-below t,
+  con-head.Post,
+  pat-tail-below t,
+  pat-tail.Post,
+  op-tail-below t,
+  op-tail.Post,
+) (con-pat-at t) con-pat.Post
+con-pat-same-length-2 t c =
+    c .before .before .before .before .before .before .before .con-head .kept .1 .1 .1 .1 .1 .0
+
+con-pat-returns : (t : ℕ) → con-pat-lts.Need-returns (
+  con-head-below t,
+  con-head.Post,
+  pat-tail-below t,
+  pat-tail.Post,
+  op-tail-below t,
+  op-tail.Post,
+) (con-pat-at t) con-pat.Post
+unfolding pat.conPat pat.patTail plan choose chosen
+con-pat-returns t c =
+    let falls = c .before .before .before .before .before .before .before .before .before .before .before .before .before .before .before .before .pre .0 in
+    let pre0 = c .before .before .before .before .before .before .before .before .before .before .before .before .before .before .before .before .pre .1 .0 in
+    let pre1 = c .before .before .before .before .before .before .before .before .before .before .before .before .before .before .before .before .pre .1 .1 in
+    let con-head = rw (c .before .head .given .1) at (c .before .before .before .before .before .before .before .con-head .ensures) in
+    in-steps pre0 (s-by _ con-head s-end)
+
+con-pat-same-length-3 : (t : ℕ) → con-pat-lts.Need-same-length-3 (
+  con-head-below t,
+  con-head.Post,
+  pat-tail-below t,
+  pat-tail.Post,
+  op-tail-below t,
+  op-tail.Post,
+) (con-pat-at t) con-pat.Post
+con-pat-same-length-3 t c =
+    c .before .before .before .before .pat-tail .kept .1 .1 .1 .1 .0 ∙ c .before .before .before .before .before .before .before .before .before .before .before .before .before .before .con-head .kept .1 .1 .1 .1 .0
+
+con-pat-same-length-4 : (t : ℕ) → con-pat-lts.Need-same-length-4 (
+  con-head-below t,
+  con-head.Post,
+  pat-tail-below t,
+  pat-tail.Post,
+  op-tail-below t,
+  op-tail.Post,
+) (con-pat-at t) con-pat.Post
+con-pat-same-length-4 t c =
+    c .before .before .before .before .pat-tail .kept .1 .1 .1 .1 .1 .0 ∙ c .before .before .before .before .before .before .before .before .before .before .before .before .before .before .con-head .kept .1 .1 .1 .1 .1 .0
+
+con-pat-returns-2 : (t : ℕ) → con-pat-lts.Need-returns-2 (
+  con-head-below t,
+  con-head.Post,
+  pat-tail-below t,
+  pat-tail.Post,
+  op-tail-below t,
+  op-tail.Post,
+) (con-pat-at t) con-pat.Post
+unfolding pat.conPat pat.patTail plan choose chosen
+con-pat-returns-2 t c =
+    let falls = c .before .before .before .before .before .before .before .before .before .before .before .before .before .before .before .before .before .before .before .before .before .before .before .pre .0 in
+    let pre0 = c .before .before .before .before .before .before .before .before .before .before .before .before .before .before .before .before .before .before .before .before .before .before .before .pre .1 .0 in
+    let pre1 = c .before .before .before .before .before .before .before .before .before .before .before .before .before .before .before .before .before .before .before .before .before .before .before .pre .1 .1 in
+    let con-head = rw (c .before .before .before .before .before .before .before .before .head2 .given .1) at (c .before .before .before .before .before .before .before .before .before .before .before .before .before .before .con-head .ensures) in
+    let pat-tail = c .before .before .before .before .pat-tail .ensures in
+    in-steps pre0 (s-by _ con-head (s-run pat-tail s-end))
+
+con-pat-same-length-5 : (t : ℕ) → con-pat-lts.Need-same-length-5 (
+  con-head-below t,
+  con-head.Post,
+  pat-tail-below t,
+  pat-tail.Post,
+  op-tail-below t,
+  op-tail.Post,
+) (con-pat-at t) con-pat.Post
+con-pat-same-length-5 t c =
+    c .before .before .before .before .pat-tail2 .kept .1 .1 .1 .1 .0 ∙ c .before .before .before .before .before .before .before .before .before .before .before .op-tail .kept .1 .1 .1 .1 .0 ∙ c .before .before .before .before .before .before .before .before .before .before .before .before .before .before .before .before .before .before .before .before .before .con-head .kept .1 .1 .1 .1 .0
+
+con-pat-same-length-6 : (t : ℕ) → con-pat-lts.Need-same-length-6 (
+  con-head-below t,
+  con-head.Post,
+  pat-tail-below t,
+  pat-tail.Post,
+  op-tail-below t,
+  op-tail.Post,
+) (con-pat-at t) con-pat.Post
+con-pat-same-length-6 t c =
+    c .before .before .before .before .pat-tail2 .kept .1 .1 .1 .1 .1 .0 ∙ c .before .before .before .before .before .before .before .before .before .before .before .op-tail .kept .1 .1 .1 .1 .1 .0 ∙ c .before .before .before .before .before .before .before .before .before .before .before .before .before .before .before .before .before .before .before .before .before .con-head .kept .1 .1 .1 .1 .1 .0
+
+con-pat-returns-3 : (t : ℕ) → con-pat-lts.Need-returns-3 (
+  con-head-below t,
+  con-head.Post,
+  pat-tail-below t,
+  pat-tail.Post,
+  op-tail-below t,
+  op-tail.Post,
+) (con-pat-at t) con-pat.Post
+unfolding pat.conPat pat.patTail plan choose chosen
+con-pat-returns-3 t c =
+    let falls = c .before .before .before .before .before .before .before .before .before .before .before .before .before .before .before .before .before .before .before .before .before .before .before .before .before .before .before .before .before .before .pre .0 in
+    let pre0 = c .before .before .before .before .before .before .before .before .before .before .before .before .before .before .before .before .before .before .before .before .before .before .before .before .before .before .before .before .before .before .pre .1 .0 in
+    let pre1 = c .before .before .before .before .before .before .before .before .before .before .before .before .before .before .before .before .before .before .before .before .before .before .before .before .before .before .before .before .before .before .pre .1 .1 in
+    let con-head = rw (c .before .before .before .before .before .before .before .before .before .before .before .before .before .before .before .head3 .given .1) at (c .before .before .before .before .before .before .before .before .before .before .before .before .before .before .before .before .before .before .before .before .before .con-head .ensures) in
+    let op-tail = c .before .before .before .before .before .before .before .before .before .before .before .op-tail .ensures in
+    let pat-tail2 = c .before .before .before .before .pat-tail2 .ensures in
+    in-steps pre0 (s-by _ con-head (s-by _ op-tail (s-run pat-tail2 s-end)))
+
+con-pat-same-length-7 : (t : ℕ) → con-pat-lts.Need-same-length-7 (
+  con-head-below t,
+  con-head.Post,
+  pat-tail-below t,
+  pat-tail.Post,
+  op-tail-below t,
+  op-tail.Post,
+) (con-pat-at t) con-pat.Post
+con-pat-same-length-7 t c =
+    c .before .before .before .before .before .before .before .con-head .kept .1 .1 .1 .1 .0
+
+con-pat-same-length-8 : (t : ℕ) → con-pat-lts.Need-same-length-8 (
+  con-head-below t,
+  con-head.Post,
+  pat-tail-below t,
+  pat-tail.Post,
+  op-tail-below t,
+  op-tail.Post,
+) (con-pat-at t) con-pat.Post
+con-pat-same-length-8 t c =
+    c .before .before .before .before .before .before .before .con-head .kept .1 .1 .1 .1 .1 .0
+
+con-pat-returns-4 : (t : ℕ) → con-pat-lts.Need-returns-4 (
+  con-head-below t,
+  con-head.Post,
+  pat-tail-below t,
+  pat-tail.Post,
+  op-tail-below t,
+  op-tail.Post,
+) (con-pat-at t) con-pat.Post
+unfolding pat.conPat pat.patTail plan choose chosen
+con-pat-returns-4 t c =
+    let falls = c .before .before .before .before .before .before .before .before .before .before .before .before .before .before .before .before .pre .0 in
+    let pre0 = c .before .before .before .before .before .before .before .before .before .before .before .before .before .before .before .before .pre .1 .0 in
+    let pre1 = c .before .before .before .before .before .before .before .before .before .before .before .before .before .before .before .before .pre .1 .1 in
+    let con-head = rw (c .before .head4 .given .1) at (c .before .before .before .before .before .before .before .con-head .ensures) in
+    in-steps pre0 (s-by _ con-head s-end)
+
+con-turn-peek-requires : (t : ℕ) → con-turn-lts.Need-peek-requires (
+  peek-reads.Asked,
+  peek-reads.Learnt,
+  close-reads.Asked,
+  close-reads.Learnt,
+  name-star-reads.Asked,
+  name-star-reads.Learnt,
+  fixity-at-reads.Asked,
+  fixity-at-reads.Learnt,
+  at-pat-must-below t,
+  at-pat-must.Post,
+  con-op-reads.Asked,
+  con-op-reads.Learnt,
+  arg-reads.Asked,
+  arg-reads.Learnt,
+) (con-turn-at t) con-turn.Post
+con-turn-peek-requires t c κs =
+    let falls = c .before .before .before .before .before .before .pre .0 in
+    let pre0 = c .before .before .before .before .before .before .pre .1 .0 in
+    let pre1 = c .before .before .before .before .before .before .pre .1 .1 in
+    search asks depth 8
+
+con-turn-enum-known-k : (t : ℕ) → con-turn-lts.Need-enum-known-k (
+  peek-reads.Asked,
+  peek-reads.Learnt,
+  close-reads.Asked,
+  close-reads.Learnt,
+  name-star-reads.Asked,
+  name-star-reads.Learnt,
+  fixity-at-reads.Asked,
+  fixity-at-reads.Learnt,
+  at-pat-must-below t,
+  at-pat-must.Post,
+  con-op-reads.Asked,
+  con-op-reads.Learnt,
+  arg-reads.Asked,
+  arg-reads.Learnt,
+) (con-turn-at t) con-turn.Post
+con-turn-enum-known-k t c =
+    let falls = c .before .before .before .before .before .before .before .before .pre .0 in
+    let pre0 = c .before .before .before .before .before .before .before .before .pre .1 .0 in
+    let pre1 = c .before .before .before .before .before .before .before .before .pre .1 .1 in
+    search needs
+
+con-turn-enum-told : (t : ℕ) → con-turn-lts.Need-enum-told (
+  peek-reads.Asked,
+  peek-reads.Learnt,
+  close-reads.Asked,
+  close-reads.Learnt,
+  name-star-reads.Asked,
+  name-star-reads.Learnt,
+  fixity-at-reads.Asked,
+  fixity-at-reads.Learnt,
+  at-pat-must-below t,
+  at-pat-must.Post,
+  con-op-reads.Asked,
+  con-op-reads.Learnt,
+  arg-reads.Asked,
+  arg-reads.Learnt,
+) (con-turn-at t) con-turn.Post
+con-turn-enum-told t c =
+    let falls = c .before .before .before .before .before .before .before .before .pre .0 in
+    let pre0 = c .before .before .before .before .before .before .before .before .pre .1 .0 in
+    let pre1 = c .before .before .before .before .before .before .before .before .pre .1 .1 in
+    search needs
+
+con-turn-close-requires : (t : ℕ) → con-turn-lts.Need-close-requires (
+  peek-reads.Asked,
+  peek-reads.Learnt,
+  close-reads.Asked,
+  close-reads.Learnt,
+  name-star-reads.Asked,
+  name-star-reads.Learnt,
+  fixity-at-reads.Asked,
+  fixity-at-reads.Learnt,
+  at-pat-must-below t,
+  at-pat-must.Post,
+  con-op-reads.Asked,
+  con-op-reads.Learnt,
+  arg-reads.Asked,
+  arg-reads.Learnt,
+) (con-turn-at t) con-turn.Post
+con-turn-close-requires t c κs =
+    let falls = c .before .before .before .before .before .before .before .before .before .before .pre .0 in
+    let pre0 = c .before .before .before .before .before .before .before .before .before .before .pre .1 .0 in
+    let pre1 = c .before .before .before .before .before .before .before .before .before .before .pre .1 .1 in
+    let peek = rw (c .before .enum-told .given .1) at (c .before .before .before .peek .ensures) in
+    search asks depth 8
+
+con-turn-same-length : (t : ℕ) → con-turn-lts.Need-same-length (
+  peek-reads.Asked,
+  peek-reads.Learnt,
+  close-reads.Asked,
+  close-reads.Learnt,
+  name-star-reads.Asked,
+  name-star-reads.Learnt,
+  fixity-at-reads.Asked,
+  fixity-at-reads.Learnt,
+  at-pat-must-below t,
+  at-pat-must.Post,
+  con-op-reads.Asked,
+  con-op-reads.Learnt,
+  arg-reads.Asked,
+  arg-reads.Learnt,
+) (con-turn-at t) con-turn.Post
+con-turn-same-length t c =
+    c .before .before .close .kept .0
+
+con-turn-returns : (t : ℕ) → con-turn-lts.Need-returns (
+  peek-reads.Asked,
+  peek-reads.Learnt,
+  close-reads.Asked,
+  close-reads.Learnt,
+  name-star-reads.Asked,
+  name-star-reads.Learnt,
+  fixity-at-reads.Asked,
+  fixity-at-reads.Learnt,
+  at-pat-must-below t,
+  at-pat-must.Post,
+  con-op-reads.Asked,
+  con-op-reads.Learnt,
+  arg-reads.Asked,
+  arg-reads.Learnt,
+) (con-turn-at t) con-turn.Post
+unfolding pat.conTurn plan choose chosen
+con-turn-returns t c =
+    let falls = c .before .before .before .before .before .before .before .before .before .before .before .before .before .pre .0 in
+    let pre0 = c .before .before .before .before .before .before .before .before .before .before .before .before .before .pre .1 .0 in
+    let pre1 = c .before .before .before .before .before .before .before .before .before .before .before .before .before .pre .1 .1 in
+    let peek = rw (c .before .before .before .before .enum-told .given .1) at (c .before .before .before .before .before .before .peek .ensures) in
+    let close = c .before .before .close .ensures in
+    in-steps pre0 (s-look peek (s-close close s-end))
+
+con-turn-name-star-requires : (t : ℕ) → con-turn-lts.Need-name-star-requires (
+  peek-reads.Asked,
+  peek-reads.Learnt,
+  close-reads.Asked,
+  close-reads.Learnt,
+  name-star-reads.Asked,
+  name-star-reads.Learnt,
+  fixity-at-reads.Asked,
+  fixity-at-reads.Learnt,
+  at-pat-must-below t,
+  at-pat-must.Post,
+  con-op-reads.Asked,
+  con-op-reads.Learnt,
+  arg-reads.Asked,
+  arg-reads.Learnt,
+) (con-turn-at t) con-turn.Post
+con-turn-name-star-requires t c κs =
+    let falls = c .before .before .before .before .before .before .before .before .before .before .pre .0 in
+    let pre0 = c .before .before .before .before .before .before .before .before .before .before .pre .1 .0 in
+    let pre1 = c .before .before .before .before .before .before .before .before .before .before .pre .1 .1 in
+    let peek = rw (c .before .k .given .1) at (c .before .before .before .peek .ensures) in
+    search asks depth 8
+
+con-turn-fixity-at-requires : (t : ℕ) → con-turn-lts.Need-fixity-at-requires (
+  peek-reads.Asked,
+  peek-reads.Learnt,
+  close-reads.Asked,
+  close-reads.Learnt,
+  name-star-reads.Asked,
+  name-star-reads.Learnt,
+  fixity-at-reads.Asked,
+  fixity-at-reads.Learnt,
+  at-pat-must-below t,
+  at-pat-must.Post,
+  con-op-reads.Asked,
+  con-op-reads.Learnt,
+  arg-reads.Asked,
+  arg-reads.Learnt,
+) (con-turn-at t) con-turn.Post
+con-turn-fixity-at-requires t c κs =
+    let falls = c .before .before .before .before .before .before .before .before .before .before .before .before .pre .0 in
+    let pre0 = c .before .before .before .before .before .before .before .before .before .before .before .before .pre .1 .0 in
+    let pre1 = c .before .before .before .before .before .before .before .before .before .before .before .before .pre .1 .1 in
+    let peek = rw (c .before .before .before .k .given .1) at (c .before .before .before .before .before .peek .ensures) in
+    let name-star = c .before .name-star .ensures in
+    let if1 = c .if1 .taken in
+    search asks depth 8
+
+con-turn-enum-told-2 : (t : ℕ) → con-turn-lts.Need-enum-told-2 (
+  peek-reads.Asked,
+  peek-reads.Learnt,
+  close-reads.Asked,
+  close-reads.Learnt,
+  name-star-reads.Asked,
+  name-star-reads.Learnt,
+  fixity-at-reads.Asked,
+  fixity-at-reads.Learnt,
+  at-pat-must-below t,
+  at-pat-must.Post,
+  con-op-reads.Asked,
+  con-op-reads.Learnt,
+  arg-reads.Asked,
+  arg-reads.Learnt,
+) (con-turn-at t) con-turn.Post
+con-turn-enum-told-2 t c =
+    let falls = c .before .before .before .before .before .before .before .before .before .before .before .before .before .before .pre .0 in
+    let pre0 = c .before .before .before .before .before .before .before .before .before .before .before .before .before .before .pre .1 .0 in
+    let pre1 = c .before .before .before .before .before .before .before .before .before .before .before .before .before .before .pre .1 .1 in
+    let if1 = c .before .before .if1 .taken in
+    search needs
+
+con-turn-at-pat-must-requires : (t : ℕ) → con-turn-lts.Need-at-pat-must-requires (
+  peek-reads.Asked,
+  peek-reads.Learnt,
+  close-reads.Asked,
+  close-reads.Learnt,
+  name-star-reads.Asked,
+  name-star-reads.Learnt,
+  fixity-at-reads.Asked,
+  fixity-at-reads.Learnt,
+  at-pat-must-below t,
+  at-pat-must.Post,
+  con-op-reads.Asked,
+  con-op-reads.Learnt,
+  arg-reads.Asked,
+  arg-reads.Learnt,
+) (con-turn-at t) con-turn.Post
+con-turn-at-pat-must-requires t c κs =
+    let falls = c .before .before .before .before .before .before .before .before .before .before .before .before .before .before .before .before .before .pre .0 in
+    let pre0 = c .before .before .before .before .before .before .before .before .before .before .before .before .before .before .before .before .before .pre .1 .0 in
+    let pre1 = c .before .before .before .before .before .before .before .before .before .before .before .before .before .before .before .before .before .pre .1 .1 in
+    let peek = rw (c .before .before .before .before .before .before .before .before .k .given .1) at (c .before .before .before .before .before .before .before .before .before .before .peek .ensures) in
+    let name-star = c .before .before .before .before .before .before .name-star .ensures in
+    let if1 = c .before .before .before .before .before .if1 .taken in
+    let fixity-at = rw (c .before .before .enum-told2 .given .1) at (c .before .before .before .before .fixity-at .ensures) in
+    search asks depth 8
+
+con-turn-close-requires-2 : (t : ℕ) → con-turn-lts.Need-close-requires-2 (
+  peek-reads.Asked,
+  peek-reads.Learnt,
+  close-reads.Asked,
+  close-reads.Learnt,
+  name-star-reads.Asked,
+  name-star-reads.Learnt,
+  fixity-at-reads.Asked,
+  fixity-at-reads.Learnt,
+  at-pat-must-below t,
+  at-pat-must.Post,
+  con-op-reads.Asked,
+  con-op-reads.Learnt,
+  arg-reads.Asked,
+  arg-reads.Learnt,
+) (con-turn-at t) con-turn.Post
+con-turn-close-requires-2 t c κs =
+    let falls = c .before .before .before .before .before .before .before .before .before .before .before .before .before .before .before .before .before .before .before .before .before .before .before .pre .0 in
+    let pre0 = c .before .before .before .before .before .before .before .before .before .before .before .before .before .before .before .before .before .before .before .before .before .before .before .pre .1 .0 in
+    let pre1 = c .before .before .before .before .before .before .before .before .before .before .before .before .before .before .before .before .before .before .before .before .before .before .before .pre .1 .1 in
+    let peek = rw (c .before .before .before .before .before .before .before .before .before .before .before .before .before .before .k .given .1) at (c .before .before .before .before .before .before .before .before .before .before .before .before .before .before .before .before .peek .ensures) in
+    let name-star = c .before .before .before .before .before .before .before .before .before .before .before .before .name-star .ensures in
+    let if1 = c .before .before .before .before .before .before .before .before .before .before .before .if1 .taken in
+    let fixity-at = rw (c .before .before .before .before .before .before .before .before .enum-told2 .given .1) at (c .before .before .before .before .before .before .before .before .before .before .fixity-at .ensures) in
+    let at-pat-must = c .before .before .before .before .before .at-pat-must .ensures in
+    let at-pat-must-ok = at-pat-must .ok in
+    search asks depth 8
+
+con-turn-same-length-2 : (t : ℕ) → con-turn-lts.Need-same-length-2 (
+  peek-reads.Asked,
+  peek-reads.Learnt,
+  close-reads.Asked,
+  close-reads.Learnt,
+  name-star-reads.Asked,
+  name-star-reads.Learnt,
+  fixity-at-reads.Asked,
+  fixity-at-reads.Learnt,
+  at-pat-must-below t,
+  at-pat-must.Post,
+  con-op-reads.Asked,
+  con-op-reads.Learnt,
+  arg-reads.Asked,
+  arg-reads.Learnt,
+) (con-turn-at t) con-turn.Post
+con-turn-same-length-2 t c =
+    c .before .before .close2 .kept .0 ∙ c .before .before .before .before .before .before .before .before .at-pat-must .kept .1 .1 .1 .1 .0
+
+con-turn-same-length-3 : (t : ℕ) → con-turn-lts.Need-same-length-3 (
+  peek-reads.Asked,
+  peek-reads.Learnt,
+  close-reads.Asked,
+  close-reads.Learnt,
+  name-star-reads.Asked,
+  name-star-reads.Learnt,
+  fixity-at-reads.Asked,
+  fixity-at-reads.Learnt,
+  at-pat-must-below t,
+  at-pat-must.Post,
+  con-op-reads.Asked,
+  con-op-reads.Learnt,
+  arg-reads.Asked,
+  arg-reads.Learnt,
+) (con-turn-at t) con-turn.Post
+con-turn-same-length-3 t c =
+    c .before .before .before .before .before .before .before .before .at-pat-must .kept .1 .1 .1 .1 .1 .0
+
+con-turn-returns-2 : (t : ℕ) → con-turn-lts.Need-returns-2 (
+  peek-reads.Asked,
+  peek-reads.Learnt,
+  close-reads.Asked,
+  close-reads.Learnt,
+  name-star-reads.Asked,
+  name-star-reads.Learnt,
+  fixity-at-reads.Asked,
+  fixity-at-reads.Learnt,
+  at-pat-must-below t,
+  at-pat-must.Post,
+  con-op-reads.Asked,
+  con-op-reads.Learnt,
+  arg-reads.Asked,
+  arg-reads.Learnt,
+) (con-turn-at t) con-turn.Post
+unfolding pat.conTurn plan choose chosen
+con-turn-returns-2 t c =
+    let falls = c .before .before .before .before .before .before .before .before .before .before .before .before .before .before .before .before .before .before .before .before .before .before .before .before .before .before .pre .0 in
+    let pre0 = c .before .before .before .before .before .before .before .before .before .before .before .before .before .before .before .before .before .before .before .before .before .before .before .before .before .before .pre .1 .0 in
+    let pre1 = c .before .before .before .before .before .before .before .before .before .before .before .before .before .before .before .before .before .before .before .before .before .before .before .before .before .before .pre .1 .1 in
+    let peek = rw (c .before .before .before .before .before .before .before .before .before .before .before .before .before .before .before .before .before .k .given .1) at (c .before .before .before .before .before .before .before .before .before .before .before .before .before .before .before .before .before .before .before .peek .ensures) in
+    let name-star = c .before .before .before .before .before .before .before .before .before .before .before .before .before .before .before .name-star .ensures in
+    let if1 = c .before .before .before .before .before .before .before .before .before .before .before .before .before .before .if1 .taken in
+    let fixity-at = rw (c .before .before .before .before .before .before .before .before .before .before .before .enum-told2 .given .1) at (c .before .before .before .before .before .before .before .before .before .before .before .before .before .fixity-at .ensures) in
+    let at-pat-must = c .before .before .before .before .before .before .before .before .at-pat-must .ensures in
+    let close2 = c .before .before .close2 .ensures in
+    in-steps pre0 (s-look peek (s-true _ _ (test-true name-star if1) (s-fixed fixity-at (s-by _ (runs-in at-pat-must) (s-close close2 s-end)))))
+
+con-turn-enum-known-fix : (t : ℕ) → con-turn-lts.Need-enum-known-fix (
+  peek-reads.Asked,
+  peek-reads.Learnt,
+  close-reads.Asked,
+  close-reads.Learnt,
+  name-star-reads.Asked,
+  name-star-reads.Learnt,
+  fixity-at-reads.Asked,
+  fixity-at-reads.Learnt,
+  at-pat-must-below t,
+  at-pat-must.Post,
+  con-op-reads.Asked,
+  con-op-reads.Learnt,
+  arg-reads.Asked,
+  arg-reads.Learnt,
+) (con-turn-at t) con-turn.Post
+con-turn-enum-known-fix t c =
+    let falls = c .before .before .before .before .before .before .before .before .before .before .before .before .before .before .pre .0 in
+    let pre0 = c .before .before .before .before .before .before .before .before .before .before .before .before .before .before .pre .1 .0 in
+    let pre1 = c .before .before .before .before .before .before .before .before .before .before .before .before .before .before .pre .1 .1 in
+    let if1 = c .before .before .if1 .taken in
+    search needs
+
+con-turn-con-op-requires : (t : ℕ) → con-turn-lts.Need-con-op-requires (
+  peek-reads.Asked,
+  peek-reads.Learnt,
+  close-reads.Asked,
+  close-reads.Learnt,
+  name-star-reads.Asked,
+  name-star-reads.Learnt,
+  fixity-at-reads.Asked,
+  fixity-at-reads.Learnt,
+  at-pat-must-below t,
+  at-pat-must.Post,
+  con-op-reads.Asked,
+  con-op-reads.Learnt,
+  arg-reads.Asked,
+  arg-reads.Learnt,
+) (con-turn-at t) con-turn.Post
+con-turn-con-op-requires t c κs =
+    let falls = c .before .before .before .before .before .before .before .before .before .before .before .before .before .before .before .before .before .before .pre .0 in
+    let pre0 = c .before .before .before .before .before .before .before .before .before .before .before .before .before .before .before .before .before .before .pre .1 .0 in
+    let pre1 = c .before .before .before .before .before .before .before .before .before .before .before .before .before .before .before .before .before .before .pre .1 .1 in
+    let peek = rw (c .before .before .before .before .before .before .before .before .before .k .given .1) at (c .before .before .before .before .before .before .before .before .before .before .before .peek .ensures) in
+    let name-star = c .before .before .before .before .before .before .before .name-star .ensures in
+    let if1 = c .before .before .before .before .before .before .if1 .taken in
+    let fixity-at = rw (c .before .before .before .fix .given .1) at (c .before .before .before .before .before .fixity-at .ensures) in
+    search asks depth 8
+
+con-turn-same-length-4 : (t : ℕ) → con-turn-lts.Need-same-length-4 (
+  peek-reads.Asked,
+  peek-reads.Learnt,
+  close-reads.Asked,
+  close-reads.Learnt,
+  name-star-reads.Asked,
+  name-star-reads.Learnt,
+  fixity-at-reads.Asked,
+  fixity-at-reads.Learnt,
+  at-pat-must-below t,
+  at-pat-must.Post,
+  con-op-reads.Asked,
+  con-op-reads.Learnt,
+  arg-reads.Asked,
+  arg-reads.Learnt,
+) (con-turn-at t) con-turn.Post
+con-turn-same-length-4 t c =
+    c .before .before .before .before .con-op .kept .1 .1 .1 .1 .0
+
+con-turn-same-length-5 : (t : ℕ) → con-turn-lts.Need-same-length-5 (
+  peek-reads.Asked,
+  peek-reads.Learnt,
+  close-reads.Asked,
+  close-reads.Learnt,
+  name-star-reads.Asked,
+  name-star-reads.Learnt,
+  fixity-at-reads.Asked,
+  fixity-at-reads.Learnt,
+  at-pat-must-below t,
+  at-pat-must.Post,
+  con-op-reads.Asked,
+  con-op-reads.Learnt,
+  arg-reads.Asked,
+  arg-reads.Learnt,
+) (con-turn-at t) con-turn.Post
+con-turn-same-length-5 t c =
+    c .before .before .before .before .con-op .kept .1 .1 .1 .1 .1 .0
+
+con-turn-returns-3 : (t : ℕ) → con-turn-lts.Need-returns-3 (
+  peek-reads.Asked,
+  peek-reads.Learnt,
+  close-reads.Asked,
+  close-reads.Learnt,
+  name-star-reads.Asked,
+  name-star-reads.Learnt,
+  fixity-at-reads.Asked,
+  fixity-at-reads.Learnt,
+  at-pat-must-below t,
+  at-pat-must.Post,
+  con-op-reads.Asked,
+  con-op-reads.Learnt,
+  arg-reads.Asked,
+  arg-reads.Learnt,
+) (con-turn-at t) con-turn.Post
+unfolding pat.conTurn plan choose chosen
+con-turn-returns-3 t c =
+    let falls = c .before .before .before .before .before .before .before .before .before .before .before .before .before .before .before .before .before .before .before .before .before .before .before .pre .0 in
+    let pre0 = c .before .before .before .before .before .before .before .before .before .before .before .before .before .before .before .before .before .before .before .before .before .before .before .pre .1 .0 in
+    let pre1 = c .before .before .before .before .before .before .before .before .before .before .before .before .before .before .before .before .before .before .before .before .before .before .before .pre .1 .1 in
+    let peek = rw (c .before .before .before .before .before .before .before .before .before .before .before .before .before .before .k .given .1) at (c .before .before .before .before .before .before .before .before .before .before .before .before .before .before .before .before .peek .ensures) in
+    let name-star = c .before .before .before .before .before .before .before .before .before .before .before .before .name-star .ensures in
+    let if1 = c .before .before .before .before .before .before .before .before .before .before .before .if1 .taken in
+    let fixity-at = rw (c .before .before .before .before .before .before .before .before .fix .given .1) at (c .before .before .before .before .before .before .before .before .before .before .fixity-at .ensures) in
+    let con-op = c .before .before .before .before .con-op .ensures in
+    in-steps pre0 (s-look peek (s-true _ _ (test-true name-star if1) (s-fixed fixity-at (s-by _ con-op s-end))))
+
+con-turn-arg-requires : (t : ℕ) → con-turn-lts.Need-arg-requires (
+  peek-reads.Asked,
+  peek-reads.Learnt,
+  close-reads.Asked,
+  close-reads.Learnt,
+  name-star-reads.Asked,
+  name-star-reads.Learnt,
+  fixity-at-reads.Asked,
+  fixity-at-reads.Learnt,
+  at-pat-must-below t,
+  at-pat-must.Post,
+  con-op-reads.Asked,
+  con-op-reads.Learnt,
+  arg-reads.Asked,
+  arg-reads.Learnt,
+) (con-turn-at t) con-turn.Post
+con-turn-arg-requires t c κs =
+    let falls = c .before .before .before .before .before .before .before .before .before .before .before .before .pre .0 in
+    let pre0 = c .before .before .before .before .before .before .before .before .before .before .before .before .pre .1 .0 in
+    let pre1 = c .before .before .before .before .before .before .before .before .before .before .before .before .pre .1 .1 in
+    let peek = rw (c .before .before .before .k .given .1) at (c .before .before .before .before .before .peek .ensures) in
+    let name-star = c .before .name-star .ensures in
+    let if1 = c .if1 .left in
+    search asks depth 8
+
+con-turn-at-pat-must-requires-2 : (t : ℕ) → con-turn-lts.Need-at-pat-must-requires-2 (
+  peek-reads.Asked,
+  peek-reads.Learnt,
+  close-reads.Asked,
+  close-reads.Learnt,
+  name-star-reads.Asked,
+  name-star-reads.Learnt,
+  fixity-at-reads.Asked,
+  fixity-at-reads.Learnt,
+  at-pat-must-below t,
+  at-pat-must.Post,
+  con-op-reads.Asked,
+  con-op-reads.Learnt,
+  arg-reads.Asked,
+  arg-reads.Learnt,
+) (con-turn-at t) con-turn.Post
+con-turn-at-pat-must-requires-2 t c κs =
+    let falls = c .before .before .before .before .before .before .before .before .before .before .before .before .before .before .before .before .pre .0 in
+    let pre0 = c .before .before .before .before .before .before .before .before .before .before .before .before .before .before .before .before .pre .1 .0 in
+    let pre1 = c .before .before .before .before .before .before .before .before .before .before .before .before .before .before .before .before .pre .1 .1 in
+    let peek = rw (c .before .before .before .before .before .before .before .k .given .1) at (c .before .before .before .before .before .before .before .before .before .peek .ensures) in
+    let name-star = c .before .before .before .before .before .name-star .ensures in
+    let if1 = c .before .before .before .before .if1 .left in
+    let arg = c .before .before .before .arg .ensures in
+    let if2 = c .before .before .if2 .taken in
+    search asks depth 8
+
+con-turn-close-requires-3 : (t : ℕ) → con-turn-lts.Need-close-requires-3 (
+  peek-reads.Asked,
+  peek-reads.Learnt,
+  close-reads.Asked,
+  close-reads.Learnt,
+  name-star-reads.Asked,
+  name-star-reads.Learnt,
+  fixity-at-reads.Asked,
+  fixity-at-reads.Learnt,
+  at-pat-must-below t,
+  at-pat-must.Post,
+  con-op-reads.Asked,
+  con-op-reads.Learnt,
+  arg-reads.Asked,
+  arg-reads.Learnt,
+) (con-turn-at t) con-turn.Post
+con-turn-close-requires-3 t c κs =
+    let falls = c .before .before .before .before .before .before .before .before .before .before .before .before .before .before .before .before .before .before .before .before .before .before .pre .0 in
+    let pre0 = c .before .before .before .before .before .before .before .before .before .before .before .before .before .before .before .before .before .before .before .before .before .before .pre .1 .0 in
+    let pre1 = c .before .before .before .before .before .before .before .before .before .before .before .before .before .before .before .before .before .before .before .before .before .before .pre .1 .1 in
+    let peek = rw (c .before .before .before .before .before .before .before .before .before .before .before .before .before .k .given .1) at (c .before .before .before .before .before .before .before .before .before .before .before .before .before .before .before .peek .ensures) in
+    let name-star = c .before .before .before .before .before .before .before .before .before .before .before .name-star .ensures in
+    let if1 = c .before .before .before .before .before .before .before .before .before .before .if1 .left in
+    let arg = c .before .before .before .before .before .before .before .before .before .arg .ensures in
+    let if2 = c .before .before .before .before .before .before .before .before .if2 .taken in
+    let at-pat-must2 = c .before .before .before .before .before .at-pat-must2 .ensures in
+    let at-pat-must2-ok = at-pat-must2 .ok in
+    search asks depth 8
+
+con-turn-same-length-6 : (t : ℕ) → con-turn-lts.Need-same-length-6 (
+  peek-reads.Asked,
+  peek-reads.Learnt,
+  close-reads.Asked,
+  close-reads.Learnt,
+  name-star-reads.Asked,
+  name-star-reads.Learnt,
+  fixity-at-reads.Asked,
+  fixity-at-reads.Learnt,
+  at-pat-must-below t,
+  at-pat-must.Post,
+  con-op-reads.Asked,
+  con-op-reads.Learnt,
+  arg-reads.Asked,
+  arg-reads.Learnt,
+) (con-turn-at t) con-turn.Post
+con-turn-same-length-6 t c =
+    c .before .before .close3 .kept .0 ∙ c .before .before .before .before .before .before .before .before .at-pat-must2 .kept .1 .1 .1 .1 .0
+
+con-turn-same-length-7 : (t : ℕ) → con-turn-lts.Need-same-length-7 (
+  peek-reads.Asked,
+  peek-reads.Learnt,
+  close-reads.Asked,
+  close-reads.Learnt,
+  name-star-reads.Asked,
+  name-star-reads.Learnt,
+  fixity-at-reads.Asked,
+  fixity-at-reads.Learnt,
+  at-pat-must-below t,
+  at-pat-must.Post,
+  con-op-reads.Asked,
+  con-op-reads.Learnt,
+  arg-reads.Asked,
+  arg-reads.Learnt,
+) (con-turn-at t) con-turn.Post
+con-turn-same-length-7 t c =
+    c .before .before .before .before .before .before .before .before .at-pat-must2 .kept .1 .1 .1 .1 .1 .0
+
+con-turn-returns-4 : (t : ℕ) → con-turn-lts.Need-returns-4 (
+  peek-reads.Asked,
+  peek-reads.Learnt,
+  close-reads.Asked,
+  close-reads.Learnt,
+  name-star-reads.Asked,
+  name-star-reads.Learnt,
+  fixity-at-reads.Asked,
+  fixity-at-reads.Learnt,
+  at-pat-must-below t,
+  at-pat-must.Post,
+  con-op-reads.Asked,
+  con-op-reads.Learnt,
+  arg-reads.Asked,
+  arg-reads.Learnt,
+) (con-turn-at t) con-turn.Post
+unfolding pat.conTurn plan choose chosen
+con-turn-returns-4 t c =
+    let falls = c .before .before .before .before .before .before .before .before .before .before .before .before .before .before .before .before .before .before .before .before .before .before .before .before .before .pre .0 in
+    let pre0 = c .before .before .before .before .before .before .before .before .before .before .before .before .before .before .before .before .before .before .before .before .before .before .before .before .before .pre .1 .0 in
+    let pre1 = c .before .before .before .before .before .before .before .before .before .before .before .before .before .before .before .before .before .before .before .before .before .before .before .before .before .pre .1 .1 in
+    let peek = rw (c .before .before .before .before .before .before .before .before .before .before .before .before .before .before .before .before .k .given .1) at (c .before .before .before .before .before .before .before .before .before .before .before .before .before .before .before .before .before .before .peek .ensures) in
+    let name-star = c .before .before .before .before .before .before .before .before .before .before .before .before .before .before .name-star .ensures in
+    let if1 = c .before .before .before .before .before .before .before .before .before .before .before .before .before .if1 .left in
+    let arg = c .before .before .before .before .before .before .before .before .before .before .before .before .arg .ensures in
+    let if2 = c .before .before .before .before .before .before .before .before .before .before .before .if2 .taken in
+    let at-pat-must2 = c .before .before .before .before .before .before .before .before .at-pat-must2 .ensures in
+    let close3 = c .before .before .close3 .ensures in
+    in-steps pre0 (s-look peek (s-false _ _ (test-false name-star if1) (s-true _ _ (test-true arg if2) (s-by _ (runs-in at-pat-must2) (s-close close3 s-end)))))
+
+con-turn-close-requires-4 : (t : ℕ) → con-turn-lts.Need-close-requires-4 (
+  peek-reads.Asked,
+  peek-reads.Learnt,
+  close-reads.Asked,
+  close-reads.Learnt,
+  name-star-reads.Asked,
+  name-star-reads.Learnt,
+  fixity-at-reads.Asked,
+  fixity-at-reads.Learnt,
+  at-pat-must-below t,
+  at-pat-must.Post,
+  con-op-reads.Asked,
+  con-op-reads.Learnt,
+  arg-reads.Asked,
+  arg-reads.Learnt,
+) (con-turn-at t) con-turn.Post
+con-turn-close-requires-4 t c κs =
+    let falls = c .before .before .before .before .before .before .before .before .before .before .before .before .before .before .before .pre .0 in
+    let pre0 = c .before .before .before .before .before .before .before .before .before .before .before .before .before .before .before .pre .1 .0 in
+    let pre1 = c .before .before .before .before .before .before .before .before .before .before .before .before .before .before .before .pre .1 .1 in
+    let peek = rw (c .before .before .before .before .before .before .k .given .1) at (c .before .before .before .before .before .before .before .before .peek .ensures) in
+    let name-star = c .before .before .before .before .name-star .ensures in
+    let if1 = c .before .before .before .if1 .left in
+    let arg = c .before .before .arg .ensures in
+    let if2 = c .before .if2 .left in
+    search asks depth 8
+
+con-turn-same-length-8 : (t : ℕ) → con-turn-lts.Need-same-length-8 (
+  peek-reads.Asked,
+  peek-reads.Learnt,
+  close-reads.Asked,
+  close-reads.Learnt,
+  name-star-reads.Asked,
+  name-star-reads.Learnt,
+  fixity-at-reads.Asked,
+  fixity-at-reads.Learnt,
+  at-pat-must-below t,
+  at-pat-must.Post,
+  con-op-reads.Asked,
+  con-op-reads.Learnt,
+  arg-reads.Asked,
+  arg-reads.Learnt,
+) (con-turn-at t) con-turn.Post
+con-turn-same-length-8 t c =
+    c .before .before .close4 .kept .0
+
+con-turn-returns-5 : (t : ℕ) → con-turn-lts.Need-returns-5 (
+  peek-reads.Asked,
+  peek-reads.Learnt,
+  close-reads.Asked,
+  close-reads.Learnt,
+  name-star-reads.Asked,
+  name-star-reads.Learnt,
+  fixity-at-reads.Asked,
+  fixity-at-reads.Learnt,
+  at-pat-must-below t,
+  at-pat-must.Post,
+  con-op-reads.Asked,
+  con-op-reads.Learnt,
+  arg-reads.Asked,
+  arg-reads.Learnt,
+) (con-turn-at t) con-turn.Post
+unfolding pat.conTurn plan choose chosen
+con-turn-returns-5 t c =
+    let falls = c .before .before .before .before .before .before .before .before .before .before .before .before .before .before .before .before .before .before .pre .0 in
+    let pre0 = c .before .before .before .before .before .before .before .before .before .before .before .before .before .before .before .before .before .before .pre .1 .0 in
+    let pre1 = c .before .before .before .before .before .before .before .before .before .before .before .before .before .before .before .before .before .before .pre .1 .1 in
+    let peek = rw (c .before .before .before .before .before .before .before .before .before .k .given .1) at (c .before .before .before .before .before .before .before .before .before .before .before .peek .ensures) in
+    let name-star = c .before .before .before .before .before .before .before .name-star .ensures in
+    let if1 = c .before .before .before .before .before .before .if1 .left in
+    let arg = c .before .before .before .before .before .arg .ensures in
+    let if2 = c .before .before .before .before .if2 .left in
+    let close4 = c .before .before .close4 .ensures in
+    in-steps pre0 (s-look peek (s-false _ _ (test-false name-star if1) (s-false _ _ (test-false arg if2) (s-close close4 s-end))))
+
+infix-pat-refuse-requires : (t : ℕ) → infix-pat-lts.Need-refuse-requires (
+  refuse-reads.Asked,
+  refuse-reads.Learnt,
+  mark-reads.Asked,
+  mark-reads.Learnt,
+  bump-reads.Asked,
+  bump-reads.Learnt,
+  pat-must-below t,
+  pat-must.Post,
+  close-reads.Asked,
+  close-reads.Learnt,
+) (infix-pat-at t) infix-pat.Post
+infix-pat-refuse-requires t c κs =
+    let falls = c .before .before .before .before .before .before .before .pre .0 in
+    let pre0 = c .before .before .before .before .before .before .before .pre .1 .0 in
+    let pre1 = c .before .before .before .before .before .before .before .pre .1 .1 in
+    let if1 = c .if1 .taken in
+    search asks depth 8
+
+infix-pat-returns : (t : ℕ) → infix-pat-lts.Need-returns (
+  refuse-reads.Asked,
+  refuse-reads.Learnt,
+  mark-reads.Asked,
+  mark-reads.Learnt,
+  bump-reads.Asked,
+  bump-reads.Learnt,
+  pat-must-below t,
+  pat-must.Post,
+  close-reads.Asked,
+  close-reads.Learnt,
+) (infix-pat-at t) infix-pat.Post
+unfolding pat.infixPat plan choose chosen
+infix-pat-returns t c =
+    let falls = c .before .before .before .before .before .before .before .before .pre .0 in
+    let pre0 = c .before .before .before .before .before .before .before .before .pre .1 .0 in
+    let pre1 = c .before .before .before .before .before .before .before .before .pre .1 .1 in
+    let if1 = c .before .if1 .taken in
+    let refuse = c .refuse .ensures in
+    in-steps pre0 (s-deep if1 refuse s-end)
+
+infix-pat-mark-requires : (t : ℕ) → infix-pat-lts.Need-mark-requires (
+  refuse-reads.Asked,
+  refuse-reads.Learnt,
+  mark-reads.Asked,
+  mark-reads.Learnt,
+  bump-reads.Asked,
+  bump-reads.Learnt,
+  pat-must-below t,
+  pat-must.Post,
+  close-reads.Asked,
+  close-reads.Learnt,
+) (infix-pat-at t) infix-pat.Post
+infix-pat-mark-requires t c κs =
+    let falls = c .before .before .before .before .before .before .before .before .pre .0 in
+    let pre0 = c .before .before .before .before .before .before .before .before .pre .1 .0 in
+    let pre1 = c .before .before .before .before .before .before .before .before .pre .1 .1 in
+    let if1 = c .before .if1 .left in
+    search asks depth 8
+
+infix-pat-bump-requires : (t : ℕ) → infix-pat-lts.Need-bump-requires (
+  refuse-reads.Asked,
+  refuse-reads.Learnt,
+  mark-reads.Asked,
+  mark-reads.Learnt,
+  bump-reads.Asked,
+  bump-reads.Learnt,
+  pat-must-below t,
+  pat-must.Post,
+  close-reads.Asked,
+  close-reads.Learnt,
+) (infix-pat-at t) infix-pat.Post
+infix-pat-bump-requires t c κs =
+    let falls = c .before .before .before .before .before .before .before .before .before .pre .0 in
+    let pre0 = c .before .before .before .before .before .before .before .before .before .pre .1 .0 in
+    let pre1 = c .before .before .before .before .before .before .before .before .before .pre .1 .1 in
+    let if1 = c .before .before .if1 .left in
+    let mark = c .mark .ensures in
+    let mark-ok = ok-marks mark pre0 in
+    search asks depth 8
+
+infix-pat-sub-pat-must : (t : ℕ) → infix-pat-lts.Need-sub-pat-must (
+  refuse-reads.Asked,
+  refuse-reads.Learnt,
+  mark-reads.Asked,
+  mark-reads.Learnt,
+  bump-reads.Asked,
+  bump-reads.Learnt,
+  pat-must-below t,
+  pat-must.Post,
+  close-reads.Asked,
+  close-reads.Learnt,
+) (infix-pat-at t) infix-pat.Post
+infix-pat-sub-pat-must t c =
+    let falls = c .before .before .before .before .before .before .before .before .before .before .before .before .before .before .pre .0 in
+    let pre0 = c .before .before .before .before .before .before .before .before .before .before .before .before .before .before .pre .1 .0 in
+    let pre1 = c .before .before .before .before .before .before .before .before .before .before .before .before .before .before .pre .1 .1 in
+    let if1 = c .before .before .before .before .before .before .before .if1 .left in
+    search needs
+
+infix-pat-pat-must-requires : (t : ℕ) → infix-pat-lts.Need-pat-must-requires (
+  refuse-reads.Asked,
+  refuse-reads.Learnt,
+  mark-reads.Asked,
+  mark-reads.Learnt,
+  bump-reads.Asked,
+  bump-reads.Learnt,
+  pat-must-below t,
+  pat-must.Post,
+  close-reads.Asked,
+  close-reads.Learnt,
+) (infix-pat-at t) infix-pat.Post
+infix-pat-pat-must-requires t c κs =
+    let falls = c .before .before .before .before .before .before .before .before .before .before .before .before .before .before .pre .0 in
+    let pre0 = c .before .before .before .before .before .before .before .before .before .before .before .before .before .before .pre .1 .0 in
+    let pre1 = c .before .before .before .before .before .before .before .before .before .before .before .before .before .before .pre .1 .1 in
+    let if1 = c .before .before .before .before .before .before .before .if1 .left in
+    let mark = c .before .before .before .before .before .mark .ensures in
+    let mark-ok = ok-marks mark pre0 in
+    let bump = c .before .before .before .before .bump .ensures in
+    let bump-ok = ok-bumps bump mark-ok in
+    search asks depth 8
+
+infix-pat-close-requires : (t : ℕ) → infix-pat-lts.Need-close-requires (
+  refuse-reads.Asked,
+  refuse-reads.Learnt,
+  mark-reads.Asked,
+  mark-reads.Learnt,
+  bump-reads.Asked,
+  bump-reads.Learnt,
+  pat-must-below t,
+  pat-must.Post,
+  close-reads.Asked,
+  close-reads.Learnt,
+) (infix-pat-at t) infix-pat.Post
+infix-pat-close-requires t c κs =
+    let falls = c .before .before .before .before .before .before .before .before .before .before .before .before .before .before .before .before .before .before .before .before .pre .0 in
+    let pre0 = c .before .before .before .before .before .before .before .before .before .before .before .before .before .before .before .before .before .before .before .before .pre .1 .0 in
+    let pre1 = c .before .before .before .before .before .before .before .before .before .before .before .before .before .before .before .before .before .before .before .before .pre .1 .1 in
+    let if1 = c .before .before .before .before .before .before .before .before .before .before .before .before .before .if1 .left in
+    let mark = c .before .before .before .before .before .before .before .before .before .before .before .mark .ensures in
+    let mark-ok = ok-marks mark pre0 in
+    let bump = c .before .before .before .before .before .before .before .before .before .before .bump .ensures in
+    let bump-ok = ok-bumps bump mark-ok in
+    let pat-must = c .before .before .before .before .before .pat-must .ensures in
+    let pat-must-ok = pat-must .ok in
+    search asks depth 8
+
+infix-pat-same-length : (t : ℕ) → infix-pat-lts.Need-same-length (
+  refuse-reads.Asked,
+  refuse-reads.Learnt,
+  mark-reads.Asked,
+  mark-reads.Learnt,
+  bump-reads.Asked,
+  bump-reads.Learnt,
+  pat-must-below t,
+  pat-must.Post,
+  close-reads.Asked,
+  close-reads.Learnt,
+) (infix-pat-at t) infix-pat.Post
+infix-pat-same-length t c =
+    c .before .before .close .kept .0 ∙ c .before .before .before .before .before .before .before .before .pat-must .kept .1 .1 .1 .1 .0 ∙ c .before .before .before .before .before .before .before .before .before .before .before .before .before .bump .kept .1 .0
+
+infix-pat-same-length-2 : (t : ℕ) → infix-pat-lts.Need-same-length-2 (
+  refuse-reads.Asked,
+  refuse-reads.Learnt,
+  mark-reads.Asked,
+  mark-reads.Learnt,
+  bump-reads.Asked,
+  bump-reads.Learnt,
+  pat-must-below t,
+  pat-must.Post,
+  close-reads.Asked,
+  close-reads.Learnt,
+) (infix-pat-at t) infix-pat.Post
+infix-pat-same-length-2 t c =
+    c .before .before .before .before .before .before .before .before .pat-must .kept .1 .1 .1 .1 .1 .0
+
+infix-pat-returns-2 : (t : ℕ) → infix-pat-lts.Need-returns-2 (
+  refuse-reads.Asked,
+  refuse-reads.Learnt,
+  mark-reads.Asked,
+  mark-reads.Learnt,
+  bump-reads.Asked,
+  bump-reads.Learnt,
+  pat-must-below t,
+  pat-must.Post,
+  close-reads.Asked,
+  close-reads.Learnt,
+) (infix-pat-at t) infix-pat.Post
+unfolding pat.infixPat plan choose chosen
+infix-pat-returns-2 t c =
+    let falls = c .before .before .before .before .before .before .before .before .before .before .before .before .before .before .before .before .before .before .before .before .before .before .before .pre .0 in
+    let pre0 = c .before .before .before .before .before .before .before .before .before .before .before .before .before .before .before .before .before .before .before .before .before .before .before .pre .1 .0 in
+    let pre1 = c .before .before .before .before .before .before .before .before .before .before .before .before .before .before .before .before .before .before .before .before .before .before .before .pre .1 .1 in
+    let if1 = c .before .before .before .before .before .before .before .before .before .before .before .before .before .before .before .before .if1 .left in
+    let mark = c .before .before .before .before .before .before .before .before .before .before .before .before .before .before .mark .ensures in
+    let bump = c .before .before .before .before .before .before .before .before .before .before .before .before .before .bump .ensures in
+    let pat-must = c .before .before .before .before .before .before .before .before .pat-must .ensures in
+    let close = c .before .before .close .ensures in
+    in-steps pre0 (s-mark if1 mark (s-bump bump (s-by _ (runs-in pat-must) (s-close close s-end))))
+
+op-step-fixity-at-requires : (t : ℕ) → op-step-lts.Need-fixity-at-requires (
+  fixity-at-reads.Asked,
+  fixity-at-reads.Learnt,
+  index-reads.Asked,
+  index-reads.Learnt,
+  report-reads.Asked,
+  report-reads.Learnt,
+  should-break-pat-reads.Asked,
+  should-break-pat-reads.Learnt,
+  infix-pat-below t,
+  infix-pat.Post,
+) (op-step-at t) op-step.Post
+op-step-fixity-at-requires t c κs =
+    let falls = c .before .before .before .before .before .before .pre .0 in
+    let pre0 = c .before .before .before .before .before .before .pre .1 .0 in
+    let pre1 = c .before .before .before .before .before .before .pre .1 .1 in
+    search asks depth 8
+
+op-step-enum-told : (t : ℕ) → op-step-lts.Need-enum-told (
+  fixity-at-reads.Asked,
+  fixity-at-reads.Learnt,
+  index-reads.Asked,
+  index-reads.Learnt,
+  report-reads.Asked,
+  report-reads.Learnt,
+  should-break-pat-reads.Asked,
+  should-break-pat-reads.Learnt,
+  infix-pat-below t,
+  infix-pat.Post,
+) (op-step-at t) op-step.Post
+op-step-enum-told t c =
+    let falls = c .before .before .before .before .before .before .before .before .pre .0 in
+    let pre0 = c .before .before .before .before .before .before .before .before .pre .1 .0 in
+    let pre1 = c .before .before .before .before .before .before .before .before .pre .1 .1 in
+    search needs
+
+op-step-index-requires : (t : ℕ) → op-step-lts.Need-index-requires (
+  fixity-at-reads.Asked,
+  fixity-at-reads.Learnt,
+  index-reads.Asked,
+  index-reads.Learnt,
+  report-reads.Asked,
+  report-reads.Learnt,
+  should-break-pat-reads.Asked,
+  should-break-pat-reads.Learnt,
+  infix-pat-below t,
+  infix-pat.Post,
+) (op-step-at t) op-step.Post
+op-step-index-requires t c κs =
+    let falls = c .before .before .before .before .before .before .before .before .before .pre .0 in
+    let pre0 = c .before .before .before .before .before .before .before .before .before .pre .1 .0 in
+    let pre1 = c .before .before .before .before .before .before .before .before .before .pre .1 .1 in
+    let fixity-at = rw (c .enum-told .given .1) at (c .before .before .fixity-at .ensures) in
+    search asks depth 8
+
+op-step-report-requires : (t : ℕ) → op-step-lts.Need-report-requires (
+  fixity-at-reads.Asked,
+  fixity-at-reads.Learnt,
+  index-reads.Asked,
+  index-reads.Learnt,
+  report-reads.Asked,
+  report-reads.Learnt,
+  should-break-pat-reads.Asked,
+  should-break-pat-reads.Learnt,
+  infix-pat-below t,
+  infix-pat.Post,
+) (op-step-at t) op-step.Post
+op-step-report-requires t c κs =
+    let falls = c .before .before .before .before .before .before .before .before .before .before .before .pre .0 in
+    let pre0 = c .before .before .before .before .before .before .before .before .before .before .before .pre .1 .0 in
+    let pre1 = c .before .before .before .before .before .before .before .before .before .before .before .pre .1 .1 in
+    let fixity-at = rw (c .before .before .enum-told .given .1) at (c .before .before .before .before .fixity-at .ensures) in
+    let index = c .before .index .ensures in
+    let index-small = small-index index pre0 in
+    search asks depth 8
+
+op-step-enum-known-fix : (t : ℕ) → op-step-lts.Need-enum-known-fix (
+  fixity-at-reads.Asked,
+  fixity-at-reads.Learnt,
+  index-reads.Asked,
+  index-reads.Learnt,
+  report-reads.Asked,
+  report-reads.Learnt,
+  should-break-pat-reads.Asked,
+  should-break-pat-reads.Learnt,
+  infix-pat-below t,
+  infix-pat.Post,
+) (op-step-at t) op-step.Post
+op-step-enum-known-fix t c =
+    let falls = c .before .before .before .before .before .before .before .before .pre .0 in
+    let pre0 = c .before .before .before .before .before .before .before .before .pre .1 .0 in
+    let pre1 = c .before .before .before .before .before .before .before .before .pre .1 .1 in
+    search needs
+
+op-step-should-break-pat-requires : (t : ℕ) → op-step-lts.Need-should-break-pat-requires (
+  fixity-at-reads.Asked,
+  fixity-at-reads.Learnt,
+  index-reads.Asked,
+  index-reads.Learnt,
+  report-reads.Asked,
+  report-reads.Learnt,
+  should-break-pat-reads.Asked,
+  should-break-pat-reads.Learnt,
+  infix-pat-below t,
+  infix-pat.Post,
+) (op-step-at t) op-step.Post
+op-step-should-break-pat-requires t c κs =
+    let falls = c .before .before .before .before .before .before .before .before .before .before .before .before .pre .0 in
+    let pre0 = c .before .before .before .before .before .before .before .before .before .before .before .before .pre .1 .0 in
+    let pre1 = c .before .before .before .before .before .before .before .before .before .before .before .before .pre .1 .1 in
+    let fixity-at = rw (c .before .before .before .fix .given .1) at (c .before .before .before .before .before .fixity-at .ensures) in
+    search asks depth 8
+
+op-step-enum-known-ends : (t : ℕ) → op-step-lts.Need-enum-known-ends (
+  fixity-at-reads.Asked,
+  fixity-at-reads.Learnt,
+  index-reads.Asked,
+  index-reads.Learnt,
+  report-reads.Asked,
+  report-reads.Learnt,
+  should-break-pat-reads.Asked,
+  should-break-pat-reads.Learnt,
+  infix-pat-below t,
+  infix-pat.Post,
+) (op-step-at t) op-step.Post
+op-step-enum-known-ends t c =
+    let falls = c .before .before .before .before .before .before .before .before .before .before .before .before .before .before .before .before .before .before .pre .0 in
+    let pre0 = c .before .before .before .before .before .before .before .before .before .before .before .before .before .before .before .before .before .before .pre .1 .0 in
+    let pre1 = c .before .before .before .before .before .before .before .before .before .before .before .before .before .before .before .before .before .before .pre .1 .1 in
+    search needs
+
+op-step-enum-known-ends-2 : (t : ℕ) → op-step-lts.Need-enum-known-ends-2 (
+  fixity-at-reads.Asked,
+  fixity-at-reads.Learnt,
+  index-reads.Asked,
+  index-reads.Learnt,
+  report-reads.Asked,
+  report-reads.Learnt,
+  should-break-pat-reads.Asked,
+  should-break-pat-reads.Learnt,
+  infix-pat-below t,
+  infix-pat.Post,
+) (op-step-at t) op-step.Post
+op-step-enum-known-ends-2 t c =
+    let falls = c .before .before .before .before .before .before .before .before .before .before .before .before .before .before .before .before .before .before .pre .0 in
+    let pre0 = c .before .before .before .before .before .before .before .before .before .before .before .before .before .before .before .before .before .before .pre .1 .0 in
+    let pre1 = c .before .before .before .before .before .before .before .before .before .before .before .before .before .before .before .before .before .before .pre .1 .1 in
+    search needs
+
+op-step-infix-pat-requires : (t : ℕ) → op-step-lts.Need-infix-pat-requires (
+  fixity-at-reads.Asked,
+  fixity-at-reads.Learnt,
+  index-reads.Asked,
+  index-reads.Learnt,
+  report-reads.Asked,
+  report-reads.Learnt,
+  should-break-pat-reads.Asked,
+  should-break-pat-reads.Learnt,
+  infix-pat-below t,
+  infix-pat.Post,
+) (op-step-at t) op-step.Post
+op-step-infix-pat-requires t c κs =
+    let falls = c .before .before .before .before .before .before .before .before .before .before .before .before .before .before .before .before .before .before .before .before .before .before .pre .0 in
+    let pre0 = c .before .before .before .before .before .before .before .before .before .before .before .before .before .before .before .before .before .before .before .before .before .before .pre .1 .0 in
+    let pre1 = c .before .before .before .before .before .before .before .before .before .before .before .before .before .before .before .before .before .before .before .before .before .before .pre .1 .1 in
+    let fixity-at = rw (c .before .before .before .before .before .before .before .before .before .before .before .before .before .fix .given .1) at (c .before .before .before .before .before .before .before .before .before .before .before .before .before .before .before .fixity-at .ensures) in
+    let should-break-pat = rw (c .before .before .before .ends2 .given .1) at (c .before .before .before .before .before .before .before .before .before .should-break-pat .ensures) in
+    let should-break-pat-ok = should-break-pat true .ok in
+    search asks depth 8
+
+op-step-same-length : (t : ℕ) → op-step-lts.Need-same-length (
+  fixity-at-reads.Asked,
+  fixity-at-reads.Learnt,
+  index-reads.Asked,
+  index-reads.Learnt,
+  report-reads.Asked,
+  report-reads.Learnt,
+  should-break-pat-reads.Asked,
+  should-break-pat-reads.Learnt,
+  infix-pat-below t,
+  infix-pat.Post,
+) (op-step-at t) op-step.Post
+op-step-same-length t c =
+    c .before .before .report .kept .0
+
+op-step-returns : (t : ℕ) → op-step-lts.Need-returns (
+  fixity-at-reads.Asked,
+  fixity-at-reads.Learnt,
+  index-reads.Asked,
+  index-reads.Learnt,
+  report-reads.Asked,
+  report-reads.Learnt,
+  should-break-pat-reads.Asked,
+  should-break-pat-reads.Learnt,
+  infix-pat-below t,
+  infix-pat.Post,
+) (op-step-at t) op-step.Post
+unfolding pat.opStep plan choose chosen
+op-step-returns t c =
+    let falls = c .before .before .before .before .before .before .before .before .before .before .before .before .before .before .pre .0 in
+    let pre0 = c .before .before .before .before .before .before .before .before .before .before .before .before .before .before .pre .1 .0 in
+    let pre1 = c .before .before .before .before .before .before .before .before .before .before .before .before .before .before .pre .1 .1 in
+    let fixity-at = rw (c .before .before .before .before .before .enum-told .given .1) at (c .before .before .before .before .before .before .before .fixity-at .ensures) in
+    let index = c .before .before .before .before .index .ensures in
+    let report = c .before .before .report .ensures in
+    in-steps pre0 (s-fixed fixity-at (s-index index (s-report report s-end)))
+
+op-step-same-length-2 : (t : ℕ) → op-step-lts.Need-same-length-2 (
+  fixity-at-reads.Asked,
+  fixity-at-reads.Learnt,
+  index-reads.Asked,
+  index-reads.Learnt,
+  report-reads.Asked,
+  report-reads.Learnt,
+  should-break-pat-reads.Asked,
+  should-break-pat-reads.Learnt,
+  infix-pat-below t,
+  infix-pat.Post,
+) (op-step-at t) op-step.Post
+op-step-same-length-2 t c =
+    c .before .before .before .before .before .before .before .should-break-pat .kept .1 .1 .1 .1 .0
+
+op-step-same-length-3 : (t : ℕ) → op-step-lts.Need-same-length-3 (
+  fixity-at-reads.Asked,
+  fixity-at-reads.Learnt,
+  index-reads.Asked,
+  index-reads.Learnt,
+  report-reads.Asked,
+  report-reads.Learnt,
+  should-break-pat-reads.Asked,
+  should-break-pat-reads.Learnt,
+  infix-pat-below t,
+  infix-pat.Post,
+) (op-step-at t) op-step.Post
+op-step-same-length-3 t c =
+    c .before .before .before .before .before .before .before .should-break-pat .kept .1 .1 .1 .1 .1 .0
+
+op-step-returns-2 : (t : ℕ) → op-step-lts.Need-returns-2 (
+  fixity-at-reads.Asked,
+  fixity-at-reads.Learnt,
+  index-reads.Asked,
+  index-reads.Learnt,
+  report-reads.Asked,
+  report-reads.Learnt,
+  should-break-pat-reads.Asked,
+  should-break-pat-reads.Learnt,
+  infix-pat-below t,
+  infix-pat.Post,
+) (op-step-at t) op-step.Post
+unfolding pat.opStep plan choose chosen
+op-step-returns-2 t c =
+    let falls = c .before .before .before .before .before .before .before .before .before .before .before .before .before .before .before .before .before .before .before .before .pre .0 in
+    let pre0 = c .before .before .before .before .before .before .before .before .before .before .before .before .before .before .before .before .before .before .before .before .pre .1 .0 in
+    let pre1 = c .before .before .before .before .before .before .before .before .before .before .before .before .before .before .before .before .before .before .before .before .pre .1 .1 in
+    let fixity-at = rw (c .before .before .before .before .before .before .before .before .before .before .before .fix .given .1) at (c .before .before .before .before .before .before .before .before .before .before .before .before .before .fixity-at .ensures) in
+    let should-break-pat = rw (c .before .ends .given .1) at (c .before .before .before .before .before .before .before .should-break-pat .ensures) in
+    in-steps pre0 (s-fixed fixity-at (s-by _ (runs-always (should-break-pat _)) s-end))
+
+op-step-same-length-4 : (t : ℕ) → op-step-lts.Need-same-length-4 (
+  fixity-at-reads.Asked,
+  fixity-at-reads.Learnt,
+  index-reads.Asked,
+  index-reads.Learnt,
+  report-reads.Asked,
+  report-reads.Learnt,
+  should-break-pat-reads.Asked,
+  should-break-pat-reads.Learnt,
+  infix-pat-below t,
+  infix-pat.Post,
+) (op-step-at t) op-step.Post
+op-step-same-length-4 t c =
+    c .before .before .before .before .infix-pat .kept .1 .1 .1 .1 .0 ∙ c .before .before .before .before .before .before .before .before .before .before .before .before .before .before .should-break-pat .kept .1 .1 .1 .1 .0
+
+op-step-same-length-5 : (t : ℕ) → op-step-lts.Need-same-length-5 (
+  fixity-at-reads.Asked,
+  fixity-at-reads.Learnt,
+  index-reads.Asked,
+  index-reads.Learnt,
+  report-reads.Asked,
+  report-reads.Learnt,
+  should-break-pat-reads.Asked,
+  should-break-pat-reads.Learnt,
+  infix-pat-below t,
+  infix-pat.Post,
+) (op-step-at t) op-step.Post
+op-step-same-length-5 t c =
+    c .before .before .before .before .infix-pat .kept .1 .1 .1 .1 .1 .0 ∙ c .before .before .before .before .before .before .before .before .before .before .before .before .before .before .should-break-pat .kept .1 .1 .1 .1 .1 .0
+
+op-step-returns-3 : (t : ℕ) → op-step-lts.Need-returns-3 (
+  fixity-at-reads.Asked,
+  fixity-at-reads.Learnt,
+  index-reads.Asked,
+  index-reads.Learnt,
+  report-reads.Asked,
+  report-reads.Learnt,
+  should-break-pat-reads.Asked,
+  should-break-pat-reads.Learnt,
+  infix-pat-below t,
+  infix-pat.Post,
+) (op-step-at t) op-step.Post
+unfolding pat.opStep plan choose chosen
+op-step-returns-3 t c =
+    let falls = c .before .before .before .before .before .before .before .before .before .before .before .before .before .before .before .before .before .before .before .before .before .before .before .before .before .before .before .pre .0 in
+    let pre0 = c .before .before .before .before .before .before .before .before .before .before .before .before .before .before .before .before .before .before .before .before .before .before .before .before .before .before .before .pre .1 .0 in
+    let pre1 = c .before .before .before .before .before .before .before .before .before .before .before .before .before .before .before .before .before .before .before .before .before .before .before .before .before .before .before .pre .1 .1 in
+    let fixity-at = rw (c .before .before .before .before .before .before .before .before .before .before .before .before .before .before .before .before .before .before .fix .given .1) at (c .before .before .before .before .before .before .before .before .before .before .before .before .before .before .before .before .before .before .before .before .fixity-at .ensures) in
+    let should-break-pat = rw (c .before .before .before .before .before .before .before .before .ends2 .given .1) at (c .before .before .before .before .before .before .before .before .before .before .before .before .before .before .should-break-pat .ensures) in
+    let infix-pat = c .before .before .before .before .infix-pat .ensures in
+    in-steps pre0 (s-fixed fixity-at (s-by _ (runs-always (should-break-pat _)) (s-by _ infix-pat s-end)))
+
+op-tail-fixity-at-requires : (t : ℕ) → op-tail-lts.Need-fixity-at-requires (
+  fixity-at-reads.Asked,
+  fixity-at-reads.Learnt,
+  infix-pat-below t,
+  infix-pat.Post,
+) (op-tail-at t) op-tail.Post
+op-tail-fixity-at-requires t c κs =
+    let falls = c .before .before .before .before .before .before .pre .0 in
+    let pre0 = c .before .before .before .before .before .before .pre .1 .0 in
+    let pre1 = c .before .before .before .before .before .before .pre .1 .1 in
+    search asks depth 8
+
+op-tail-enum-told : (t : ℕ) → op-tail-lts.Need-enum-told (
+  fixity-at-reads.Asked,
+  fixity-at-reads.Learnt,
+  infix-pat-below t,
+  infix-pat.Post,
+) (op-tail-at t) op-tail.Post
+op-tail-enum-told t c =
+    let falls = c .before .before .before .before .before .before .before .before .pre .0 in
+    let pre0 = c .before .before .before .before .before .before .before .before .pre .1 .0 in
+    let pre1 = c .before .before .before .before .before .before .before .before .pre .1 .1 in
+    search needs
+
+op-tail-enum-known-fix : (t : ℕ) → op-tail-lts.Need-enum-known-fix (
+  fixity-at-reads.Asked,
+  fixity-at-reads.Learnt,
+  infix-pat-below t,
+  infix-pat.Post,
+) (op-tail-at t) op-tail.Post
+op-tail-enum-known-fix t c =
+    let falls = c .before .before .before .before .before .before .before .before .pre .0 in
+    let pre0 = c .before .before .before .before .before .before .before .before .pre .1 .0 in
+    let pre1 = c .before .before .before .before .before .before .before .before .pre .1 .1 in
+    search needs
+
+op-tail-infix-pat-requires : (t : ℕ) → op-tail-lts.Need-infix-pat-requires (
+  fixity-at-reads.Asked,
+  fixity-at-reads.Learnt,
+  infix-pat-below t,
+  infix-pat.Post,
+) (op-tail-at t) op-tail.Post
+op-tail-infix-pat-requires t c κs =
+    let falls = c .before .before .before .before .before .before .before .before .before .before .before .before .pre .0 in
+    let pre0 = c .before .before .before .before .before .before .before .before .before .before .before .before .pre .1 .0 in
+    let pre1 = c .before .before .before .before .before .before .before .before .before .before .before .before .pre .1 .1 in
+    let fixity-at = rw (c .before .before .before .fix .given .1) at (c .before .before .before .before .before .fixity-at .ensures) in
+    search asks depth 8
+
+op-tail-returns : (t : ℕ) → op-tail-lts.Need-returns (
+  fixity-at-reads.Asked,
+  fixity-at-reads.Learnt,
+  infix-pat-below t,
+  infix-pat.Post,
+) (op-tail-at t) op-tail.Post
+unfolding pat.opTail plan choose chosen
+op-tail-returns t c =
+    let falls = c .before .before .before .before .before .before .before .before .before .pre .0 in
+    let pre0 = c .before .before .before .before .before .before .before .before .before .pre .1 .0 in
+    let pre1 = c .before .before .before .before .before .before .before .before .before .pre .1 .1 in
+    let fixity-at = rw (c .enum-told .given .1) at (c .before .before .fixity-at .ensures) in
+    in-steps pre0 (s-fixed fixity-at s-end)
+
+op-tail-same-length : (t : ℕ) → op-tail-lts.Need-same-length (
+  fixity-at-reads.Asked,
+  fixity-at-reads.Learnt,
+  infix-pat-below t,
+  infix-pat.Post,
+) (op-tail-at t) op-tail.Post
+op-tail-same-length t c =
+    c .before .before .before .before .infix-pat .kept .1 .1 .1 .1 .0
+
+op-tail-same-length-2 : (t : ℕ) → op-tail-lts.Need-same-length-2 (
+  fixity-at-reads.Asked,
+  fixity-at-reads.Learnt,
+  infix-pat-below t,
+  infix-pat.Post,
+) (op-tail-at t) op-tail.Post
+op-tail-same-length-2 t c =
+    c .before .before .before .before .infix-pat .kept .1 .1 .1 .1 .1 .0
+
+op-tail-returns-2 : (t : ℕ) → op-tail-lts.Need-returns-2 (
+  fixity-at-reads.Asked,
+  fixity-at-reads.Learnt,
+  infix-pat-below t,
+  infix-pat.Post,
+) (op-tail-at t) op-tail.Post
+unfolding pat.opTail plan choose chosen
+op-tail-returns-2 t c =
+    let falls = c .before .before .before .before .before .before .before .before .before .before .before .before .before .before .before .before .before .pre .0 in
+    let pre0 = c .before .before .before .before .before .before .before .before .before .before .before .before .before .before .before .before .before .pre .1 .0 in
+    let pre1 = c .before .before .before .before .before .before .before .before .before .before .before .before .before .before .before .before .before .pre .1 .1 in
+    let fixity-at = rw (c .before .before .before .before .before .before .before .before .fix .given .1) at (c .before .before .before .before .before .before .before .before .before .before .fixity-at .ensures) in
+    let infix-pat = c .before .before .before .before .infix-pat .ensures in
+    in-steps pre0 (s-fixed fixity-at (s-by _ infix-pat s-end))
+
+or-step-is-min-requires : (t : ℕ) → or-step-lts.Need-is-min-requires (
+  is-min-reads.Asked,
+  is-min-reads.Learnt,
+  refuse-reads.Asked,
+  refuse-reads.Learnt,
+  mark-reads.Asked,
+  mark-reads.Learnt,
+  bump-reads.Asked,
+  bump-reads.Learnt,
+  pat-must-below t,
+  pat-must.Post,
+  close-reads.Asked,
+  close-reads.Learnt,
+) (or-step-at t) or-step.Post
+or-step-is-min-requires t c κs =
+    let falls = c .before .before .before .before .before .before .pre .0 in
+    let pre0 = c .before .before .before .before .before .before .pre .1 .0 in
+    let pre1 = c .before .before .before .before .before .before .pre .1 .1 in
+    search asks depth 8
+
+or-step-refuse-requires : (t : ℕ) → or-step-lts.Need-refuse-requires (
+  is-min-reads.Asked,
+  is-min-reads.Learnt,
+  refuse-reads.Asked,
+  refuse-reads.Learnt,
+  mark-reads.Asked,
+  mark-reads.Learnt,
+  bump-reads.Asked,
+  bump-reads.Learnt,
+  pat-must-below t,
+  pat-must.Post,
+  close-reads.Asked,
+  close-reads.Learnt,
+) (or-step-at t) or-step.Post
+or-step-refuse-requires t c κs =
+    let falls = c .before .before .before .before .before .before .before .before .before .pre .0 in
+    let pre0 = c .before .before .before .before .before .before .before .before .before .pre .1 .0 in
+    let pre1 = c .before .before .before .before .before .before .before .before .before .pre .1 .1 in
+    let is-min = c .before .before .is-min .ensures in
+    let if1 = c .before .if1 .taken in
+    let if2 = c .if2 .taken in
+    search asks depth 8
+
+or-step-returns : (t : ℕ) → or-step-lts.Need-returns (
+  is-min-reads.Asked,
+  is-min-reads.Learnt,
+  refuse-reads.Asked,
+  refuse-reads.Learnt,
+  mark-reads.Asked,
+  mark-reads.Learnt,
+  bump-reads.Asked,
+  bump-reads.Learnt,
+  pat-must-below t,
+  pat-must.Post,
+  close-reads.Asked,
+  close-reads.Learnt,
+) (or-step-at t) or-step.Post
+unfolding pat.orStep plan choose chosen
+or-step-returns t c =
+    let falls = c .before .before .before .before .before .before .before .before .before .before .pre .0 in
+    let pre0 = c .before .before .before .before .before .before .before .before .before .before .pre .1 .0 in
+    let pre1 = c .before .before .before .before .before .before .before .before .before .before .pre .1 .1 in
+    let is-min = c .before .before .before .is-min .ensures in
+    let if1 = c .before .before .if1 .taken in
+    let if2 = c .before .if2 .taken in
+    let refuse = c .refuse .ensures in
+    in-steps pre0 (s-true _ _ (test-true is-min if1) (s-deep if2 refuse s-end))
+
+or-step-mark-requires : (t : ℕ) → or-step-lts.Need-mark-requires (
+  is-min-reads.Asked,
+  is-min-reads.Learnt,
+  refuse-reads.Asked,
+  refuse-reads.Learnt,
+  mark-reads.Asked,
+  mark-reads.Learnt,
+  bump-reads.Asked,
+  bump-reads.Learnt,
+  pat-must-below t,
+  pat-must.Post,
+  close-reads.Asked,
+  close-reads.Learnt,
+) (or-step-at t) or-step.Post
+or-step-mark-requires t c κs =
+    let falls = c .before .before .before .before .before .before .before .before .before .before .pre .0 in
+    let pre0 = c .before .before .before .before .before .before .before .before .before .before .pre .1 .0 in
+    let pre1 = c .before .before .before .before .before .before .before .before .before .before .pre .1 .1 in
+    let is-min = c .before .before .before .is-min .ensures in
+    let if1 = c .before .before .if1 .taken in
+    let if2 = c .before .if2 .left in
+    search asks depth 8
+
+or-step-bump-requires : (t : ℕ) → or-step-lts.Need-bump-requires (
+  is-min-reads.Asked,
+  is-min-reads.Learnt,
+  refuse-reads.Asked,
+  refuse-reads.Learnt,
+  mark-reads.Asked,
+  mark-reads.Learnt,
+  bump-reads.Asked,
+  bump-reads.Learnt,
+  pat-must-below t,
+  pat-must.Post,
+  close-reads.Asked,
+  close-reads.Learnt,
+) (or-step-at t) or-step.Post
+or-step-bump-requires t c κs =
+    let falls = c .before .before .before .before .before .before .before .before .before .before .before .pre .0 in
+    let pre0 = c .before .before .before .before .before .before .before .before .before .before .before .pre .1 .0 in
+    let pre1 = c .before .before .before .before .before .before .before .before .before .before .before .pre .1 .1 in
+    let is-min = c .before .before .before .before .is-min .ensures in
+    let if1 = c .before .before .before .if1 .taken in
+    let if2 = c .before .before .if2 .left in
+    let mark = c .mark .ensures in
+    let mark-ok = ok-marks mark pre0 in
+    search asks depth 8
+
+or-step-sub-pat-must : (t : ℕ) → or-step-lts.Need-sub-pat-must (
+  is-min-reads.Asked,
+  is-min-reads.Learnt,
+  refuse-reads.Asked,
+  refuse-reads.Learnt,
+  mark-reads.Asked,
+  mark-reads.Learnt,
+  bump-reads.Asked,
+  bump-reads.Learnt,
+  pat-must-below t,
+  pat-must.Post,
+  close-reads.Asked,
+  close-reads.Learnt,
+) (or-step-at t) or-step.Post
+or-step-sub-pat-must t c =
+    let falls = c .before .before .before .before .before .before .before .before .before .before .before .before .before .before .before .before .pre .0 in
+    let pre0 = c .before .before .before .before .before .before .before .before .before .before .before .before .before .before .before .before .pre .1 .0 in
+    let pre1 = c .before .before .before .before .before .before .before .before .before .before .before .before .before .before .before .before .pre .1 .1 in
+    let if1 = c .before .before .before .before .before .before .before .before .if1 .taken in
+    let if2 = c .before .before .before .before .before .before .before .if2 .left in
+    search needs
+
+or-step-pat-must-requires : (t : ℕ) → or-step-lts.Need-pat-must-requires (
+  is-min-reads.Asked,
+  is-min-reads.Learnt,
+  refuse-reads.Asked,
+  refuse-reads.Learnt,
+  mark-reads.Asked,
+  mark-reads.Learnt,
+  bump-reads.Asked,
+  bump-reads.Learnt,
+  pat-must-below t,
+  pat-must.Post,
+  close-reads.Asked,
+  close-reads.Learnt,
+) (or-step-at t) or-step.Post
+or-step-pat-must-requires t c κs =
+    let falls = c .before .before .before .before .before .before .before .before .before .before .before .before .before .before .before .before .pre .0 in
+    let pre0 = c .before .before .before .before .before .before .before .before .before .before .before .before .before .before .before .before .pre .1 .0 in
+    let pre1 = c .before .before .before .before .before .before .before .before .before .before .before .before .before .before .before .before .pre .1 .1 in
+    let is-min = c .before .before .before .before .before .before .before .before .before .is-min .ensures in
+    let if1 = c .before .before .before .before .before .before .before .before .if1 .taken in
+    let if2 = c .before .before .before .before .before .before .before .if2 .left in
+    let mark = c .before .before .before .before .before .mark .ensures in
+    let mark-ok = ok-marks mark pre0 in
+    let bump = c .before .before .before .before .bump .ensures in
+    let bump-ok = ok-bumps bump mark-ok in
+    search asks depth 8
+
+or-step-close-requires : (t : ℕ) → or-step-lts.Need-close-requires (
+  is-min-reads.Asked,
+  is-min-reads.Learnt,
+  refuse-reads.Asked,
+  refuse-reads.Learnt,
+  mark-reads.Asked,
+  mark-reads.Learnt,
+  bump-reads.Asked,
+  bump-reads.Learnt,
+  pat-must-below t,
+  pat-must.Post,
+  close-reads.Asked,
+  close-reads.Learnt,
+) (or-step-at t) or-step.Post
+or-step-close-requires t c κs =
+    let falls = c .before .before .before .before .before .before .before .before .before .before .before .before .before .before .before .before .before .before .before .before .before .before .pre .0 in
+    let pre0 = c .before .before .before .before .before .before .before .before .before .before .before .before .before .before .before .before .before .before .before .before .before .before .pre .1 .0 in
+    let pre1 = c .before .before .before .before .before .before .before .before .before .before .before .before .before .before .before .before .before .before .before .before .before .before .pre .1 .1 in
+    let is-min = c .before .before .before .before .before .before .before .before .before .before .before .before .before .before .before .is-min .ensures in
+    let if1 = c .before .before .before .before .before .before .before .before .before .before .before .before .before .before .if1 .taken in
+    let if2 = c .before .before .before .before .before .before .before .before .before .before .before .before .before .if2 .left in
+    let mark = c .before .before .before .before .before .before .before .before .before .before .before .mark .ensures in
+    let mark-ok = ok-marks mark pre0 in
+    let bump = c .before .before .before .before .before .before .before .before .before .before .bump .ensures in
+    let bump-ok = ok-bumps bump mark-ok in
+    let pat-must = c .before .before .before .before .before .pat-must .ensures in
+    let pat-must-ok = pat-must .ok in
+    search asks depth 8
+
+or-step-same-length : (t : ℕ) → or-step-lts.Need-same-length (
+  is-min-reads.Asked,
+  is-min-reads.Learnt,
+  refuse-reads.Asked,
+  refuse-reads.Learnt,
+  mark-reads.Asked,
+  mark-reads.Learnt,
+  bump-reads.Asked,
+  bump-reads.Learnt,
+  pat-must-below t,
+  pat-must.Post,
+  close-reads.Asked,
+  close-reads.Learnt,
+) (or-step-at t) or-step.Post
+or-step-same-length t c =
+    c .before .before .close .kept .0 ∙ c .before .before .before .before .before .before .before .before .pat-must .kept .1 .1 .1 .1 .0 ∙ c .before .before .before .before .before .before .before .before .before .before .before .before .before .bump .kept .1 .0
+
+or-step-same-length-2 : (t : ℕ) → or-step-lts.Need-same-length-2 (
+  is-min-reads.Asked,
+  is-min-reads.Learnt,
+  refuse-reads.Asked,
+  refuse-reads.Learnt,
+  mark-reads.Asked,
+  mark-reads.Learnt,
+  bump-reads.Asked,
+  bump-reads.Learnt,
+  pat-must-below t,
+  pat-must.Post,
+  close-reads.Asked,
+  close-reads.Learnt,
+) (or-step-at t) or-step.Post
+or-step-same-length-2 t c =
+    c .before .before .before .before .before .before .before .before .pat-must .kept .1 .1 .1 .1 .1 .0
+
+or-step-returns-2 : (t : ℕ) → or-step-lts.Need-returns-2 (
+  is-min-reads.Asked,
+  is-min-reads.Learnt,
+  refuse-reads.Asked,
+  refuse-reads.Learnt,
+  mark-reads.Asked,
+  mark-reads.Learnt,
+  bump-reads.Asked,
+  bump-reads.Learnt,
+  pat-must-below t,
+  pat-must.Post,
+  close-reads.Asked,
+  close-reads.Learnt,
+) (or-step-at t) or-step.Post
+unfolding pat.orStep plan choose chosen
+or-step-returns-2 t c =
+    let falls = c .before .before .before .before .before .before .before .before .before .before .before .before .before .before .before .before .before .before .before .before .before .before .before .before .before .pre .0 in
+    let pre0 = c .before .before .before .before .before .before .before .before .before .before .before .before .before .before .before .before .before .before .before .before .before .before .before .before .before .pre .1 .0 in
+    let pre1 = c .before .before .before .before .before .before .before .before .before .before .before .before .before .before .before .before .before .before .before .before .before .before .before .before .before .pre .1 .1 in
+    let is-min = c .before .before .before .before .before .before .before .before .before .before .before .before .before .before .before .before .before .before .is-min .ensures in
+    let if1 = c .before .before .before .before .before .before .before .before .before .before .before .before .before .before .before .before .before .if1 .taken in
+    let if2 = c .before .before .before .before .before .before .before .before .before .before .before .before .before .before .before .before .if2 .left in
+    let mark = c .before .before .before .before .before .before .before .before .before .before .before .before .before .before .mark .ensures in
+    let bump = c .before .before .before .before .before .before .before .before .before .before .before .before .before .bump .ensures in
+    let pat-must = c .before .before .before .before .before .before .before .before .pat-must .ensures in
+    let close = c .before .before .close .ensures in
+    in-steps pre0 (s-true _ _ (test-true is-min if1) (s-mark if2 mark (s-bump bump (s-by _ (runs-in pat-must) (s-close close s-end)))))
+
+or-step-returns-3 : (t : ℕ) → or-step-lts.Need-returns-3 (
+  is-min-reads.Asked,
+  is-min-reads.Learnt,
+  refuse-reads.Asked,
+  refuse-reads.Learnt,
+  mark-reads.Asked,
+  mark-reads.Learnt,
+  bump-reads.Asked,
+  bump-reads.Learnt,
+  pat-must-below t,
+  pat-must.Post,
+  close-reads.Asked,
+  close-reads.Learnt,
+) (or-step-at t) or-step.Post
+unfolding pat.orStep plan choose chosen
+or-step-returns-3 t c =
+    let falls = c .before .before .before .before .before .before .before .before .pre .0 in
+    let pre0 = c .before .before .before .before .before .before .before .before .pre .1 .0 in
+    let pre1 = c .before .before .before .before .before .before .before .before .pre .1 .1 in
+    let is-min = c .before .is-min .ensures in
+    let if1 = c .if1 .left in
+    in-steps pre0 (s-false _ _ (test-false is-min if1) s-end)
+
+pat-arg-refuse-requires : (t : ℕ) → pat-arg-lts.Need-refuse-requires (
+  refuse-reads.Asked,
+  refuse-reads.Learnt,
+  mark-reads.Asked,
+  mark-reads.Learnt,
+  pat-must-below t,
+  pat-must.Post,
+  at-reads.Asked,
+  at-reads.Learnt,
+  eat-reads.Asked,
+  eat-reads.Learnt,
+  state-reads.Asked,
+  state-reads.Learnt,
+  close-reads.Asked,
+  close-reads.Learnt,
+) (pat-arg-at t) pat-arg.Post
+pat-arg-refuse-requires t c κs =
+    let falls = c .before .before .before .before .before .before .before .pre .0 in
+    let pre0 = c .before .before .before .before .before .before .before .pre .1 in
+    let if1 = c .if1 .taken in
+    search asks depth 8
+
+pat-arg-returns : (t : ℕ) → pat-arg-lts.Need-returns (
+  refuse-reads.Asked,
+  refuse-reads.Learnt,
+  mark-reads.Asked,
+  mark-reads.Learnt,
+  pat-must-below t,
+  pat-must.Post,
+  at-reads.Asked,
+  at-reads.Learnt,
+  eat-reads.Asked,
+  eat-reads.Learnt,
+  state-reads.Asked,
+  state-reads.Learnt,
+  close-reads.Asked,
+  close-reads.Learnt,
+) (pat-arg-at t) pat-arg.Post
+unfolding pat.patArg plan choose chosen
+pat-arg-returns t c =
+    let falls = c .before .before .before .before .before .before .before .before .pre .0 in
+    let pre0 = c .before .before .before .before .before .before .before .before .pre .1 in
+    let if1 = c .before .if1 .taken in
+    let refuse = c .refuse .ensures in
+    by-steps pre0 (λ b. s-deep if1 refuse s-end)
+
+pat-arg-mark-requires : (t : ℕ) → pat-arg-lts.Need-mark-requires (
+  refuse-reads.Asked,
+  refuse-reads.Learnt,
+  mark-reads.Asked,
+  mark-reads.Learnt,
+  pat-must-below t,
+  pat-must.Post,
+  at-reads.Asked,
+  at-reads.Learnt,
+  eat-reads.Asked,
+  eat-reads.Learnt,
+  state-reads.Asked,
+  state-reads.Learnt,
+  close-reads.Asked,
+  close-reads.Learnt,
+) (pat-arg-at t) pat-arg.Post
+pat-arg-mark-requires t c κs =
+    let falls = c .before .before .before .before .before .before .before .pre .0 in
+    let pre0 = c .before .before .before .before .before .before .before .pre .1 in
+    let if1 = c .if1 .left in
+    search asks depth 8
+
+pat-arg-sub-pat-must : (t : ℕ) → pat-arg-lts.Need-sub-pat-must (
+  refuse-reads.Asked,
+  refuse-reads.Learnt,
+  mark-reads.Asked,
+  mark-reads.Learnt,
+  pat-must-below t,
+  pat-must.Post,
+  at-reads.Asked,
+  at-reads.Learnt,
+  eat-reads.Asked,
+  eat-reads.Learnt,
+  state-reads.Asked,
+  state-reads.Learnt,
+  close-reads.Asked,
+  close-reads.Learnt,
+) (pat-arg-at t) pat-arg.Post
+pat-arg-sub-pat-must t c =
+    let falls = c .before .before .before .before .before .before .before .before .before .before .pre .0 in
+    let pre0 = c .before .before .before .before .before .before .before .before .before .before .pre .1 in
+    let if1 = c .before .before .before .if1 .left in
+    search needs
+
+pat-arg-pat-must-requires : (t : ℕ) → pat-arg-lts.Need-pat-must-requires (
+  refuse-reads.Asked,
+  refuse-reads.Learnt,
+  mark-reads.Asked,
+  mark-reads.Learnt,
+  pat-must-below t,
+  pat-must.Post,
+  at-reads.Asked,
+  at-reads.Learnt,
+  eat-reads.Asked,
+  eat-reads.Learnt,
+  state-reads.Asked,
+  state-reads.Learnt,
+  close-reads.Asked,
+  close-reads.Learnt,
+) (pat-arg-at t) pat-arg.Post
+pat-arg-pat-must-requires t c κs =
+    let falls = c .before .before .before .before .before .before .before .before .before .before .pre .0 in
+    let pre0 = c .before .before .before .before .before .before .before .before .before .before .pre .1 in
+    let if1 = c .before .before .before .if1 .left in
+    let mark = c .before .before .mark .ensures in
+    let mark-ok = ok-marks mark pre0 in
+    search asks depth 8
+
+pat-arg-at-requires : (t : ℕ) → pat-arg-lts.Need-at-requires (
+  refuse-reads.Asked,
+  refuse-reads.Learnt,
+  mark-reads.Asked,
+  mark-reads.Learnt,
+  pat-must-below t,
+  pat-must.Post,
+  at-reads.Asked,
+  at-reads.Learnt,
+  eat-reads.Asked,
+  eat-reads.Learnt,
+  state-reads.Asked,
+  state-reads.Learnt,
+  close-reads.Asked,
+  close-reads.Learnt,
+) (pat-arg-at t) pat-arg.Post
+pat-arg-at-requires t c κs =
+    let falls = c .before .before .before .before .before .before .before .before .before .before .before .before .before .before .before .pre .0 in
+    let pre0 = c .before .before .before .before .before .before .before .before .before .before .before .before .before .before .before .pre .1 in
+    let if1 = c .before .before .before .before .before .before .before .before .if1 .left in
+    let mark = c .before .before .before .before .before .before .before .mark .ensures in
+    let mark-ok = ok-marks mark pre0 in
+    let pat-must = c .before .before .before .before .pat-must .ensures in
+    let pat-must-ok = pat-must .ok in
+    search asks depth 8
+
+pat-arg-same-length : (t : ℕ) → pat-arg-lts.Need-same-length (
+  refuse-reads.Asked,
+  refuse-reads.Learnt,
+  mark-reads.Asked,
+  mark-reads.Learnt,
+  pat-must-below t,
+  pat-must.Post,
+  at-reads.Asked,
+  at-reads.Learnt,
+  eat-reads.Asked,
+  eat-reads.Learnt,
+  state-reads.Asked,
+  state-reads.Learnt,
+  close-reads.Asked,
+  close-reads.Learnt,
+) (pat-arg-at t) pat-arg.Post
+pat-arg-same-length t c =
+    c .before .before .before .before .before .before .pat-must .kept .1 .1 .1 .1 .0
+
+pat-arg-same-length-2 : (t : ℕ) → pat-arg-lts.Need-same-length-2 (
+  refuse-reads.Asked,
+  refuse-reads.Learnt,
+  mark-reads.Asked,
+  mark-reads.Learnt,
+  pat-must-below t,
+  pat-must.Post,
+  at-reads.Asked,
+  at-reads.Learnt,
+  eat-reads.Asked,
+  eat-reads.Learnt,
+  state-reads.Asked,
+  state-reads.Learnt,
+  close-reads.Asked,
+  close-reads.Learnt,
+) (pat-arg-at t) pat-arg.Post
+pat-arg-same-length-2 t c =
+    c .before .before .before .before .before .before .pat-must .kept .1 .1 .1 .1 .1 .0
+
+pat-arg-returns-2 : (t : ℕ) → pat-arg-lts.Need-returns-2 (
+  refuse-reads.Asked,
+  refuse-reads.Learnt,
+  mark-reads.Asked,
+  mark-reads.Learnt,
+  pat-must-below t,
+  pat-must.Post,
+  at-reads.Asked,
+  at-reads.Learnt,
+  eat-reads.Asked,
+  eat-reads.Learnt,
+  state-reads.Asked,
+  state-reads.Learnt,
+  close-reads.Asked,
+  close-reads.Learnt,
+) (pat-arg-at t) pat-arg.Post
+unfolding pat.patArg plan choose chosen
+pat-arg-returns-2 t c =
+    let falls = c .before .before .before .before .before .before .before .before .before .before .before .before .before .before .before .before .before .pre .0 in
+    let pre0 = c .before .before .before .before .before .before .before .before .before .before .before .before .before .before .before .before .before .pre .1 in
+    let if1 = c .before .before .before .before .before .before .before .before .before .before .if1 .left in
+    let mark = c .before .before .before .before .before .before .before .before .before .mark .ensures in
+    let pat-must = c .before .before .before .before .before .before .pat-must .ensures in
+    let at = c .before .at .ensures in
+    let if2 = c .if2 .taken in
+    by-steps pre0 (λ b. s-mark if1 mark (s-by _ (runs-in pat-must) (s-kind (s-true _ _ (kind-at _ _ _ _ at if2) s-end))))
+
+pat-arg-eat-requires : (t : ℕ) → pat-arg-lts.Need-eat-requires (
+  refuse-reads.Asked,
+  refuse-reads.Learnt,
+  mark-reads.Asked,
+  mark-reads.Learnt,
+  pat-must-below t,
+  pat-must.Post,
+  at-reads.Asked,
+  at-reads.Learnt,
+  eat-reads.Asked,
+  eat-reads.Learnt,
+  state-reads.Asked,
+  state-reads.Learnt,
+  close-reads.Asked,
+  close-reads.Learnt,
+) (pat-arg-at t) pat-arg.Post
+pat-arg-eat-requires t c κs =
+    let falls = c .before .before .before .before .before .before .before .before .before .before .before .before .before .before .before .before .before .before .before .pre .0 in
+    let pre0 = c .before .before .before .before .before .before .before .before .before .before .before .before .before .before .before .before .before .before .before .pre .1 in
+    let if1 = c .before .before .before .before .before .before .before .before .before .before .before .before .if1 .left in
+    let mark = c .before .before .before .before .before .before .before .before .before .before .before .mark .ensures in
+    let mark-ok = ok-marks mark pre0 in
+    let pat-must = c .before .before .before .before .before .before .before .before .pat-must .ensures in
+    let pat-must-ok = pat-must .ok in
+    let at = c .before .before .before .at .ensures in
+    let if2 = c .before .before .if2 .left in
+    search asks depth 8
+
+pat-arg-state-requires : (t : ℕ) → pat-arg-lts.Need-state-requires (
+  refuse-reads.Asked,
+  refuse-reads.Learnt,
+  mark-reads.Asked,
+  mark-reads.Learnt,
+  pat-must-below t,
+  pat-must.Post,
+  at-reads.Asked,
+  at-reads.Learnt,
+  eat-reads.Asked,
+  eat-reads.Learnt,
+  state-reads.Asked,
+  state-reads.Learnt,
+  close-reads.Asked,
+  close-reads.Learnt,
+) (pat-arg-at t) pat-arg.Post
+pat-arg-state-requires t c κs =
+    let falls = c .before .before .before .before .before .before .before .before .before .before .before .before .before .before .before .before .before .before .before .before .before .before .before .before .pre .0 in
+    let pre0 = c .before .before .before .before .before .before .before .before .before .before .before .before .before .before .before .before .before .before .before .before .before .before .before .before .pre .1 in
+    let if1 = c .before .before .before .before .before .before .before .before .before .before .before .before .before .before .before .before .before .if1 .left in
+    let mark = c .before .before .before .before .before .before .before .before .before .before .before .before .before .before .before .before .mark .ensures in
+    let mark-ok = ok-marks mark pre0 in
+    let pat-must = c .before .before .before .before .before .before .before .before .before .before .before .before .before .pat-must .ensures in
+    let pat-must-ok = pat-must .ok in
+    let at = c .before .before .before .before .before .before .before .before .at .ensures in
+    let if2 = c .before .before .before .before .before .before .before .if2 .left in
+    let eat = c .before .before .before .before .eat .ensures in
+    let eat-ok = eat .ok in
+    search asks depth 8
+
+pat-arg-close-requires : (t : ℕ) → pat-arg-lts.Need-close-requires (
+  refuse-reads.Asked,
+  refuse-reads.Learnt,
+  mark-reads.Asked,
+  mark-reads.Learnt,
+  pat-must-below t,
+  pat-must.Post,
+  at-reads.Asked,
+  at-reads.Learnt,
+  eat-reads.Asked,
+  eat-reads.Learnt,
+  state-reads.Asked,
+  state-reads.Learnt,
+  close-reads.Asked,
+  close-reads.Learnt,
+) (pat-arg-at t) pat-arg.Post
+pat-arg-close-requires t c κs =
+    let falls = c .before .before .before .before .before .before .before .before .before .before .before .before .before .before .before .before .before .before .before .before .before .before .before .before .before .before .pre .0 in
+    let pre0 = c .before .before .before .before .before .before .before .before .before .before .before .before .before .before .before .before .before .before .before .before .before .before .before .before .before .before .pre .1 in
+    let if1 = c .before .before .before .before .before .before .before .before .before .before .before .before .before .before .before .before .before .before .before .if1 .left in
+    let mark = c .before .before .before .before .before .before .before .before .before .before .before .before .before .before .before .before .before .before .mark .ensures in
+    let mark-ok = ok-marks mark pre0 in
+    let pat-must = c .before .before .before .before .before .before .before .before .before .before .before .before .before .before .before .pat-must .ensures in
+    let pat-must-ok = pat-must .ok in
+    let at = c .before .before .before .before .before .before .before .before .before .before .at .ensures in
+    let if2 = c .before .before .before .before .before .before .before .before .before .if2 .left in
+    let eat = c .before .before .before .before .before .before .eat .ensures in
+    let eat-ok = eat .ok in
+    let state = c .before .state .ensures in
+    let state-ok = ok-state state eat-ok in
+    search asks depth 8
+
+pat-arg-same-length-3 : (t : ℕ) → pat-arg-lts.Need-same-length-3 (
+  refuse-reads.Asked,
+  refuse-reads.Learnt,
+  mark-reads.Asked,
+  mark-reads.Learnt,
+  pat-must-below t,
+  pat-must.Post,
+  at-reads.Asked,
+  at-reads.Learnt,
+  eat-reads.Asked,
+  eat-reads.Learnt,
+  state-reads.Asked,
+  state-reads.Learnt,
+  close-reads.Asked,
+  close-reads.Learnt,
+) (pat-arg-at t) pat-arg.Post
+pat-arg-same-length-3 t c =
+    c .before .before .close .kept .0 ∙ c .before .before .before .before .before .before .before .before .before .eat .kept .1 .1 .1 .1 .0 ∙ c .before .before .before .before .before .before .before .before .before .before .before .before .before .before .before .before .before .before .pat-must .kept .1 .1 .1 .1 .0
+
+pat-arg-same-length-4 : (t : ℕ) → pat-arg-lts.Need-same-length-4 (
+  refuse-reads.Asked,
+  refuse-reads.Learnt,
+  mark-reads.Asked,
+  mark-reads.Learnt,
+  pat-must-below t,
+  pat-must.Post,
+  at-reads.Asked,
+  at-reads.Learnt,
+  eat-reads.Asked,
+  eat-reads.Learnt,
+  state-reads.Asked,
+  state-reads.Learnt,
+  close-reads.Asked,
+  close-reads.Learnt,
+) (pat-arg-at t) pat-arg.Post
+pat-arg-same-length-4 t c =
+    c .before .before .before .before .before .before .before .before .before .eat .kept .1 .1 .1 .1 .1 .0 ∙ c .before .before .before .before .before .before .before .before .before .before .before .before .before .before .before .before .before .before .pat-must .kept .1 .1 .1 .1 .1 .0
+
+pat-arg-returns-3 : (t : ℕ) → pat-arg-lts.Need-returns-3 (
+  refuse-reads.Asked,
+  refuse-reads.Learnt,
+  mark-reads.Asked,
+  mark-reads.Learnt,
+  pat-must-below t,
+  pat-must.Post,
+  at-reads.Asked,
+  at-reads.Learnt,
+  eat-reads.Asked,
+  eat-reads.Learnt,
+  state-reads.Asked,
+  state-reads.Learnt,
+  close-reads.Asked,
+  close-reads.Learnt,
+) (pat-arg-at t) pat-arg.Post
+unfolding pat.patArg plan choose chosen
+pat-arg-returns-3 t c =
+    let falls = c .before .before .before .before .before .before .before .before .before .before .before .before .before .before .before .before .before .before .before .before .before .before .before .before .before .before .before .before .before .pre .0 in
+    let pre0 = c .before .before .before .before .before .before .before .before .before .before .before .before .before .before .before .before .before .before .before .before .before .before .before .before .before .before .before .before .before .pre .1 in
+    let if1 = c .before .before .before .before .before .before .before .before .before .before .before .before .before .before .before .before .before .before .before .before .before .before .if1 .left in
+    let mark = c .before .before .before .before .before .before .before .before .before .before .before .before .before .before .before .before .before .before .before .before .before .mark .ensures in
+    let pat-must = c .before .before .before .before .before .before .before .before .before .before .before .before .before .before .before .before .before .before .pat-must .ensures in
+    let at = c .before .before .before .before .before .before .before .before .before .before .before .before .before .at .ensures in
+    let if2 = c .before .before .before .before .before .before .before .before .before .before .before .before .if2 .left in
+    let eat = c .before .before .before .before .before .before .before .before .before .eat .ensures in
+    let state = c .before .before .before .before .state .ensures in
+    let close = c .before .before .close .ensures in
+    by-steps pre0 (λ b. s-mark if1 mark (s-by _ (runs-in pat-must) (s-kind (s-false _ _ (kind-off _ _ _ _ at if2) (s-by _ (settled state (runs-always eat)) (s-close close s-end))))))
+
+abbrev pat-args-Inv-loop : pat-args-lts.InvT-loop
+pat-args-Inv-loop text toks env table scratch₀ finds₀ left end e b s1₀ scratch finds s1 =
+    Loops left b (util.endTurn {g = true} SK.PatArg SK.Comma end (pat.patMust Prec.Min (errOf e))) (mem text toks env table scratch₀ finds₀ s1₀) (mem text toks env table scratch finds s1) × (length scratch ≡ length scratch₀) × (length finds ≡ length finds₀)
+
+abbrev pat-args-μ-loop : pat-args-lts.MeasureT-loop
+pat-args-μ-loop text toks env table scratch₀ finds₀ left end e b s1₀ scratch finds s1 = turns (mem text toks env table scratch finds s1)
+
+pat-args-loop-holds :
+    (t : ℕ) →
+    pat-args-lts.Need-loop-holds
+    (arg-turn-below t, arg-turn.Post)
+    (pat-args-at t)
+    pat-args.Post
+    pat-args-Inv-loop
+    pat-args-μ-loop
+pat-args-loop-holds t c =
+    let falls = c .before .before .before .before .before .before .pre .0 in
+    let pre0 = c .before .before .before .before .before .before .pre .1 .0 in
+    let pre1 = c .before .before .before .before .before .before .pre .1 .1 in
+    (loop-starts pre0, refl, refl)
+
+pat-args-arg-turn-requires : (t : ℕ) → pat-args-lts.Need-arg-turn-requires (
+  arg-turn-below t,
+  arg-turn.Post,
+) (pat-args-at t) pat-args.Post pat-args-Inv-loop pat-args-μ-loop
+pat-args-arg-turn-requires t c κs =
+    let falls = c .before .before .before .before .before .before .before .before .before .pre .0 in
+    let pre0 = c .before .before .before .before .before .before .before .before .before .pre .1 .0 in
+    let pre1 = c .before .before .before .before .before .before .before .before .before .pre .1 .1 in
+    let inv = c .before .before .loop .inv .0 .ok in
+    search asks depth 8
+
+pat-args-enum-known-turn : (t : ℕ) → pat-args-lts.Need-enum-known-turn (
+  arg-turn-below t,
+  arg-turn.Post,
+) (pat-args-at t) pat-args.Post pat-args-Inv-loop pat-args-μ-loop
+pat-args-enum-known-turn t c =
+    let falls = c .before .before .before .before .before .before .before .before .before .before .before .before .before .before .before .pre .0 in
+    let pre0 = c .before .before .before .before .before .before .before .before .before .before .before .before .before .before .before .pre .1 .0 in
+    let pre1 = c .before .before .before .before .before .before .before .before .before .before .before .before .before .before .before .pre .1 .1 in
+    search needs
+
+pat-args-loop-less :
+    (t : ℕ) →
+    pat-args-lts.Need-loop-less
+    (arg-turn-below t, arg-turn.Post)
+    (pat-args-at t)
+    pat-args.Post
+    pat-args-Inv-loop
+    pat-args-μ-loop
+pat-args-loop-less t c =
+    let arg-turn = runs-in {b = 0} (rw (c .before .turn .given .1) at (c .before .before .before .before .before .before .before .arg-turn .ensures)) in
+    loop-falls (end-turn-advances true _ _ _ _ _ _) arg-turn
+
+pat-args-loop-again :
+    (t : ℕ) →
+    pat-args-lts.Need-loop-again
+    (arg-turn-below t, arg-turn.Post)
+    (pat-args-at t)
+    pat-args.Post
+    pat-args-Inv-loop
+    pat-args-μ-loop
+pat-args-loop-again t c =
+    let arg-turn = runs-in (rw (c .before .turn .given .1) at (c .before .before .before .before .before .before .before .arg-turn .ensures)) in
+    (loop-goes (end-turn-advances true _ _ _ _ _ _) (c .before .before .before .before .before .before .before .before .before .before .loop .inv .0) arg-turn, c .before .before .before .before .before .before .before .arg-turn .kept .1 .1 .1 .1 .0 ∙ c .before .before .before .before .before .before .before .before .before .before .loop .inv .1, c .before .before .before .before .before .before .before .arg-turn .kept .1 .1 .1 .1 .1 .0 ∙ c .before .before .before .before .before .before .before .before .before .before .loop .inv .2)
+
+pat-args-enum-known-turn-2 : (t : ℕ) → pat-args-lts.Need-enum-known-turn-2 (
+  arg-turn-below t,
+  arg-turn.Post,
+) (pat-args-at t) pat-args.Post pat-args-Inv-loop pat-args-μ-loop
+pat-args-enum-known-turn-2 t c =
+    let falls = c .before .before .before .before .before .before .before .before .before .before .before .before .before .before .before .pre .0 in
+    let pre0 = c .before .before .before .before .before .before .before .before .before .before .before .before .before .before .before .pre .1 .0 in
+    let pre1 = c .before .before .before .before .before .before .before .before .before .before .before .before .before .before .before .pre .1 .1 in
+    search needs
+
+pat-args-same-length :
+    (t : ℕ) →
+    pat-args-lts.Need-same-length
+    (arg-turn-below t, arg-turn.Post)
+    (pat-args-at t)
+    pat-args.Post
+    pat-args-Inv-loop
+    pat-args-μ-loop
+pat-args-same-length t c =
+    c .before .before .before .before .before .before .before .arg-turn .kept .1 .1 .1 .1 .0 ∙ c .before .before .before .before .before .before .before .before .before .before .loop .inv .1
+
+pat-args-same-length-2 : (t : ℕ) → pat-args-lts.Need-same-length-2 (
+  arg-turn-below t,
+  arg-turn.Post,
+) (pat-args-at t) pat-args.Post pat-args-Inv-loop pat-args-μ-loop
+pat-args-same-length-2 t c =
+    c .before .before .before .before .before .before .before .arg-turn .kept .1 .1 .1 .1 .1 .0 ∙ c .before .before .before .before .before .before .before .before .before .before .loop .inv .2
+
+pat-args-returns :
+    (t : ℕ) →
+    pat-args-lts.Need-returns
+    (arg-turn-below t, arg-turn.Post)
+    (pat-args-at t)
+    pat-args.Post
+    pat-args-Inv-loop
+    pat-args-μ-loop
+pat-args-returns t c =
+    let arg-turn = runs-in (rw (c .before .turn2 .given .1) at (c .before .before .before .before .before .before .before .arg-turn .ensures)) in
+    loop-ends (end-turn-advances true _ _ _ _ _ _) (c .before .before .before .before .before .before .before .before .before .before .loop .inv .0) arg-turn
+
+pat-must-pat-prec-requires : (t : ℕ) → pat-must-lts.Need-pat-prec-requires (
+  pat-prec-below t,
+  pat-prec.Post,
+  report-reads.Asked,
+  report-reads.Learnt,
+) (pat-must-at t) pat-must.Post
+pat-must-pat-prec-requires t c κs =
+    let falls = c .before .before .before .before .before .before .before .before .pre .0 in
+    let pre0 = c .before .before .before .before .before .before .before .before .pre .1 in
+    search asks depth 8
+
+pat-must-enum-known-got : (t : ℕ) → pat-must-lts.Need-enum-known-got (
+  pat-prec-below t,
+  pat-prec.Post,
+  report-reads.Asked,
+  report-reads.Learnt,
+) (pat-must-at t) pat-must.Post
+pat-must-enum-known-got t c =
+    let falls = c .before .before .before .before .before .before .before .before .before .before .before .before .before .before .pre .0 in
+    let pre0 = c .before .before .before .before .before .before .before .before .before .before .before .before .before .before .pre .1 in
+    search needs
+
+pat-must-enum-known-got-2 : (t : ℕ) → pat-must-lts.Need-enum-known-got-2 (
+  pat-prec-below t,
+  pat-prec.Post,
+  report-reads.Asked,
+  report-reads.Learnt,
+) (pat-must-at t) pat-must.Post
+pat-must-enum-known-got-2 t c =
+    let falls = c .before .before .before .before .before .before .before .before .before .before .before .before .before .before .pre .0 in
+    let pre0 = c .before .before .before .before .before .before .before .before .before .before .before .before .before .before .pre .1 in
+    search needs
+
+pat-must-report-requires : (t : ℕ) → pat-must-lts.Need-report-requires (
+  pat-prec-below t,
+  pat-prec.Post,
+  report-reads.Asked,
+  report-reads.Learnt,
+) (pat-must-at t) pat-must.Post
+pat-must-report-requires t c κs =
+    let falls = c .before .before .before .before .before .before .before .before .before .before .before .before .before .before .before .before .before .pre .0 in
+    let pre0 = c .before .before .before .before .before .before .before .before .before .before .before .before .before .before .before .before .before .pre .1 in
+    let pat-prec = rw (c .before .before .got2 .given .1) at (c .before .before .before .before .before .before .before .before .pat-prec .ensures) in
+    let pat-prec-ok = pat-prec .ok in
+    search asks depth 8
+
+pat-must-same-length : (t : ℕ) → pat-must-lts.Need-same-length (
+  pat-prec-below t,
+  pat-prec.Post,
+  report-reads.Asked,
+  report-reads.Learnt,
+) (pat-must-at t) pat-must.Post
+pat-must-same-length t c =
+    c .before .before .before .before .before .before .before .pat-prec .kept .1 .1 .1 .1 .0
+
+pat-must-same-length-2 : (t : ℕ) → pat-must-lts.Need-same-length-2 (
+  pat-prec-below t,
+  pat-prec.Post,
+  report-reads.Asked,
+  report-reads.Learnt,
+) (pat-must-at t) pat-must.Post
+pat-must-same-length-2 t c =
+    c .before .before .before .before .before .before .before .pat-prec .kept .1 .1 .1 .1 .1 .0
+
+pat-must-returns : (t : ℕ) → pat-must-lts.Need-returns (
+  pat-prec-below t,
+  pat-prec.Post,
+  report-reads.Asked,
+  report-reads.Learnt,
+) (pat-must-at t) pat-must.Post
+unfolding pat.patMust plan choose chosen
+pat-must-returns t c =
+    let falls = c .before .before .before .before .before .before .before .before .before .before .before .before .before .before .before .before .pre .0 in
+    let pre0 = c .before .before .before .before .before .before .before .before .before .before .before .before .before .before .before .before .pre .1 in
+    let pat-prec = rw (c .before .got .given .1) at (c .before .before .before .before .before .before .before .pat-prec .ensures) in
+    by-steps pre0 (λ b. s-run (runs-in pat-prec) s-end)
+
+pat-must-same-length-3 : (t : ℕ) → pat-must-lts.Need-same-length-3 (
+  pat-prec-below t,
+  pat-prec.Post,
+  report-reads.Asked,
+  report-reads.Learnt,
+) (pat-must-at t) pat-must.Post
+pat-must-same-length-3 t c =
+    c .before .before .before .before .before .before .before .before .before .before .before .pat-prec .kept .1 .1 .1 .1 .0
+
+pat-must-same-length-4 : (t : ℕ) → pat-must-lts.Need-same-length-4 (
+  pat-prec-below t,
+  pat-prec.Post,
+  report-reads.Asked,
+  report-reads.Learnt,
+) (pat-must-at t) pat-must.Post
+pat-must-same-length-4 t c =
+    c .before .before .report .kept .0 ∙ c .before .before .before .before .before .before .before .before .before .before .before .pat-prec .kept .1 .1 .1 .1 .1 .0
+
+pat-must-returns-2 : (t : ℕ) → pat-must-lts.Need-returns-2 (
+  pat-prec-below t,
+  pat-prec.Post,
+  report-reads.Asked,
+  report-reads.Learnt,
+) (pat-must-at t) pat-must.Post
+unfolding pat.patMust plan choose chosen
+pat-must-returns-2 t c =
+    let falls = c .before .before .before .before .before .before .before .before .before .before .before .before .before .before .before .before .before .before .before .before .pre .0 in
+    let pre0 = c .before .before .before .before .before .before .before .before .before .before .before .before .before .before .before .before .before .before .before .before .pre .1 in
+    let pat-prec = rw (c .before .before .before .before .before .got2 .given .1) at (c .before .before .before .before .before .before .before .before .before .before .before .pat-prec .ensures) in
+    let report = c .before .before .report .ensures in
+    by-steps pre0 (λ b. s-run (runs-in pat-prec) (s-report report s-end))
+
+pat-prec-peek-requires : (t : ℕ) → pat-prec-lts.Need-peek-requires (
+  peek-reads.Asked,
+  peek-reads.Learnt,
+  atom-pat-below t,
+  atom-pat.Post,
+  name-star-reads.Asked,
+  name-star-reads.Learnt,
+  con-pat-below t,
+  con-pat.Post,
+  peek-n-reads.Asked,
+  peek-n-reads.Learnt,
+) (pat-prec-at t) pat-prec.Post
+pat-prec-peek-requires t c κs =
+    let falls = c .before .before .before .before .before .before .pre .0 in
+    let pre0 = c .before .before .before .before .before .before .pre .1 in
+    search asks depth 8
+
+pat-prec-enum-known-k : (t : ℕ) → pat-prec-lts.Need-enum-known-k (
+  peek-reads.Asked,
+  peek-reads.Learnt,
+  atom-pat-below t,
+  atom-pat.Post,
+  name-star-reads.Asked,
+  name-star-reads.Learnt,
+  con-pat-below t,
+  con-pat.Post,
+  peek-n-reads.Asked,
+  peek-n-reads.Learnt,
+) (pat-prec-at t) pat-prec.Post
+pat-prec-enum-known-k t c =
+    let falls = c .before .before .before .before .before .before .before .before .pre .0 in
+    let pre0 = c .before .before .before .before .before .before .before .before .pre .1 in
+    search needs
+
+pat-prec-enum-told : (t : ℕ) → pat-prec-lts.Need-enum-told (
+  peek-reads.Asked,
+  peek-reads.Learnt,
+  atom-pat-below t,
+  atom-pat.Post,
+  name-star-reads.Asked,
+  name-star-reads.Learnt,
+  con-pat-below t,
+  con-pat.Post,
+  peek-n-reads.Asked,
+  peek-n-reads.Learnt,
+) (pat-prec-at t) pat-prec.Post
+pat-prec-enum-told t c =
+    let falls = c .before .before .before .before .before .before .before .before .pre .0 in
+    let pre0 = c .before .before .before .before .before .before .before .before .pre .1 in
+    search needs
+
+pat-prec-atom-pat-requires : (t : ℕ) → pat-prec-lts.Need-atom-pat-requires (
+  peek-reads.Asked,
+  peek-reads.Learnt,
+  atom-pat-below t,
+  atom-pat.Post,
+  name-star-reads.Asked,
+  name-star-reads.Learnt,
+  con-pat-below t,
+  con-pat.Post,
+  peek-n-reads.Asked,
+  peek-n-reads.Learnt,
+) (pat-prec-at t) pat-prec.Post
+pat-prec-atom-pat-requires t c κs =
+    let falls = c .before .before .before .before .before .before .before .before .before .before .before .pre .0 in
+    let pre0 = c .before .before .before .before .before .before .before .before .before .before .before .pre .1 in
+    let peek = rw (c .before .before .enum-told .given .1) at (c .before .before .before .before .peek .ensures) in
+    search asks depth 8
+
+pat-prec-same-length : (t : ℕ) → pat-prec-lts.Need-same-length (
+  peek-reads.Asked,
+  peek-reads.Learnt,
+  atom-pat-below t,
+  atom-pat.Post,
+  name-star-reads.Asked,
+  name-star-reads.Learnt,
+  con-pat-below t,
+  con-pat.Post,
+  peek-n-reads.Asked,
+  peek-n-reads.Learnt,
+) (pat-prec-at t) pat-prec.Post
+pat-prec-same-length t c =
+    c .before .before .before .before .atom-pat .kept .1 .1 .1 .1 .0
+
+pat-prec-same-length-2 : (t : ℕ) → pat-prec-lts.Need-same-length-2 (
+  peek-reads.Asked,
+  peek-reads.Learnt,
+  atom-pat-below t,
+  atom-pat.Post,
+  name-star-reads.Asked,
+  name-star-reads.Learnt,
+  con-pat-below t,
+  con-pat.Post,
+  peek-n-reads.Asked,
+  peek-n-reads.Learnt,
+) (pat-prec-at t) pat-prec.Post
+pat-prec-same-length-2 t c =
+    c .before .before .before .before .atom-pat .kept .1 .1 .1 .1 .1 .0
+
+pat-prec-returns : (t : ℕ) → pat-prec-lts.Need-returns (
+  peek-reads.Asked,
+  peek-reads.Learnt,
+  atom-pat-below t,
+  atom-pat.Post,
+  name-star-reads.Asked,
+  name-star-reads.Learnt,
+  con-pat-below t,
+  con-pat.Post,
+  peek-n-reads.Asked,
+  peek-n-reads.Learnt,
+) (pat-prec-at t) pat-prec.Post
+unfolding root.body pat.patScope plan choose chosen
+pat-prec-returns t c =
+    let falls = c .before .before .before .before .before .before .before .before .before .before .before .before .before .before .before .before .pre .0 in
+    let pre0 = c .before .before .before .before .before .before .before .before .before .before .before .before .before .before .before .before .pre .1 in
+    let peek = rw (c .before .before .before .before .before .before .before .enum-told .given .1) at (c .before .before .before .before .before .before .before .before .before .peek .ensures) in
+    let atom-pat = c .before .before .before .before .atom-pat .ensures in
+    by-steps pre0 (λ b. s-rule (s-look peek (s-by _ atom-pat s-end)))
+
+pat-prec-name-star-requires : (t : ℕ) → pat-prec-lts.Need-name-star-requires (
+  peek-reads.Asked,
+  peek-reads.Learnt,
+  atom-pat-below t,
+  atom-pat.Post,
+  name-star-reads.Asked,
+  name-star-reads.Learnt,
+  con-pat-below t,
+  con-pat.Post,
+  peek-n-reads.Asked,
+  peek-n-reads.Learnt,
+) (pat-prec-at t) pat-prec.Post
+pat-prec-name-star-requires t c κs =
+    let falls = c .before .before .before .before .before .before .before .before .before .before .pre .0 in
+    let pre0 = c .before .before .before .before .before .before .before .before .before .before .pre .1 in
+    let peek = rw (c .before .k .given .1) at (c .before .before .before .peek .ensures) in
+    search asks depth 8
+
+pat-prec-con-pat-requires : (t : ℕ) → pat-prec-lts.Need-con-pat-requires (
+  peek-reads.Asked,
+  peek-reads.Learnt,
+  atom-pat-below t,
+  atom-pat.Post,
+  name-star-reads.Asked,
+  name-star-reads.Learnt,
+  con-pat-below t,
+  con-pat.Post,
+  peek-n-reads.Asked,
+  peek-n-reads.Learnt,
+) (pat-prec-at t) pat-prec.Post
+pat-prec-con-pat-requires t c κs =
+    let falls = c .before .before .before .before .before .before .before .before .before .before .before .before .before .before .pre .0 in
+    let pre0 = c .before .before .before .before .before .before .before .before .before .before .before .before .before .before .pre .1 in
+    let peek = rw (c .before .before .before .before .before .k .given .1) at (c .before .before .before .before .before .before .before .peek .ensures) in
+    let name-star = c .before .before .before .name-star .ensures in
+    let if1 = c .before .before .if1 .taken in
+    search asks depth 8
+
+pat-prec-same-length-3 : (t : ℕ) → pat-prec-lts.Need-same-length-3 (
+  peek-reads.Asked,
+  peek-reads.Learnt,
+  atom-pat-below t,
+  atom-pat.Post,
+  name-star-reads.Asked,
+  name-star-reads.Learnt,
+  con-pat-below t,
+  con-pat.Post,
+  peek-n-reads.Asked,
+  peek-n-reads.Learnt,
+) (pat-prec-at t) pat-prec.Post
+pat-prec-same-length-3 t c =
+    c .before .before .before .before .con-pat .kept .1 .1 .1 .1 .0
+
+pat-prec-same-length-4 : (t : ℕ) → pat-prec-lts.Need-same-length-4 (
+  peek-reads.Asked,
+  peek-reads.Learnt,
+  atom-pat-below t,
+  atom-pat.Post,
+  name-star-reads.Asked,
+  name-star-reads.Learnt,
+  con-pat-below t,
+  con-pat.Post,
+  peek-n-reads.Asked,
+  peek-n-reads.Learnt,
+) (pat-prec-at t) pat-prec.Post
+pat-prec-same-length-4 t c =
+    c .before .before .before .before .con-pat .kept .1 .1 .1 .1 .1 .0
+
+pat-prec-returns-2 : (t : ℕ) → pat-prec-lts.Need-returns-2 (
+  peek-reads.Asked,
+  peek-reads.Learnt,
+  atom-pat-below t,
+  atom-pat.Post,
+  name-star-reads.Asked,
+  name-star-reads.Learnt,
+  con-pat-below t,
+  con-pat.Post,
+  peek-n-reads.Asked,
+  peek-n-reads.Learnt,
+) (pat-prec-at t) pat-prec.Post
+unfolding root.body pat.patScope plan choose chosen
+pat-prec-returns-2 t c =
+    let falls = c .before .before .before .before .before .before .before .before .before .before .before .before .before .before .before .before .before .before .before .pre .0 in
+    let pre0 = c .before .before .before .before .before .before .before .before .before .before .before .before .before .before .before .before .before .before .before .pre .1 in
+    let peek = rw (c .before .before .before .before .before .before .before .before .before .before .k .given .1) at (c .before .before .before .before .before .before .before .before .before .before .before .before .peek .ensures) in
+    let name-star = c .before .before .before .before .before .before .before .before .name-star .ensures in
+    let if1 = c .before .before .before .before .before .before .before .if1 .taken in
+    let con-pat = c .before .before .before .before .con-pat .ensures in
+    by-steps pre0 (λ b. s-rule (s-look peek (s-true _ _ (test-true name-star if1) (s-by _ con-pat s-end))))
+
+pat-prec-peek-n-requires : (t : ℕ) → pat-prec-lts.Need-peek-n-requires (
+  peek-reads.Asked,
+  peek-reads.Learnt,
+  atom-pat-below t,
+  atom-pat.Post,
+  name-star-reads.Asked,
+  name-star-reads.Learnt,
+  con-pat-below t,
+  con-pat.Post,
+  peek-n-reads.Asked,
+  peek-n-reads.Learnt,
+) (pat-prec-at t) pat-prec.Post
+pat-prec-peek-n-requires t c κs =
+    let falls = c .before .before .before .before .before .before .before .before .before .before .before .before .before .pre .0 in
+    let pre0 = c .before .before .before .before .before .before .before .before .before .before .before .before .before .pre .1 in
+    let peek = rw (c .before .before .before .before .k .given .1) at (c .before .before .before .before .before .before .peek .ensures) in
+    let name-star = c .before .before .name-star .ensures in
+    let if1 = c .before .if1 .left in
+    let if2 = c .if2 .taken in
+    search asks depth 8
+
+pat-prec-enum-known-k1 : (t : ℕ) → pat-prec-lts.Need-enum-known-k1 (
+  peek-reads.Asked,
+  peek-reads.Learnt,
+  atom-pat-below t,
+  atom-pat.Post,
+  name-star-reads.Asked,
+  name-star-reads.Learnt,
+  con-pat-below t,
+  con-pat.Post,
+  peek-n-reads.Asked,
+  peek-n-reads.Learnt,
+) (pat-prec-at t) pat-prec.Post
+pat-prec-enum-known-k1 t c =
+    let falls = c .before .before .before .before .before .before .before .before .before .before .before .before .before .before .before .pre .0 in
+    let pre0 = c .before .before .before .before .before .before .before .before .before .before .before .before .before .before .before .pre .1 in
+    let if1 = c .before .before .before .if1 .left in
+    let if2 = c .before .before .if2 .taken in
+    search needs
+
+pat-prec-enum-told-2 : (t : ℕ) → pat-prec-lts.Need-enum-told-2 (
+  peek-reads.Asked,
+  peek-reads.Learnt,
+  atom-pat-below t,
+  atom-pat.Post,
+  name-star-reads.Asked,
+  name-star-reads.Learnt,
+  con-pat-below t,
+  con-pat.Post,
+  peek-n-reads.Asked,
+  peek-n-reads.Learnt,
+) (pat-prec-at t) pat-prec.Post
+pat-prec-enum-told-2 t c =
+    let falls = c .before .before .before .before .before .before .before .before .before .before .before .before .before .before .before .pre .0 in
+    let pre0 = c .before .before .before .before .before .before .before .before .before .before .before .before .before .before .before .pre .1 in
+    let if1 = c .before .before .before .if1 .left in
+    let if2 = c .before .before .if2 .taken in
+    search needs
+
+pat-prec-atom-pat-requires-2 : (t : ℕ) → pat-prec-lts.Need-atom-pat-requires-2 (
+  peek-reads.Asked,
+  peek-reads.Learnt,
+  atom-pat-below t,
+  atom-pat.Post,
+  name-star-reads.Asked,
+  name-star-reads.Learnt,
+  con-pat-below t,
+  con-pat.Post,
+  peek-n-reads.Asked,
+  peek-n-reads.Learnt,
+) (pat-prec-at t) pat-prec.Post
+pat-prec-atom-pat-requires-2 t c κs =
+    let falls = c .before .before .before .before .before .before .before .before .before .before .before .before .before .before .before .before .before .before .pre .0 in
+    let pre0 = c .before .before .before .before .before .before .before .before .before .before .before .before .before .before .before .before .before .before .pre .1 in
+    let peek = rw (c .before .before .before .before .before .before .before .before .before .k .given .1) at (c .before .before .before .before .before .before .before .before .before .before .before .peek .ensures) in
+    let name-star = c .before .before .before .before .before .before .before .name-star .ensures in
+    let if1 = c .before .before .before .before .before .before .if1 .left in
+    let if2 = c .before .before .before .before .before .if2 .taken in
+    let peek-n = rw (c .before .before .enum-told2 .given .1) at (c .before .before .before .before .peek-n .ensures) in
+    search asks depth 8
+
+pat-prec-same-length-5 : (t : ℕ) → pat-prec-lts.Need-same-length-5 (
+  peek-reads.Asked,
+  peek-reads.Learnt,
+  atom-pat-below t,
+  atom-pat.Post,
+  name-star-reads.Asked,
+  name-star-reads.Learnt,
+  con-pat-below t,
+  con-pat.Post,
+  peek-n-reads.Asked,
+  peek-n-reads.Learnt,
+) (pat-prec-at t) pat-prec.Post
+pat-prec-same-length-5 t c =
+    c .before .before .before .before .atom-pat2 .kept .1 .1 .1 .1 .0
+
+pat-prec-same-length-6 : (t : ℕ) → pat-prec-lts.Need-same-length-6 (
+  peek-reads.Asked,
+  peek-reads.Learnt,
+  atom-pat-below t,
+  atom-pat.Post,
+  name-star-reads.Asked,
+  name-star-reads.Learnt,
+  con-pat-below t,
+  con-pat.Post,
+  peek-n-reads.Asked,
+  peek-n-reads.Learnt,
+) (pat-prec-at t) pat-prec.Post
+pat-prec-same-length-6 t c =
+    c .before .before .before .before .atom-pat2 .kept .1 .1 .1 .1 .1 .0
+
+pat-prec-returns-3 : (t : ℕ) → pat-prec-lts.Need-returns-3 (
+  peek-reads.Asked,
+  peek-reads.Learnt,
+  atom-pat-below t,
+  atom-pat.Post,
+  name-star-reads.Asked,
+  name-star-reads.Learnt,
+  con-pat-below t,
+  con-pat.Post,
+  peek-n-reads.Asked,
+  peek-n-reads.Learnt,
+) (pat-prec-at t) pat-prec.Post
+unfolding root.body pat.patScope plan choose chosen
+pat-prec-returns-3 t c =
+    let falls = c .before .before .before .before .before .before .before .before .before .before .before .before .before .before .before .before .before .before .before .before .before .before .before .pre .0 in
+    let pre0 = c .before .before .before .before .before .before .before .before .before .before .before .before .before .before .before .before .before .before .before .before .before .before .before .pre .1 in
+    let peek = rw (c .before .before .before .before .before .before .before .before .before .before .before .before .before .before .k .given .1) at (c .before .before .before .before .before .before .before .before .before .before .before .before .before .before .before .before .peek .ensures) in
+    let name-star = c .before .before .before .before .before .before .before .before .before .before .before .before .name-star .ensures in
+    let if1 = c .before .before .before .before .before .before .before .before .before .before .before .if1 .left in
+    let if2 = c .before .before .before .before .before .before .before .before .before .before .if2 .taken in
+    let peek-n = rw (c .before .before .before .before .before .before .before .enum-told2 .given .1) at (c .before .before .before .before .before .before .before .before .before .peek-n .ensures) in
+    let atom-pat2 = c .before .before .before .before .atom-pat2 .ensures in
+    by-steps pre0 (λ b. s-rule (s-look peek (s-false _ _ (test-false name-star if1) (s-true _ _ (kind-is if2) (s-look peek-n (s-by _ atom-pat2 s-end))))))
+
+pat-prec-name-star-requires-2 : (t : ℕ) → pat-prec-lts.Need-name-star-requires-2 (
+  peek-reads.Asked,
+  peek-reads.Learnt,
+  atom-pat-below t,
+  atom-pat.Post,
+  name-star-reads.Asked,
+  name-star-reads.Learnt,
+  con-pat-below t,
+  con-pat.Post,
+  peek-n-reads.Asked,
+  peek-n-reads.Learnt,
+) (pat-prec-at t) pat-prec.Post
+pat-prec-name-star-requires-2 t c κs =
+    let falls = c .before .before .before .before .before .before .before .before .before .before .before .before .before .before .before .before .before .pre .0 in
+    let pre0 = c .before .before .before .before .before .before .before .before .before .before .before .before .before .before .before .before .before .pre .1 in
+    let peek = rw (c .before .before .before .before .before .before .before .before .k .given .1) at (c .before .before .before .before .before .before .before .before .before .before .peek .ensures) in
+    let name-star = c .before .before .before .before .before .before .name-star .ensures in
+    let if1 = c .before .before .before .before .before .if1 .left in
+    let if2 = c .before .before .before .before .if2 .taken in
+    let peek-n = rw (c .before .k1 .given .1) at (c .before .before .before .peek-n .ensures) in
+    search asks depth 8
+
+pat-prec-con-pat-requires-2 : (t : ℕ) → pat-prec-lts.Need-con-pat-requires-2 (
+  peek-reads.Asked,
+  peek-reads.Learnt,
+  atom-pat-below t,
+  atom-pat.Post,
+  name-star-reads.Asked,
+  name-star-reads.Learnt,
+  con-pat-below t,
+  con-pat.Post,
+  peek-n-reads.Asked,
+  peek-n-reads.Learnt,
+) (pat-prec-at t) pat-prec.Post
+pat-prec-con-pat-requires-2 t c κs =
+    let falls = c .before .before .before .before .before .before .before .before .before .before .before .before .before .before .before .before .before .before .before .before .before .pre .0 in
+    let pre0 = c .before .before .before .before .before .before .before .before .before .before .before .before .before .before .before .before .before .before .before .before .before .pre .1 in
+    let peek = rw (c .before .before .before .before .before .before .before .before .before .before .before .before .k .given .1) at (c .before .before .before .before .before .before .before .before .before .before .before .before .before .before .peek .ensures) in
+    let name-star = c .before .before .before .before .before .before .before .before .before .before .name-star .ensures in
+    let if1 = c .before .before .before .before .before .before .before .before .before .if1 .left in
+    let if2 = c .before .before .before .before .before .before .before .before .if2 .taken in
+    let peek-n = rw (c .before .before .before .before .before .k1 .given .1) at (c .before .before .before .before .before .before .before .peek-n .ensures) in
+    let name-star2 = c .before .before .before .name-star2 .ensures in
+    let if3 = c .before .before .if3 .taken in
+    search asks depth 8
+
+pat-prec-same-length-7 : (t : ℕ) → pat-prec-lts.Need-same-length-7 (
+  peek-reads.Asked,
+  peek-reads.Learnt,
+  atom-pat-below t,
+  atom-pat.Post,
+  name-star-reads.Asked,
+  name-star-reads.Learnt,
+  con-pat-below t,
+  con-pat.Post,
+  peek-n-reads.Asked,
+  peek-n-reads.Learnt,
+) (pat-prec-at t) pat-prec.Post
+pat-prec-same-length-7 t c =
+    c .before .before .before .before .con-pat2 .kept .1 .1 .1 .1 .0
+
+pat-prec-same-length-8 : (t : ℕ) → pat-prec-lts.Need-same-length-8 (
+  peek-reads.Asked,
+  peek-reads.Learnt,
+  atom-pat-below t,
+  atom-pat.Post,
+  name-star-reads.Asked,
+  name-star-reads.Learnt,
+  con-pat-below t,
+  con-pat.Post,
+  peek-n-reads.Asked,
+  peek-n-reads.Learnt,
+) (pat-prec-at t) pat-prec.Post
+pat-prec-same-length-8 t c =
+    c .before .before .before .before .con-pat2 .kept .1 .1 .1 .1 .1 .0
+
+pat-prec-returns-4 : (t : ℕ) → pat-prec-lts.Need-returns-4 (
+  peek-reads.Asked,
+  peek-reads.Learnt,
+  atom-pat-below t,
+  atom-pat.Post,
+  name-star-reads.Asked,
+  name-star-reads.Learnt,
+  con-pat-below t,
+  con-pat.Post,
+  peek-n-reads.Asked,
+  peek-n-reads.Learnt,
+) (pat-prec-at t) pat-prec.Post
+unfolding root.body pat.patScope plan choose chosen
+pat-prec-returns-4 t c =
+    let falls = c .before .before .before .before .before .before .before .before .before .before .before .before .before .before .before .before .before .before .before .before .before .before .before .before .before .before .pre .0 in
+    let pre0 = c .before .before .before .before .before .before .before .before .before .before .before .before .before .before .before .before .before .before .before .before .before .before .before .before .before .before .pre .1 in
+    let peek = rw (c .before .before .before .before .before .before .before .before .before .before .before .before .before .before .before .before .before .k .given .1) at (c .before .before .before .before .before .before .before .before .before .before .before .before .before .before .before .before .before .before .before .peek .ensures) in
+    let name-star = c .before .before .before .before .before .before .before .before .before .before .before .before .before .before .before .name-star .ensures in
+    let if1 = c .before .before .before .before .before .before .before .before .before .before .before .before .before .before .if1 .left in
+    let if2 = c .before .before .before .before .before .before .before .before .before .before .before .before .before .if2 .taken in
+    let peek-n = rw (c .before .before .before .before .before .before .before .before .before .before .k1 .given .1) at (c .before .before .before .before .before .before .before .before .before .before .before .before .peek-n .ensures) in
+    let name-star2 = c .before .before .before .before .before .before .before .before .name-star2 .ensures in
+    let if3 = c .before .before .before .before .before .before .before .if3 .taken in
+    let con-pat2 = c .before .before .before .before .con-pat2 .ensures in
+    by-steps pre0 (λ b. s-rule (s-look peek (s-false _ _ (test-false name-star if1) (s-true _ _ (kind-is if2) (s-look peek-n (s-true _ _ (test-true name-star2 if3) (s-by _ con-pat2 s-end)))))))
+
+pat-prec-atom-pat-requires-3 : (t : ℕ) → pat-prec-lts.Need-atom-pat-requires-3 (
+  peek-reads.Asked,
+  peek-reads.Learnt,
+  atom-pat-below t,
+  atom-pat.Post,
+  name-star-reads.Asked,
+  name-star-reads.Learnt,
+  con-pat-below t,
+  con-pat.Post,
+  peek-n-reads.Asked,
+  peek-n-reads.Learnt,
+) (pat-prec-at t) pat-prec.Post
+pat-prec-atom-pat-requires-3 t c κs =
+    let falls = c .before .before .before .before .before .before .before .before .before .before .before .before .before .before .before .before .before .before .before .before .before .pre .0 in
+    let pre0 = c .before .before .before .before .before .before .before .before .before .before .before .before .before .before .before .before .before .before .before .before .before .pre .1 in
+    let peek = rw (c .before .before .before .before .before .before .before .before .before .before .before .before .k .given .1) at (c .before .before .before .before .before .before .before .before .before .before .before .before .before .before .peek .ensures) in
+    let name-star = c .before .before .before .before .before .before .before .before .before .before .name-star .ensures in
+    let if1 = c .before .before .before .before .before .before .before .before .before .if1 .left in
+    let if2 = c .before .before .before .before .before .before .before .before .if2 .taken in
+    let peek-n = rw (c .before .before .before .before .before .k1 .given .1) at (c .before .before .before .before .before .before .before .peek-n .ensures) in
+    let name-star2 = c .before .before .before .name-star2 .ensures in
+    let if3 = c .before .before .if3 .left in
+    search asks depth 8
+
+pat-prec-same-length-9 : (t : ℕ) → pat-prec-lts.Need-same-length-9 (
+  peek-reads.Asked,
+  peek-reads.Learnt,
+  atom-pat-below t,
+  atom-pat.Post,
+  name-star-reads.Asked,
+  name-star-reads.Learnt,
+  con-pat-below t,
+  con-pat.Post,
+  peek-n-reads.Asked,
+  peek-n-reads.Learnt,
+) (pat-prec-at t) pat-prec.Post
+pat-prec-same-length-9 t c =
+    c .before .before .before .before .atom-pat3 .kept .1 .1 .1 .1 .0
+
+pat-prec-same-length-10 : (t : ℕ) → pat-prec-lts.Need-same-length-10 (
+  peek-reads.Asked,
+  peek-reads.Learnt,
+  atom-pat-below t,
+  atom-pat.Post,
+  name-star-reads.Asked,
+  name-star-reads.Learnt,
+  con-pat-below t,
+  con-pat.Post,
+  peek-n-reads.Asked,
+  peek-n-reads.Learnt,
+) (pat-prec-at t) pat-prec.Post
+pat-prec-same-length-10 t c =
+    c .before .before .before .before .atom-pat3 .kept .1 .1 .1 .1 .1 .0
+
+pat-prec-returns-5 : (t : ℕ) → pat-prec-lts.Need-returns-5 (
+  peek-reads.Asked,
+  peek-reads.Learnt,
+  atom-pat-below t,
+  atom-pat.Post,
+  name-star-reads.Asked,
+  name-star-reads.Learnt,
+  con-pat-below t,
+  con-pat.Post,
+  peek-n-reads.Asked,
+  peek-n-reads.Learnt,
+) (pat-prec-at t) pat-prec.Post
+unfolding root.body pat.patScope plan choose chosen
+pat-prec-returns-5 t c =
+    let falls = c .before .before .before .before .before .before .before .before .before .before .before .before .before .before .before .before .before .before .before .before .before .before .before .before .before .before .pre .0 in
+    let pre0 = c .before .before .before .before .before .before .before .before .before .before .before .before .before .before .before .before .before .before .before .before .before .before .before .before .before .before .pre .1 in
+    let peek = rw (c .before .before .before .before .before .before .before .before .before .before .before .before .before .before .before .before .before .k .given .1) at (c .before .before .before .before .before .before .before .before .before .before .before .before .before .before .before .before .before .before .before .peek .ensures) in
+    let name-star = c .before .before .before .before .before .before .before .before .before .before .before .before .before .before .before .name-star .ensures in
+    let if1 = c .before .before .before .before .before .before .before .before .before .before .before .before .before .before .if1 .left in
+    let if2 = c .before .before .before .before .before .before .before .before .before .before .before .before .before .if2 .taken in
+    let peek-n = rw (c .before .before .before .before .before .before .before .before .before .before .k1 .given .1) at (c .before .before .before .before .before .before .before .before .before .before .before .before .peek-n .ensures) in
+    let name-star2 = c .before .before .before .before .before .before .before .before .name-star2 .ensures in
+    let if3 = c .before .before .before .before .before .before .before .if3 .left in
+    let atom-pat3 = c .before .before .before .before .atom-pat3 .ensures in
+    by-steps pre0 (λ b. s-rule (s-look peek (s-false _ _ (test-false name-star if1) (s-true _ _ (kind-is if2) (s-look peek-n (s-false _ _ (test-false name-star2 if3) (s-by _ atom-pat3 s-end)))))))
+
+pat-prec-atom-pat-requires-4 : (t : ℕ) → pat-prec-lts.Need-atom-pat-requires-4 (
+  peek-reads.Asked,
+  peek-reads.Learnt,
+  atom-pat-below t,
+  atom-pat.Post,
+  name-star-reads.Asked,
+  name-star-reads.Learnt,
+  con-pat-below t,
+  con-pat.Post,
+  peek-n-reads.Asked,
+  peek-n-reads.Learnt,
+) (pat-prec-at t) pat-prec.Post
+pat-prec-atom-pat-requires-4 t c κs =
+    let falls = c .before .before .before .before .before .before .before .before .before .before .before .before .before .before .before .pre .0 in
+    let pre0 = c .before .before .before .before .before .before .before .before .before .before .before .before .before .before .before .pre .1 in
+    let peek = rw (c .before .before .before .before .before .before .k .given .1) at (c .before .before .before .before .before .before .before .before .peek .ensures) in
+    let name-star = c .before .before .before .before .name-star .ensures in
+    let if1 = c .before .before .before .if1 .left in
+    let if2 = c .before .before .if2 .left in
+    search asks depth 8
+
+pat-prec-same-length-11 : (t : ℕ) → pat-prec-lts.Need-same-length-11 (
+  peek-reads.Asked,
+  peek-reads.Learnt,
+  atom-pat-below t,
+  atom-pat.Post,
+  name-star-reads.Asked,
+  name-star-reads.Learnt,
+  con-pat-below t,
+  con-pat.Post,
+  peek-n-reads.Asked,
+  peek-n-reads.Learnt,
+) (pat-prec-at t) pat-prec.Post
+pat-prec-same-length-11 t c =
+    c .before .before .before .before .atom-pat4 .kept .1 .1 .1 .1 .0
+
+pat-prec-same-length-12 : (t : ℕ) → pat-prec-lts.Need-same-length-12 (
+  peek-reads.Asked,
+  peek-reads.Learnt,
+  atom-pat-below t,
+  atom-pat.Post,
+  name-star-reads.Asked,
+  name-star-reads.Learnt,
+  con-pat-below t,
+  con-pat.Post,
+  peek-n-reads.Asked,
+  peek-n-reads.Learnt,
+) (pat-prec-at t) pat-prec.Post
+pat-prec-same-length-12 t c =
+    c .before .before .before .before .atom-pat4 .kept .1 .1 .1 .1 .1 .0
+
+pat-prec-returns-6 : (t : ℕ) → pat-prec-lts.Need-returns-6 (
+  peek-reads.Asked,
+  peek-reads.Learnt,
+  atom-pat-below t,
+  atom-pat.Post,
+  name-star-reads.Asked,
+  name-star-reads.Learnt,
+  con-pat-below t,
+  con-pat.Post,
+  peek-n-reads.Asked,
+  peek-n-reads.Learnt,
+) (pat-prec-at t) pat-prec.Post
+unfolding root.body pat.patScope plan choose chosen
+pat-prec-returns-6 t c =
+    let falls = c .before .before .before .before .before .before .before .before .before .before .before .before .before .before .before .before .before .before .before .before .pre .0 in
+    let pre0 = c .before .before .before .before .before .before .before .before .before .before .before .before .before .before .before .before .before .before .before .before .pre .1 in
+    let peek = rw (c .before .before .before .before .before .before .before .before .before .before .before .k .given .1) at (c .before .before .before .before .before .before .before .before .before .before .before .before .before .peek .ensures) in
+    let name-star = c .before .before .before .before .before .before .before .before .before .name-star .ensures in
+    let if1 = c .before .before .before .before .before .before .before .before .if1 .left in
+    let if2 = c .before .before .before .before .before .before .before .if2 .left in
+    let atom-pat4 = c .before .before .before .before .atom-pat4 .ensures in
+    by-steps pre0 (λ b. s-rule (s-look peek (s-false _ _ (test-false name-star if1) (s-false _ _ (kind-not if2) (s-by _ atom-pat4 s-end)))))
+
+pat-row-refuse-requires : (t : ℕ) → pat-row-lts.Need-refuse-requires (
+  refuse-reads.Asked,
+  refuse-reads.Learnt,
+  mark-reads.Asked,
+  mark-reads.Learnt,
+  at-reads.Asked,
+  at-reads.Learnt,
+  bump-reads.Asked,
+  bump-reads.Learnt,
+  close-reads.Asked,
+  close-reads.Learnt,
+  at-n-reads.Asked,
+  at-n-reads.Learnt,
+  lab-reads.Asked,
+  lab-reads.Learnt,
+  eat-reads.Asked,
+  eat-reads.Learnt,
+  state-reads.Asked,
+  state-reads.Learnt,
+  pat-must-below t,
+  pat-must.Post,
+  eat-name-star-reads.Asked,
+  eat-name-star-reads.Learnt,
+  ty-annotation-reads.Asked,
+  ty-annotation-reads.Learnt,
+  as-pat-tl-below t,
+  as-pat-tl.Post,
+) (pat-row-at t) pat-row.Post
+pat-row-refuse-requires t c κs =
+    let falls = c .before .before .before .before .before .before .before .pre .0 in
+    let pre0 = c .before .before .before .before .before .before .before .pre .1 in
+    let if1 = c .if1 .taken in
+    search asks depth 8
+
+pat-row-returns : (t : ℕ) → pat-row-lts.Need-returns (
+  refuse-reads.Asked,
+  refuse-reads.Learnt,
+  mark-reads.Asked,
+  mark-reads.Learnt,
+  at-reads.Asked,
+  at-reads.Learnt,
+  bump-reads.Asked,
+  bump-reads.Learnt,
+  close-reads.Asked,
+  close-reads.Learnt,
+  at-n-reads.Asked,
+  at-n-reads.Learnt,
+  lab-reads.Asked,
+  lab-reads.Learnt,
+  eat-reads.Asked,
+  eat-reads.Learnt,
+  state-reads.Asked,
+  state-reads.Learnt,
+  pat-must-below t,
+  pat-must.Post,
+  eat-name-star-reads.Asked,
+  eat-name-star-reads.Learnt,
+  ty-annotation-reads.Asked,
+  ty-annotation-reads.Learnt,
+  as-pat-tl-below t,
+  as-pat-tl.Post,
+) (pat-row-at t) pat-row.Post
+unfolding pat.patRow plan choose chosen
+pat-row-returns t c =
+    let falls = c .before .before .before .before .before .before .before .before .pre .0 in
+    let pre0 = c .before .before .before .before .before .before .before .before .pre .1 in
+    let if1 = c .before .if1 .taken in
+    let refuse = c .refuse .ensures in
+    by-steps pre0 (λ b. s-deep if1 refuse s-end)
+
+pat-row-mark-requires : (t : ℕ) → pat-row-lts.Need-mark-requires (
+  refuse-reads.Asked,
+  refuse-reads.Learnt,
+  mark-reads.Asked,
+  mark-reads.Learnt,
+  at-reads.Asked,
+  at-reads.Learnt,
+  bump-reads.Asked,
+  bump-reads.Learnt,
+  close-reads.Asked,
+  close-reads.Learnt,
+  at-n-reads.Asked,
+  at-n-reads.Learnt,
+  lab-reads.Asked,
+  lab-reads.Learnt,
+  eat-reads.Asked,
+  eat-reads.Learnt,
+  state-reads.Asked,
+  state-reads.Learnt,
+  pat-must-below t,
+  pat-must.Post,
+  eat-name-star-reads.Asked,
+  eat-name-star-reads.Learnt,
+  ty-annotation-reads.Asked,
+  ty-annotation-reads.Learnt,
+  as-pat-tl-below t,
+  as-pat-tl.Post,
+) (pat-row-at t) pat-row.Post
+pat-row-mark-requires t c κs =
+    let falls = c .before .before .before .before .before .before .before .pre .0 in
+    let pre0 = c .before .before .before .before .before .before .before .pre .1 in
+    let if1 = c .if1 .left in
+    search asks depth 8
+
+pat-row-at-requires : (t : ℕ) → pat-row-lts.Need-at-requires (
+  refuse-reads.Asked,
+  refuse-reads.Learnt,
+  mark-reads.Asked,
+  mark-reads.Learnt,
+  at-reads.Asked,
+  at-reads.Learnt,
+  bump-reads.Asked,
+  bump-reads.Learnt,
+  close-reads.Asked,
+  close-reads.Learnt,
+  at-n-reads.Asked,
+  at-n-reads.Learnt,
+  lab-reads.Asked,
+  lab-reads.Learnt,
+  eat-reads.Asked,
+  eat-reads.Learnt,
+  state-reads.Asked,
+  state-reads.Learnt,
+  pat-must-below t,
+  pat-must.Post,
+  eat-name-star-reads.Asked,
+  eat-name-star-reads.Learnt,
+  ty-annotation-reads.Asked,
+  ty-annotation-reads.Learnt,
+  as-pat-tl-below t,
+  as-pat-tl.Post,
+) (pat-row-at t) pat-row.Post
+pat-row-at-requires t c κs =
+    let falls = c .before .before .before .before .before .before .before .before .pre .0 in
+    let pre0 = c .before .before .before .before .before .before .before .before .pre .1 in
+    let if1 = c .before .if1 .left in
+    let mark = c .mark .ensures in
+    let mark-ok = ok-marks mark pre0 in
+    search asks depth 8
+
+pat-row-bump-requires : (t : ℕ) → pat-row-lts.Need-bump-requires (
+  refuse-reads.Asked,
+  refuse-reads.Learnt,
+  mark-reads.Asked,
+  mark-reads.Learnt,
+  at-reads.Asked,
+  at-reads.Learnt,
+  bump-reads.Asked,
+  bump-reads.Learnt,
+  close-reads.Asked,
+  close-reads.Learnt,
+  at-n-reads.Asked,
+  at-n-reads.Learnt,
+  lab-reads.Asked,
+  lab-reads.Learnt,
+  eat-reads.Asked,
+  eat-reads.Learnt,
+  state-reads.Asked,
+  state-reads.Learnt,
+  pat-must-below t,
+  pat-must.Post,
+  eat-name-star-reads.Asked,
+  eat-name-star-reads.Learnt,
+  ty-annotation-reads.Asked,
+  ty-annotation-reads.Learnt,
+  as-pat-tl-below t,
+  as-pat-tl.Post,
+) (pat-row-at t) pat-row.Post
+pat-row-bump-requires t c κs =
+    let falls = c .before .before .before .before .before .before .before .before .before .before .before .pre .0 in
+    let pre0 = c .before .before .before .before .before .before .before .before .before .before .before .pre .1 in
+    let if1 = c .before .before .before .before .if1 .left in
+    let mark = c .before .before .before .mark .ensures in
+    let mark-ok = ok-marks mark pre0 in
+    let at = c .before .before .at .ensures in
+    let if2 = c .before .if2 .taken in
+    search asks depth 8
+
+pat-row-close-requires : (t : ℕ) → pat-row-lts.Need-close-requires (
+  refuse-reads.Asked,
+  refuse-reads.Learnt,
+  mark-reads.Asked,
+  mark-reads.Learnt,
+  at-reads.Asked,
+  at-reads.Learnt,
+  bump-reads.Asked,
+  bump-reads.Learnt,
+  close-reads.Asked,
+  close-reads.Learnt,
+  at-n-reads.Asked,
+  at-n-reads.Learnt,
+  lab-reads.Asked,
+  lab-reads.Learnt,
+  eat-reads.Asked,
+  eat-reads.Learnt,
+  state-reads.Asked,
+  state-reads.Learnt,
+  pat-must-below t,
+  pat-must.Post,
+  eat-name-star-reads.Asked,
+  eat-name-star-reads.Learnt,
+  ty-annotation-reads.Asked,
+  ty-annotation-reads.Learnt,
+  as-pat-tl-below t,
+  as-pat-tl.Post,
+) (pat-row-at t) pat-row.Post
+pat-row-close-requires t c κs =
+    let falls = c .before .before .before .before .before .before .before .before .before .before .before .before .before .before .before .pre .0 in
+    let pre0 = c .before .before .before .before .before .before .before .before .before .before .before .before .before .before .before .pre .1 in
+    let if1 = c .before .before .before .before .before .before .before .before .if1 .left in
+    let mark = c .before .before .before .before .before .before .before .mark .ensures in
+    let mark-ok = ok-marks mark pre0 in
+    let at = c .before .before .before .before .before .before .at .ensures in
+    let if2 = c .before .before .before .before .before .if2 .taken in
+    let bump = c .before .before .before .bump .ensures in
+    let bump-ok = ok-bumps bump mark-ok in
+    search asks depth 8
+
+pat-row-same-length : (t : ℕ) → pat-row-lts.Need-same-length (
+  refuse-reads.Asked,
+  refuse-reads.Learnt,
+  mark-reads.Asked,
+  mark-reads.Learnt,
+  at-reads.Asked,
+  at-reads.Learnt,
+  bump-reads.Asked,
+  bump-reads.Learnt,
+  close-reads.Asked,
+  close-reads.Learnt,
+  at-n-reads.Asked,
+  at-n-reads.Learnt,
+  lab-reads.Asked,
+  lab-reads.Learnt,
+  eat-reads.Asked,
+  eat-reads.Learnt,
+  state-reads.Asked,
+  state-reads.Learnt,
+  pat-must-below t,
+  pat-must.Post,
+  eat-name-star-reads.Asked,
+  eat-name-star-reads.Learnt,
+  ty-annotation-reads.Asked,
+  ty-annotation-reads.Learnt,
+  as-pat-tl-below t,
+  as-pat-tl.Post,
+) (pat-row-at t) pat-row.Post
+pat-row-same-length t c =
+    c .before .before .close .kept .0 ∙ c .before .before .before .before .before .before .bump .kept .1 .0
+
+pat-row-returns-2 : (t : ℕ) → pat-row-lts.Need-returns-2 (
+  refuse-reads.Asked,
+  refuse-reads.Learnt,
+  mark-reads.Asked,
+  mark-reads.Learnt,
+  at-reads.Asked,
+  at-reads.Learnt,
+  bump-reads.Asked,
+  bump-reads.Learnt,
+  close-reads.Asked,
+  close-reads.Learnt,
+  at-n-reads.Asked,
+  at-n-reads.Learnt,
+  lab-reads.Asked,
+  lab-reads.Learnt,
+  eat-reads.Asked,
+  eat-reads.Learnt,
+  state-reads.Asked,
+  state-reads.Learnt,
+  pat-must-below t,
+  pat-must.Post,
+  eat-name-star-reads.Asked,
+  eat-name-star-reads.Learnt,
+  ty-annotation-reads.Asked,
+  ty-annotation-reads.Learnt,
+  as-pat-tl-below t,
+  as-pat-tl.Post,
+) (pat-row-at t) pat-row.Post
+unfolding pat.patRow plan choose chosen
+pat-row-returns-2 t c =
+    let falls = c .before .before .before .before .before .before .before .before .before .before .before .before .before .before .before .before .before .before .pre .0 in
+    let pre0 = c .before .before .before .before .before .before .before .before .before .before .before .before .before .before .before .before .before .before .pre .1 in
+    let if1 = c .before .before .before .before .before .before .before .before .before .before .before .if1 .left in
+    let mark = c .before .before .before .before .before .before .before .before .before .before .mark .ensures in
+    let at = c .before .before .before .before .before .before .before .before .before .at .ensures in
+    let if2 = c .before .before .before .before .before .before .before .before .if2 .taken in
+    let bump = c .before .before .before .before .before .before .bump .ensures in
+    let close = c .before .before .close .ensures in
+    by-steps pre0 (λ b. s-mark if1 mark (s-kind (s-true _ _ (kind-at _ _ _ _ at if2) (s-bump bump (s-close close s-end)))))
+
+pat-row-at-n-requires : (t : ℕ) → pat-row-lts.Need-at-n-requires (
+  refuse-reads.Asked,
+  refuse-reads.Learnt,
+  mark-reads.Asked,
+  mark-reads.Learnt,
+  at-reads.Asked,
+  at-reads.Learnt,
+  bump-reads.Asked,
+  bump-reads.Learnt,
+  close-reads.Asked,
+  close-reads.Learnt,
+  at-n-reads.Asked,
+  at-n-reads.Learnt,
+  lab-reads.Asked,
+  lab-reads.Learnt,
+  eat-reads.Asked,
+  eat-reads.Learnt,
+  state-reads.Asked,
+  state-reads.Learnt,
+  pat-must-below t,
+  pat-must.Post,
+  eat-name-star-reads.Asked,
+  eat-name-star-reads.Learnt,
+  ty-annotation-reads.Asked,
+  ty-annotation-reads.Learnt,
+  as-pat-tl-below t,
+  as-pat-tl.Post,
+) (pat-row-at t) pat-row.Post
+pat-row-at-n-requires t c κs =
+    let falls = c .before .before .before .before .before .before .before .before .before .before .pre .0 in
+    let pre0 = c .before .before .before .before .before .before .before .before .before .before .pre .1 in
+    let if1 = c .before .before .before .if1 .left in
+    let mark = c .before .before .mark .ensures in
+    let mark-ok = ok-marks mark pre0 in
+    let at = c .before .at .ensures in
+    let if2 = c .if2 .left in
+    search asks depth 8
+
+pat-row-lab-requires : (t : ℕ) → pat-row-lts.Need-lab-requires (
+  refuse-reads.Asked,
+  refuse-reads.Learnt,
+  mark-reads.Asked,
+  mark-reads.Learnt,
+  at-reads.Asked,
+  at-reads.Learnt,
+  bump-reads.Asked,
+  bump-reads.Learnt,
+  close-reads.Asked,
+  close-reads.Learnt,
+  at-n-reads.Asked,
+  at-n-reads.Learnt,
+  lab-reads.Asked,
+  lab-reads.Learnt,
+  eat-reads.Asked,
+  eat-reads.Learnt,
+  state-reads.Asked,
+  state-reads.Learnt,
+  pat-must-below t,
+  pat-must.Post,
+  eat-name-star-reads.Asked,
+  eat-name-star-reads.Learnt,
+  ty-annotation-reads.Asked,
+  ty-annotation-reads.Learnt,
+  as-pat-tl-below t,
+  as-pat-tl.Post,
+) (pat-row-at t) pat-row.Post
+pat-row-lab-requires t c κs =
+    let falls = c .before .before .before .before .before .before .before .before .before .before .before .before .before .before .pre .0 in
+    let pre0 = c .before .before .before .before .before .before .before .before .before .before .before .before .before .before .pre .1 in
+    let if1 = c .before .before .before .before .before .before .before .if1 .left in
+    let mark = c .before .before .before .before .before .before .mark .ensures in
+    let mark-ok = ok-marks mark pre0 in
+    let at = c .before .before .before .before .before .at .ensures in
+    let if2 = c .before .before .before .before .if2 .left in
+    let at-n = c .before .before .before .at-n .ensures in
+    let if3 = c .before .before .if3 .taken in
+    search asks depth 8
+
+pat-row-eat-requires : (t : ℕ) → pat-row-lts.Need-eat-requires (
+  refuse-reads.Asked,
+  refuse-reads.Learnt,
+  mark-reads.Asked,
+  mark-reads.Learnt,
+  at-reads.Asked,
+  at-reads.Learnt,
+  bump-reads.Asked,
+  bump-reads.Learnt,
+  close-reads.Asked,
+  close-reads.Learnt,
+  at-n-reads.Asked,
+  at-n-reads.Learnt,
+  lab-reads.Asked,
+  lab-reads.Learnt,
+  eat-reads.Asked,
+  eat-reads.Learnt,
+  state-reads.Asked,
+  state-reads.Learnt,
+  pat-must-below t,
+  pat-must.Post,
+  eat-name-star-reads.Asked,
+  eat-name-star-reads.Learnt,
+  ty-annotation-reads.Asked,
+  ty-annotation-reads.Learnt,
+  as-pat-tl-below t,
+  as-pat-tl.Post,
+) (pat-row-at t) pat-row.Post
+pat-row-eat-requires t c κs =
+    let falls = c .before .before .before .before .before .before .before .before .before .before .before .before .before .before .before .before .before .before .before .before .before .pre .0 in
+    let pre0 = c .before .before .before .before .before .before .before .before .before .before .before .before .before .before .before .before .before .before .before .before .before .pre .1 in
+    let if1 = c .before .before .before .before .before .before .before .before .before .before .before .before .before .before .if1 .left in
+    let mark = c .before .before .before .before .before .before .before .before .before .before .before .before .before .mark .ensures in
+    let mark-ok = ok-marks mark pre0 in
+    let at = c .before .before .before .before .before .before .before .before .before .before .before .before .at .ensures in
+    let if2 = c .before .before .before .before .before .before .before .before .before .before .before .if2 .left in
+    let at-n = c .before .before .before .before .before .before .before .before .before .before .at-n .ensures in
+    let if3 = c .before .before .before .before .before .before .before .before .before .if3 .taken in
+    let lab = c .before .before .before .before .before .before .lab .ensures in
+    let lab-ok = lab .ok in
+    search asks depth 8
+
+pat-row-state-requires : (t : ℕ) → pat-row-lts.Need-state-requires (
+  refuse-reads.Asked,
+  refuse-reads.Learnt,
+  mark-reads.Asked,
+  mark-reads.Learnt,
+  at-reads.Asked,
+  at-reads.Learnt,
+  bump-reads.Asked,
+  bump-reads.Learnt,
+  close-reads.Asked,
+  close-reads.Learnt,
+  at-n-reads.Asked,
+  at-n-reads.Learnt,
+  lab-reads.Asked,
+  lab-reads.Learnt,
+  eat-reads.Asked,
+  eat-reads.Learnt,
+  state-reads.Asked,
+  state-reads.Learnt,
+  pat-must-below t,
+  pat-must.Post,
+  eat-name-star-reads.Asked,
+  eat-name-star-reads.Learnt,
+  ty-annotation-reads.Asked,
+  ty-annotation-reads.Learnt,
+  as-pat-tl-below t,
+  as-pat-tl.Post,
+) (pat-row-at t) pat-row.Post
+pat-row-state-requires t c κs =
+    let falls = c .before .before .before .before .before .before .before .before .before .before .before .before .before .before .before .before .before .before .before .before .before .before .before .before .before .before .pre .0 in
+    let pre0 = c .before .before .before .before .before .before .before .before .before .before .before .before .before .before .before .before .before .before .before .before .before .before .before .before .before .before .pre .1 in
+    let if1 = c .before .before .before .before .before .before .before .before .before .before .before .before .before .before .before .before .before .before .before .if1 .left in
+    let mark = c .before .before .before .before .before .before .before .before .before .before .before .before .before .before .before .before .before .before .mark .ensures in
+    let mark-ok = ok-marks mark pre0 in
+    let at = c .before .before .before .before .before .before .before .before .before .before .before .before .before .before .before .before .before .at .ensures in
+    let if2 = c .before .before .before .before .before .before .before .before .before .before .before .before .before .before .before .before .if2 .left in
+    let at-n = c .before .before .before .before .before .before .before .before .before .before .before .before .before .before .before .at-n .ensures in
+    let if3 = c .before .before .before .before .before .before .before .before .before .before .before .before .before .before .if3 .taken in
+    let lab = c .before .before .before .before .before .before .before .before .before .before .before .lab .ensures in
+    let lab-ok = lab .ok in
+    let eat = c .before .before .before .before .eat .ensures in
+    let eat-ok = eat .ok in
+    search asks depth 8
+
+pat-row-sub-pat-must : (t : ℕ) → pat-row-lts.Need-sub-pat-must (
+  refuse-reads.Asked,
+  refuse-reads.Learnt,
+  mark-reads.Asked,
+  mark-reads.Learnt,
+  at-reads.Asked,
+  at-reads.Learnt,
+  bump-reads.Asked,
+  bump-reads.Learnt,
+  close-reads.Asked,
+  close-reads.Learnt,
+  at-n-reads.Asked,
+  at-n-reads.Learnt,
+  lab-reads.Asked,
+  lab-reads.Learnt,
+  eat-reads.Asked,
+  eat-reads.Learnt,
+  state-reads.Asked,
+  state-reads.Learnt,
+  pat-must-below t,
+  pat-must.Post,
+  eat-name-star-reads.Asked,
+  eat-name-star-reads.Learnt,
+  ty-annotation-reads.Asked,
+  ty-annotation-reads.Learnt,
+  as-pat-tl-below t,
+  as-pat-tl.Post,
+) (pat-row-at t) pat-row.Post
+pat-row-sub-pat-must t c =
+    let falls = c .before .before .before .before .before .before .before .before .before .before .before .before .before .before .before .before .before .before .before .before .before .before .before .before .before .before .before .before .before .pre .0 in
+    let pre0 = c .before .before .before .before .before .before .before .before .before .before .before .before .before .before .before .before .before .before .before .before .before .before .before .before .before .before .before .before .before .pre .1 in
+    let if1 = c .before .before .before .before .before .before .before .before .before .before .before .before .before .before .before .before .before .before .before .before .before .before .if1 .left in
+    let if2 = c .before .before .before .before .before .before .before .before .before .before .before .before .before .before .before .before .before .before .before .if2 .left in
+    let if3 = c .before .before .before .before .before .before .before .before .before .before .before .before .before .before .before .before .before .if3 .taken in
+    search needs
+
+pat-row-pat-must-requires : (t : ℕ) → pat-row-lts.Need-pat-must-requires (
+  refuse-reads.Asked,
+  refuse-reads.Learnt,
+  mark-reads.Asked,
+  mark-reads.Learnt,
+  at-reads.Asked,
+  at-reads.Learnt,
+  bump-reads.Asked,
+  bump-reads.Learnt,
+  close-reads.Asked,
+  close-reads.Learnt,
+  at-n-reads.Asked,
+  at-n-reads.Learnt,
+  lab-reads.Asked,
+  lab-reads.Learnt,
+  eat-reads.Asked,
+  eat-reads.Learnt,
+  state-reads.Asked,
+  state-reads.Learnt,
+  pat-must-below t,
+  pat-must.Post,
+  eat-name-star-reads.Asked,
+  eat-name-star-reads.Learnt,
+  ty-annotation-reads.Asked,
+  ty-annotation-reads.Learnt,
+  as-pat-tl-below t,
+  as-pat-tl.Post,
+) (pat-row-at t) pat-row.Post
+pat-row-pat-must-requires t c κs =
+    let falls = c .before .before .before .before .before .before .before .before .before .before .before .before .before .before .before .before .before .before .before .before .before .before .before .before .before .before .before .before .before .pre .0 in
+    let pre0 = c .before .before .before .before .before .before .before .before .before .before .before .before .before .before .before .before .before .before .before .before .before .before .before .before .before .before .before .before .before .pre .1 in
+    let if1 = c .before .before .before .before .before .before .before .before .before .before .before .before .before .before .before .before .before .before .before .before .before .before .if1 .left in
+    let mark = c .before .before .before .before .before .before .before .before .before .before .before .before .before .before .before .before .before .before .before .before .before .mark .ensures in
+    let mark-ok = ok-marks mark pre0 in
+    let at = c .before .before .before .before .before .before .before .before .before .before .before .before .before .before .before .before .before .before .before .before .at .ensures in
+    let if2 = c .before .before .before .before .before .before .before .before .before .before .before .before .before .before .before .before .before .before .before .if2 .left in
+    let at-n = c .before .before .before .before .before .before .before .before .before .before .before .before .before .before .before .before .before .before .at-n .ensures in
+    let if3 = c .before .before .before .before .before .before .before .before .before .before .before .before .before .before .before .before .before .if3 .taken in
+    let lab = c .before .before .before .before .before .before .before .before .before .before .before .before .before .before .lab .ensures in
+    let lab-ok = lab .ok in
+    let eat = c .before .before .before .before .before .before .before .eat .ensures in
+    let eat-ok = eat .ok in
+    let state = c .before .before .state .ensures in
+    let state-ok = ok-state state eat-ok in
+    search asks depth 8
+
+pat-row-close-requires-2 : (t : ℕ) → pat-row-lts.Need-close-requires-2 (
+  refuse-reads.Asked,
+  refuse-reads.Learnt,
+  mark-reads.Asked,
+  mark-reads.Learnt,
+  at-reads.Asked,
+  at-reads.Learnt,
+  bump-reads.Asked,
+  bump-reads.Learnt,
+  close-reads.Asked,
+  close-reads.Learnt,
+  at-n-reads.Asked,
+  at-n-reads.Learnt,
+  lab-reads.Asked,
+  lab-reads.Learnt,
+  eat-reads.Asked,
+  eat-reads.Learnt,
+  state-reads.Asked,
+  state-reads.Learnt,
+  pat-must-below t,
+  pat-must.Post,
+  eat-name-star-reads.Asked,
+  eat-name-star-reads.Learnt,
+  ty-annotation-reads.Asked,
+  ty-annotation-reads.Learnt,
+  as-pat-tl-below t,
+  as-pat-tl.Post,
+) (pat-row-at t) pat-row.Post
+pat-row-close-requires-2 t c κs =
+    let falls = c .before .before .before .before .before .before .before .before .before .before .before .before .before .before .before .before .before .before .before .before .before .before .before .before .before .before .before .before .before .before .before .before .before .before .before .pre .0 in
+    let pre0 = c .before .before .before .before .before .before .before .before .before .before .before .before .before .before .before .before .before .before .before .before .before .before .before .before .before .before .before .before .before .before .before .before .before .before .before .pre .1 in
+    let if1 = c .before .before .before .before .before .before .before .before .before .before .before .before .before .before .before .before .before .before .before .before .before .before .before .before .before .before .before .before .if1 .left in
+    let mark = c .before .before .before .before .before .before .before .before .before .before .before .before .before .before .before .before .before .before .before .before .before .before .before .before .before .before .before .mark .ensures in
+    let mark-ok = ok-marks mark pre0 in
+    let at = c .before .before .before .before .before .before .before .before .before .before .before .before .before .before .before .before .before .before .before .before .before .before .before .before .before .before .at .ensures in
+    let if2 = c .before .before .before .before .before .before .before .before .before .before .before .before .before .before .before .before .before .before .before .before .before .before .before .before .before .if2 .left in
+    let at-n = c .before .before .before .before .before .before .before .before .before .before .before .before .before .before .before .before .before .before .before .before .before .before .before .before .at-n .ensures in
+    let if3 = c .before .before .before .before .before .before .before .before .before .before .before .before .before .before .before .before .before .before .before .before .before .before .before .if3 .taken in
+    let lab = c .before .before .before .before .before .before .before .before .before .before .before .before .before .before .before .before .before .before .before .before .lab .ensures in
+    let lab-ok = lab .ok in
+    let eat = c .before .before .before .before .before .before .before .before .before .before .before .before .before .eat .ensures in
+    let eat-ok = eat .ok in
+    let state = c .before .before .before .before .before .before .before .before .state .ensures in
+    let state-ok = ok-state state eat-ok in
+    let pat-must = c .before .before .before .before .before .pat-must .ensures in
+    let pat-must-ok = pat-must .ok in
+    search asks depth 8
+
+pat-row-same-length-2 : (t : ℕ) → pat-row-lts.Need-same-length-2 (
+  refuse-reads.Asked,
+  refuse-reads.Learnt,
+  mark-reads.Asked,
+  mark-reads.Learnt,
+  at-reads.Asked,
+  at-reads.Learnt,
+  bump-reads.Asked,
+  bump-reads.Learnt,
+  close-reads.Asked,
+  close-reads.Learnt,
+  at-n-reads.Asked,
+  at-n-reads.Learnt,
+  lab-reads.Asked,
+  lab-reads.Learnt,
+  eat-reads.Asked,
+  eat-reads.Learnt,
+  state-reads.Asked,
+  state-reads.Learnt,
+  pat-must-below t,
+  pat-must.Post,
+  eat-name-star-reads.Asked,
+  eat-name-star-reads.Learnt,
+  ty-annotation-reads.Asked,
+  ty-annotation-reads.Learnt,
+  as-pat-tl-below t,
+  as-pat-tl.Post,
+) (pat-row-at t) pat-row.Post
+pat-row-same-length-2 t c =
+    c .before .before .close2 .kept .0 ∙ c .before .before .before .before .before .before .before .before .pat-must .kept .1 .1 .1 .1 .0 ∙ c .before .before .before .before .before .before .before .before .before .before .before .before .before .before .before .before .eat .kept .1 .1 .1 .1 .0 ∙ c .before .before .before .before .before .before .before .before .before .before .before .before .before .before .before .before .before .before .before .before .before .before .before .lab .kept .1 .1 .1 .1 .0
+
+pat-row-same-length-3 : (t : ℕ) → pat-row-lts.Need-same-length-3 (
+  refuse-reads.Asked,
+  refuse-reads.Learnt,
+  mark-reads.Asked,
+  mark-reads.Learnt,
+  at-reads.Asked,
+  at-reads.Learnt,
+  bump-reads.Asked,
+  bump-reads.Learnt,
+  close-reads.Asked,
+  close-reads.Learnt,
+  at-n-reads.Asked,
+  at-n-reads.Learnt,
+  lab-reads.Asked,
+  lab-reads.Learnt,
+  eat-reads.Asked,
+  eat-reads.Learnt,
+  state-reads.Asked,
+  state-reads.Learnt,
+  pat-must-below t,
+  pat-must.Post,
+  eat-name-star-reads.Asked,
+  eat-name-star-reads.Learnt,
+  ty-annotation-reads.Asked,
+  ty-annotation-reads.Learnt,
+  as-pat-tl-below t,
+  as-pat-tl.Post,
+) (pat-row-at t) pat-row.Post
+pat-row-same-length-3 t c =
+    c .before .before .before .before .before .before .before .before .pat-must .kept .1 .1 .1 .1 .1 .0 ∙ c .before .before .before .before .before .before .before .before .before .before .before .before .before .before .before .before .eat .kept .1 .1 .1 .1 .1 .0 ∙ c .before .before .before .before .before .before .before .before .before .before .before .before .before .before .before .before .before .before .before .before .before .before .before .lab .kept .1 .1 .1 .1 .1 .0
+
+pat-row-returns-3 : (t : ℕ) → pat-row-lts.Need-returns-3 (
+  refuse-reads.Asked,
+  refuse-reads.Learnt,
+  mark-reads.Asked,
+  mark-reads.Learnt,
+  at-reads.Asked,
+  at-reads.Learnt,
+  bump-reads.Asked,
+  bump-reads.Learnt,
+  close-reads.Asked,
+  close-reads.Learnt,
+  at-n-reads.Asked,
+  at-n-reads.Learnt,
+  lab-reads.Asked,
+  lab-reads.Learnt,
+  eat-reads.Asked,
+  eat-reads.Learnt,
+  state-reads.Asked,
+  state-reads.Learnt,
+  pat-must-below t,
+  pat-must.Post,
+  eat-name-star-reads.Asked,
+  eat-name-star-reads.Learnt,
+  ty-annotation-reads.Asked,
+  ty-annotation-reads.Learnt,
+  as-pat-tl-below t,
+  as-pat-tl.Post,
+) (pat-row-at t) pat-row.Post
+unfolding pat.patRow plan choose chosen
+pat-row-returns-3 t c =
+    let falls = c .before .before .before .before .before .before .before .before .before .before .before .before .before .before .before .before .before .before .before .before .before .before .before .before .before .before .before .before .before .before .before .before .before .before .before .before .before .before .pre .0 in
+    let pre0 = c .before .before .before .before .before .before .before .before .before .before .before .before .before .before .before .before .before .before .before .before .before .before .before .before .before .before .before .before .before .before .before .before .before .before .before .before .before .before .pre .1 in
+    let if1 = c .before .before .before .before .before .before .before .before .before .before .before .before .before .before .before .before .before .before .before .before .before .before .before .before .before .before .before .before .before .before .before .if1 .left in
+    let mark = c .before .before .before .before .before .before .before .before .before .before .before .before .before .before .before .before .before .before .before .before .before .before .before .before .before .before .before .before .before .before .mark .ensures in
+    let at = c .before .before .before .before .before .before .before .before .before .before .before .before .before .before .before .before .before .before .before .before .before .before .before .before .before .before .before .before .before .at .ensures in
+    let if2 = c .before .before .before .before .before .before .before .before .before .before .before .before .before .before .before .before .before .before .before .before .before .before .before .before .before .before .before .before .if2 .left in
+    let at-n = c .before .before .before .before .before .before .before .before .before .before .before .before .before .before .before .before .before .before .before .before .before .before .before .before .before .before .before .at-n .ensures in
+    let if3 = c .before .before .before .before .before .before .before .before .before .before .before .before .before .before .before .before .before .before .before .before .before .before .before .before .before .before .if3 .taken in
+    let lab = c .before .before .before .before .before .before .before .before .before .before .before .before .before .before .before .before .before .before .before .before .before .before .before .lab .ensures in
+    let eat = c .before .before .before .before .before .before .before .before .before .before .before .before .before .before .before .before .eat .ensures in
+    let state = c .before .before .before .before .before .before .before .before .before .before .before .state .ensures in
+    let pat-must = c .before .before .before .before .before .before .before .before .pat-must .ensures in
+    let close2 = c .before .before .close2 .ensures in
+    by-steps pre0 (λ b. s-mark if1 mark (s-kind (s-false _ _ (kind-off _ _ _ _ at if2) (s-kind (s-true _ _ (kind-at _ _ _ _ at-n if3) (s-by _ (runs-always lab) (s-by _ (settled state (runs-always eat)) (s-by _ (runs-in pat-must) (s-close close2 s-end)))))))))
+
+pat-row-eat-name-star-requires : (t : ℕ) → pat-row-lts.Need-eat-name-star-requires (
+  refuse-reads.Asked,
+  refuse-reads.Learnt,
+  mark-reads.Asked,
+  mark-reads.Learnt,
+  at-reads.Asked,
+  at-reads.Learnt,
+  bump-reads.Asked,
+  bump-reads.Learnt,
+  close-reads.Asked,
+  close-reads.Learnt,
+  at-n-reads.Asked,
+  at-n-reads.Learnt,
+  lab-reads.Asked,
+  lab-reads.Learnt,
+  eat-reads.Asked,
+  eat-reads.Learnt,
+  state-reads.Asked,
+  state-reads.Learnt,
+  pat-must-below t,
+  pat-must.Post,
+  eat-name-star-reads.Asked,
+  eat-name-star-reads.Learnt,
+  ty-annotation-reads.Asked,
+  ty-annotation-reads.Learnt,
+  as-pat-tl-below t,
+  as-pat-tl.Post,
+) (pat-row-at t) pat-row.Post
+pat-row-eat-name-star-requires t c κs =
+    let falls = c .before .before .before .before .before .before .before .before .before .before .before .before .before .before .pre .0 in
+    let pre0 = c .before .before .before .before .before .before .before .before .before .before .before .before .before .before .pre .1 in
+    let if1 = c .before .before .before .before .before .before .before .if1 .left in
+    let mark = c .before .before .before .before .before .before .mark .ensures in
+    let mark-ok = ok-marks mark pre0 in
+    let at = c .before .before .before .before .before .at .ensures in
+    let if2 = c .before .before .before .before .if2 .left in
+    let at-n = c .before .before .before .at-n .ensures in
+    let if3 = c .before .before .if3 .left in
+    search asks depth 8
+
+pat-row-state-requires-2 : (t : ℕ) → pat-row-lts.Need-state-requires-2 (
+  refuse-reads.Asked,
+  refuse-reads.Learnt,
+  mark-reads.Asked,
+  mark-reads.Learnt,
+  at-reads.Asked,
+  at-reads.Learnt,
+  bump-reads.Asked,
+  bump-reads.Learnt,
+  close-reads.Asked,
+  close-reads.Learnt,
+  at-n-reads.Asked,
+  at-n-reads.Learnt,
+  lab-reads.Asked,
+  lab-reads.Learnt,
+  eat-reads.Asked,
+  eat-reads.Learnt,
+  state-reads.Asked,
+  state-reads.Learnt,
+  pat-must-below t,
+  pat-must.Post,
+  eat-name-star-reads.Asked,
+  eat-name-star-reads.Learnt,
+  ty-annotation-reads.Asked,
+  ty-annotation-reads.Learnt,
+  as-pat-tl-below t,
+  as-pat-tl.Post,
+) (pat-row-at t) pat-row.Post
+pat-row-state-requires-2 t c κs =
+    let falls = c .before .before .before .before .before .before .before .before .before .before .before .before .before .before .before .before .before .before .before .pre .0 in
+    let pre0 = c .before .before .before .before .before .before .before .before .before .before .before .before .before .before .before .before .before .before .before .pre .1 in
+    let if1 = c .before .before .before .before .before .before .before .before .before .before .before .before .if1 .left in
+    let mark = c .before .before .before .before .before .before .before .before .before .before .before .mark .ensures in
+    let mark-ok = ok-marks mark pre0 in
+    let at = c .before .before .before .before .before .before .before .before .before .before .at .ensures in
+    let if2 = c .before .before .before .before .before .before .before .before .before .if2 .left in
+    let at-n = c .before .before .before .before .before .before .before .before .at-n .ensures in
+    let if3 = c .before .before .before .before .before .before .before .if3 .left in
+    let eat-name-star = c .before .before .before .before .eat-name-star .ensures in
+    let eat-name-star-ok = eat-name-star .ok in
+    search asks depth 8
+
+pat-row-sub-ty-annotation : (t : ℕ) → pat-row-lts.Need-sub-ty-annotation (
+  refuse-reads.Asked,
+  refuse-reads.Learnt,
+  mark-reads.Asked,
+  mark-reads.Learnt,
+  at-reads.Asked,
+  at-reads.Learnt,
+  bump-reads.Asked,
+  bump-reads.Learnt,
+  close-reads.Asked,
+  close-reads.Learnt,
+  at-n-reads.Asked,
+  at-n-reads.Learnt,
+  lab-reads.Asked,
+  lab-reads.Learnt,
+  eat-reads.Asked,
+  eat-reads.Learnt,
+  state-reads.Asked,
+  state-reads.Learnt,
+  pat-must-below t,
+  pat-must.Post,
+  eat-name-star-reads.Asked,
+  eat-name-star-reads.Learnt,
+  ty-annotation-reads.Asked,
+  ty-annotation-reads.Learnt,
+  as-pat-tl-below t,
+  as-pat-tl.Post,
+) (pat-row-at t) pat-row.Post
+pat-row-sub-ty-annotation t c =
+    let falls = c .before .before .before .before .before .before .before .before .before .before .before .before .before .before .before .before .before .before .before .before .before .before .pre .0 in
+    let pre0 = c .before .before .before .before .before .before .before .before .before .before .before .before .before .before .before .before .before .before .before .before .before .before .pre .1 in
+    let if1 = c .before .before .before .before .before .before .before .before .before .before .before .before .before .before .before .if1 .left in
+    let if2 = c .before .before .before .before .before .before .before .before .before .before .before .before .if2 .left in
+    let if3 = c .before .before .before .before .before .before .before .before .before .before .if3 .left in
+    search needs
+
+pat-row-ty-annotation-requires : (t : ℕ) → pat-row-lts.Need-ty-annotation-requires (
+  refuse-reads.Asked,
+  refuse-reads.Learnt,
+  mark-reads.Asked,
+  mark-reads.Learnt,
+  at-reads.Asked,
+  at-reads.Learnt,
+  bump-reads.Asked,
+  bump-reads.Learnt,
+  close-reads.Asked,
+  close-reads.Learnt,
+  at-n-reads.Asked,
+  at-n-reads.Learnt,
+  lab-reads.Asked,
+  lab-reads.Learnt,
+  eat-reads.Asked,
+  eat-reads.Learnt,
+  state-reads.Asked,
+  state-reads.Learnt,
+  pat-must-below t,
+  pat-must.Post,
+  eat-name-star-reads.Asked,
+  eat-name-star-reads.Learnt,
+  ty-annotation-reads.Asked,
+  ty-annotation-reads.Learnt,
+  as-pat-tl-below t,
+  as-pat-tl.Post,
+) (pat-row-at t) pat-row.Post
+pat-row-ty-annotation-requires t c κs =
+    let falls = c .before .before .before .before .before .before .before .before .before .before .before .before .before .before .before .before .before .before .before .before .before .before .pre .0 in
+    let pre0 = c .before .before .before .before .before .before .before .before .before .before .before .before .before .before .before .before .before .before .before .before .before .before .pre .1 in
+    let if1 = c .before .before .before .before .before .before .before .before .before .before .before .before .before .before .before .if1 .left in
+    let mark = c .before .before .before .before .before .before .before .before .before .before .before .before .before .before .mark .ensures in
+    let mark-ok = ok-marks mark pre0 in
+    let at = c .before .before .before .before .before .before .before .before .before .before .before .before .before .at .ensures in
+    let if2 = c .before .before .before .before .before .before .before .before .before .before .before .before .if2 .left in
+    let at-n = c .before .before .before .before .before .before .before .before .before .before .before .at-n .ensures in
+    let if3 = c .before .before .before .before .before .before .before .before .before .before .if3 .left in
+    let eat-name-star = c .before .before .before .before .before .before .before .eat-name-star .ensures in
+    let eat-name-star-ok = eat-name-star .ok in
+    let state2 = c .before .before .state2 .ensures in
+    let state2-ok = ok-state state2 eat-name-star-ok in
+    search asks depth 8
+
+pat-row-state-requires-3 : (t : ℕ) → pat-row-lts.Need-state-requires-3 (
+  refuse-reads.Asked,
+  refuse-reads.Learnt,
+  mark-reads.Asked,
+  mark-reads.Learnt,
+  at-reads.Asked,
+  at-reads.Learnt,
+  bump-reads.Asked,
+  bump-reads.Learnt,
+  close-reads.Asked,
+  close-reads.Learnt,
+  at-n-reads.Asked,
+  at-n-reads.Learnt,
+  lab-reads.Asked,
+  lab-reads.Learnt,
+  eat-reads.Asked,
+  eat-reads.Learnt,
+  state-reads.Asked,
+  state-reads.Learnt,
+  pat-must-below t,
+  pat-must.Post,
+  eat-name-star-reads.Asked,
+  eat-name-star-reads.Learnt,
+  ty-annotation-reads.Asked,
+  ty-annotation-reads.Learnt,
+  as-pat-tl-below t,
+  as-pat-tl.Post,
+) (pat-row-at t) pat-row.Post
+pat-row-state-requires-3 t c κs =
+    let falls = c .before .before .before .before .before .before .before .before .before .before .before .before .before .before .before .before .before .before .before .before .before .before .before .before .before .before .before .pre .0 in
+    let pre0 = c .before .before .before .before .before .before .before .before .before .before .before .before .before .before .before .before .before .before .before .before .before .before .before .before .before .before .before .pre .1 in
+    let if1 = c .before .before .before .before .before .before .before .before .before .before .before .before .before .before .before .before .before .before .before .before .if1 .left in
+    let mark = c .before .before .before .before .before .before .before .before .before .before .before .before .before .before .before .before .before .before .before .mark .ensures in
+    let mark-ok = ok-marks mark pre0 in
+    let at = c .before .before .before .before .before .before .before .before .before .before .before .before .before .before .before .before .before .before .at .ensures in
+    let if2 = c .before .before .before .before .before .before .before .before .before .before .before .before .before .before .before .before .before .if2 .left in
+    let at-n = c .before .before .before .before .before .before .before .before .before .before .before .before .before .before .before .before .at-n .ensures in
+    let if3 = c .before .before .before .before .before .before .before .before .before .before .before .before .before .before .before .if3 .left in
+    let eat-name-star = c .before .before .before .before .before .before .before .before .before .before .before .before .eat-name-star .ensures in
+    let eat-name-star-ok = eat-name-star .ok in
+    let state2 = c .before .before .before .before .before .before .before .state2 .ensures in
+    let state2-ok = ok-state state2 eat-name-star-ok in
+    let ty-annotation = c .before .before .before .before .ty-annotation .ensures in
+    let ty-annotation-ok = ty-annotation .ok in
+    search asks depth 8
+
+pat-row-sub-as-pat-tl : (t : ℕ) → pat-row-lts.Need-sub-as-pat-tl (
+  refuse-reads.Asked,
+  refuse-reads.Learnt,
+  mark-reads.Asked,
+  mark-reads.Learnt,
+  at-reads.Asked,
+  at-reads.Learnt,
+  bump-reads.Asked,
+  bump-reads.Learnt,
+  close-reads.Asked,
+  close-reads.Learnt,
+  at-n-reads.Asked,
+  at-n-reads.Learnt,
+  lab-reads.Asked,
+  lab-reads.Learnt,
+  eat-reads.Asked,
+  eat-reads.Learnt,
+  state-reads.Asked,
+  state-reads.Learnt,
+  pat-must-below t,
+  pat-must.Post,
+  eat-name-star-reads.Asked,
+  eat-name-star-reads.Learnt,
+  ty-annotation-reads.Asked,
+  ty-annotation-reads.Learnt,
+  as-pat-tl-below t,
+  as-pat-tl.Post,
+) (pat-row-at t) pat-row.Post
+pat-row-sub-as-pat-tl t c =
+    let falls = c .before .before .before .before .before .before .before .before .before .before .before .before .before .before .before .before .before .before .before .before .before .before .before .before .before .before .before .before .before .before .pre .0 in
+    let pre0 = c .before .before .before .before .before .before .before .before .before .before .before .before .before .before .before .before .before .before .before .before .before .before .before .before .before .before .before .before .before .before .pre .1 in
+    let if1 = c .before .before .before .before .before .before .before .before .before .before .before .before .before .before .before .before .before .before .before .before .before .before .before .if1 .left in
+    let if2 = c .before .before .before .before .before .before .before .before .before .before .before .before .before .before .before .before .before .before .before .before .if2 .left in
+    let if3 = c .before .before .before .before .before .before .before .before .before .before .before .before .before .before .before .before .before .before .if3 .left in
+    search needs
+
+pat-row-as-pat-tl-requires : (t : ℕ) → pat-row-lts.Need-as-pat-tl-requires (
+  refuse-reads.Asked,
+  refuse-reads.Learnt,
+  mark-reads.Asked,
+  mark-reads.Learnt,
+  at-reads.Asked,
+  at-reads.Learnt,
+  bump-reads.Asked,
+  bump-reads.Learnt,
+  close-reads.Asked,
+  close-reads.Learnt,
+  at-n-reads.Asked,
+  at-n-reads.Learnt,
+  lab-reads.Asked,
+  lab-reads.Learnt,
+  eat-reads.Asked,
+  eat-reads.Learnt,
+  state-reads.Asked,
+  state-reads.Learnt,
+  pat-must-below t,
+  pat-must.Post,
+  eat-name-star-reads.Asked,
+  eat-name-star-reads.Learnt,
+  ty-annotation-reads.Asked,
+  ty-annotation-reads.Learnt,
+  as-pat-tl-below t,
+  as-pat-tl.Post,
+) (pat-row-at t) pat-row.Post
+pat-row-as-pat-tl-requires t c κs =
+    let falls = c .before .before .before .before .before .before .before .before .before .before .before .before .before .before .before .before .before .before .before .before .before .before .before .before .before .before .before .before .before .before .pre .0 in
+    let pre0 = c .before .before .before .before .before .before .before .before .before .before .before .before .before .before .before .before .before .before .before .before .before .before .before .before .before .before .before .before .before .before .pre .1 in
+    let if1 = c .before .before .before .before .before .before .before .before .before .before .before .before .before .before .before .before .before .before .before .before .before .before .before .if1 .left in
+    let mark = c .before .before .before .before .before .before .before .before .before .before .before .before .before .before .before .before .before .before .before .before .before .before .mark .ensures in
+    let mark-ok = ok-marks mark pre0 in
+    let at = c .before .before .before .before .before .before .before .before .before .before .before .before .before .before .before .before .before .before .before .before .before .at .ensures in
+    let if2 = c .before .before .before .before .before .before .before .before .before .before .before .before .before .before .before .before .before .before .before .before .if2 .left in
+    let at-n = c .before .before .before .before .before .before .before .before .before .before .before .before .before .before .before .before .before .before .before .at-n .ensures in
+    let if3 = c .before .before .before .before .before .before .before .before .before .before .before .before .before .before .before .before .before .before .if3 .left in
+    let eat-name-star = c .before .before .before .before .before .before .before .before .before .before .before .before .before .before .before .eat-name-star .ensures in
+    let eat-name-star-ok = eat-name-star .ok in
+    let state2 = c .before .before .before .before .before .before .before .before .before .before .state2 .ensures in
+    let state2-ok = ok-state state2 eat-name-star-ok in
+    let ty-annotation = c .before .before .before .before .before .before .before .ty-annotation .ensures in
+    let ty-annotation-ok = ty-annotation .ok in
+    let state3 = c .before .before .state3 .ensures in
+    let state3-ok = ok-state state3 ty-annotation-ok in
+    search asks depth 8
+
+pat-row-state-requires-4 : (t : ℕ) → pat-row-lts.Need-state-requires-4 (
+  refuse-reads.Asked,
+  refuse-reads.Learnt,
+  mark-reads.Asked,
+  mark-reads.Learnt,
+  at-reads.Asked,
+  at-reads.Learnt,
+  bump-reads.Asked,
+  bump-reads.Learnt,
+  close-reads.Asked,
+  close-reads.Learnt,
+  at-n-reads.Asked,
+  at-n-reads.Learnt,
+  lab-reads.Asked,
+  lab-reads.Learnt,
+  eat-reads.Asked,
+  eat-reads.Learnt,
+  state-reads.Asked,
+  state-reads.Learnt,
+  pat-must-below t,
+  pat-must.Post,
+  eat-name-star-reads.Asked,
+  eat-name-star-reads.Learnt,
+  ty-annotation-reads.Asked,
+  ty-annotation-reads.Learnt,
+  as-pat-tl-below t,
+  as-pat-tl.Post,
+) (pat-row-at t) pat-row.Post
+pat-row-state-requires-4 t c κs =
+    let falls = c .before .before .before .before .before .before .before .before .before .before .before .before .before .before .before .before .before .before .before .before .before .before .before .before .before .before .before .before .before .before .before .before .before .before .before .pre .0 in
+    let pre0 = c .before .before .before .before .before .before .before .before .before .before .before .before .before .before .before .before .before .before .before .before .before .before .before .before .before .before .before .before .before .before .before .before .before .before .before .pre .1 in
+    let if1 = c .before .before .before .before .before .before .before .before .before .before .before .before .before .before .before .before .before .before .before .before .before .before .before .before .before .before .before .before .if1 .left in
+    let mark = c .before .before .before .before .before .before .before .before .before .before .before .before .before .before .before .before .before .before .before .before .before .before .before .before .before .before .before .mark .ensures in
+    let mark-ok = ok-marks mark pre0 in
+    let at = c .before .before .before .before .before .before .before .before .before .before .before .before .before .before .before .before .before .before .before .before .before .before .before .before .before .before .at .ensures in
+    let if2 = c .before .before .before .before .before .before .before .before .before .before .before .before .before .before .before .before .before .before .before .before .before .before .before .before .before .if2 .left in
+    let at-n = c .before .before .before .before .before .before .before .before .before .before .before .before .before .before .before .before .before .before .before .before .before .before .before .before .at-n .ensures in
+    let if3 = c .before .before .before .before .before .before .before .before .before .before .before .before .before .before .before .before .before .before .before .before .before .before .before .if3 .left in
+    let eat-name-star = c .before .before .before .before .before .before .before .before .before .before .before .before .before .before .before .before .before .before .before .before .eat-name-star .ensures in
+    let eat-name-star-ok = eat-name-star .ok in
+    let state2 = c .before .before .before .before .before .before .before .before .before .before .before .before .before .before .before .state2 .ensures in
+    let state2-ok = ok-state state2 eat-name-star-ok in
+    let ty-annotation = c .before .before .before .before .before .before .before .before .before .before .before .before .ty-annotation .ensures in
+    let ty-annotation-ok = ty-annotation .ok in
+    let state3 = c .before .before .before .before .before .before .before .state3 .ensures in
+    let state3-ok = ok-state state3 ty-annotation-ok in
+    let as-pat-tl = c .before .before .before .before .as-pat-tl .ensures in
+    let as-pat-tl-ok = as-pat-tl .ok in
+    search asks depth 8
+
+pat-row-close-requires-3 : (t : ℕ) → pat-row-lts.Need-close-requires-3 (
+  refuse-reads.Asked,
+  refuse-reads.Learnt,
+  mark-reads.Asked,
+  mark-reads.Learnt,
+  at-reads.Asked,
+  at-reads.Learnt,
+  bump-reads.Asked,
+  bump-reads.Learnt,
+  close-reads.Asked,
+  close-reads.Learnt,
+  at-n-reads.Asked,
+  at-n-reads.Learnt,
+  lab-reads.Asked,
+  lab-reads.Learnt,
+  eat-reads.Asked,
+  eat-reads.Learnt,
+  state-reads.Asked,
+  state-reads.Learnt,
+  pat-must-below t,
+  pat-must.Post,
+  eat-name-star-reads.Asked,
+  eat-name-star-reads.Learnt,
+  ty-annotation-reads.Asked,
+  ty-annotation-reads.Learnt,
+  as-pat-tl-below t,
+  as-pat-tl.Post,
+) (pat-row-at t) pat-row.Post
+pat-row-close-requires-3 t c κs =
+    let falls = c .before .before .before .before .before .before .before .before .before .before .before .before .before .before .before .before .before .before .before .before .before .before .before .before .before .before .before .before .before .before .before .before .before .before .before .before .before .pre .0 in
+    let pre0 = c .before .before .before .before .before .before .before .before .before .before .before .before .before .before .before .before .before .before .before .before .before .before .before .before .before .before .before .before .before .before .before .before .before .before .before .before .before .pre .1 in
+    let if1 = c .before .before .before .before .before .before .before .before .before .before .before .before .before .before .before .before .before .before .before .before .before .before .before .before .before .before .before .before .before .before .if1 .left in
+    let mark = c .before .before .before .before .before .before .before .before .before .before .before .before .before .before .before .before .before .before .before .before .before .before .before .before .before .before .before .before .before .mark .ensures in
+    let mark-ok = ok-marks mark pre0 in
+    let at = c .before .before .before .before .before .before .before .before .before .before .before .before .before .before .before .before .before .before .before .before .before .before .before .before .before .before .before .before .at .ensures in
+    let if2 = c .before .before .before .before .before .before .before .before .before .before .before .before .before .before .before .before .before .before .before .before .before .before .before .before .before .before .before .if2 .left in
+    let at-n = c .before .before .before .before .before .before .before .before .before .before .before .before .before .before .before .before .before .before .before .before .before .before .before .before .before .before .at-n .ensures in
+    let if3 = c .before .before .before .before .before .before .before .before .before .before .before .before .before .before .before .before .before .before .before .before .before .before .before .before .before .if3 .left in
+    let eat-name-star = c .before .before .before .before .before .before .before .before .before .before .before .before .before .before .before .before .before .before .before .before .before .before .eat-name-star .ensures in
+    let eat-name-star-ok = eat-name-star .ok in
+    let state2 = c .before .before .before .before .before .before .before .before .before .before .before .before .before .before .before .before .before .state2 .ensures in
+    let state2-ok = ok-state state2 eat-name-star-ok in
+    let ty-annotation = c .before .before .before .before .before .before .before .before .before .before .before .before .before .before .ty-annotation .ensures in
+    let ty-annotation-ok = ty-annotation .ok in
+    let state3 = c .before .before .before .before .before .before .before .before .before .state3 .ensures in
+    let state3-ok = ok-state state3 ty-annotation-ok in
+    let as-pat-tl = c .before .before .before .before .before .before .as-pat-tl .ensures in
+    let as-pat-tl-ok = as-pat-tl .ok in
+    let state4 = c .before .state4 .ensures in
+    let state4-ok = ok-state state4 as-pat-tl-ok in
+    search asks depth 8
+
+pat-row-same-length-4 : (t : ℕ) → pat-row-lts.Need-same-length-4 (
+  refuse-reads.Asked,
+  refuse-reads.Learnt,
+  mark-reads.Asked,
+  mark-reads.Learnt,
+  at-reads.Asked,
+  at-reads.Learnt,
+  bump-reads.Asked,
+  bump-reads.Learnt,
+  close-reads.Asked,
+  close-reads.Learnt,
+  at-n-reads.Asked,
+  at-n-reads.Learnt,
+  lab-reads.Asked,
+  lab-reads.Learnt,
+  eat-reads.Asked,
+  eat-reads.Learnt,
+  state-reads.Asked,
+  state-reads.Learnt,
+  pat-must-below t,
+  pat-must.Post,
+  eat-name-star-reads.Asked,
+  eat-name-star-reads.Learnt,
+  ty-annotation-reads.Asked,
+  ty-annotation-reads.Learnt,
+  as-pat-tl-below t,
+  as-pat-tl.Post,
+) (pat-row-at t) pat-row.Post
+pat-row-same-length-4 t c =
+    c .before .before .close3 .kept .0 ∙ c .before .before .before .before .before .before .before .before .before .as-pat-tl .kept .1 .1 .1 .1 .0 ∙ c .before .before .before .before .before .before .before .before .before .before .before .before .before .before .before .before .before .ty-annotation .kept .1 .1 .1 .1 .0 ∙ c .before .before .before .before .before .before .before .before .before .before .before .before .before .before .before .before .before .before .before .before .before .before .before .before .before .eat-name-star .kept .1 .1 .1 .1 .0
+
+pat-row-same-length-5 : (t : ℕ) → pat-row-lts.Need-same-length-5 (
+  refuse-reads.Asked,
+  refuse-reads.Learnt,
+  mark-reads.Asked,
+  mark-reads.Learnt,
+  at-reads.Asked,
+  at-reads.Learnt,
+  bump-reads.Asked,
+  bump-reads.Learnt,
+  close-reads.Asked,
+  close-reads.Learnt,
+  at-n-reads.Asked,
+  at-n-reads.Learnt,
+  lab-reads.Asked,
+  lab-reads.Learnt,
+  eat-reads.Asked,
+  eat-reads.Learnt,
+  state-reads.Asked,
+  state-reads.Learnt,
+  pat-must-below t,
+  pat-must.Post,
+  eat-name-star-reads.Asked,
+  eat-name-star-reads.Learnt,
+  ty-annotation-reads.Asked,
+  ty-annotation-reads.Learnt,
+  as-pat-tl-below t,
+  as-pat-tl.Post,
+) (pat-row-at t) pat-row.Post
+pat-row-same-length-5 t c =
+    c .before .before .before .before .before .before .before .before .before .as-pat-tl .kept .1 .1 .1 .1 .1 .0 ∙ c .before .before .before .before .before .before .before .before .before .before .before .before .before .before .before .before .before .ty-annotation .kept .1 .1 .1 .1 .1 .0 ∙ c .before .before .before .before .before .before .before .before .before .before .before .before .before .before .before .before .before .before .before .before .before .before .before .before .before .eat-name-star .kept .1 .1 .1 .1 .1 .0
+
+pat-row-returns-4 : (t : ℕ) → pat-row-lts.Need-returns-4 (
+  refuse-reads.Asked,
+  refuse-reads.Learnt,
+  mark-reads.Asked,
+  mark-reads.Learnt,
+  at-reads.Asked,
+  at-reads.Learnt,
+  bump-reads.Asked,
+  bump-reads.Learnt,
+  close-reads.Asked,
+  close-reads.Learnt,
+  at-n-reads.Asked,
+  at-n-reads.Learnt,
+  lab-reads.Asked,
+  lab-reads.Learnt,
+  eat-reads.Asked,
+  eat-reads.Learnt,
+  state-reads.Asked,
+  state-reads.Learnt,
+  pat-must-below t,
+  pat-must.Post,
+  eat-name-star-reads.Asked,
+  eat-name-star-reads.Learnt,
+  ty-annotation-reads.Asked,
+  ty-annotation-reads.Learnt,
+  as-pat-tl-below t,
+  as-pat-tl.Post,
+) (pat-row-at t) pat-row.Post
+unfolding pat.patRow plan choose chosen
+pat-row-returns-4 t c =
+    let falls = c .before .before .before .before .before .before .before .before .before .before .before .before .before .before .before .before .before .before .before .before .before .before .before .before .before .before .before .before .before .before .before .before .before .before .before .before .before .before .before .before .pre .0 in
+    let pre0 = c .before .before .before .before .before .before .before .before .before .before .before .before .before .before .before .before .before .before .before .before .before .before .before .before .before .before .before .before .before .before .before .before .before .before .before .before .before .before .before .before .pre .1 in
+    let if1 = c .before .before .before .before .before .before .before .before .before .before .before .before .before .before .before .before .before .before .before .before .before .before .before .before .before .before .before .before .before .before .before .before .before .if1 .left in
+    let mark = c .before .before .before .before .before .before .before .before .before .before .before .before .before .before .before .before .before .before .before .before .before .before .before .before .before .before .before .before .before .before .before .before .mark .ensures in
+    let at = c .before .before .before .before .before .before .before .before .before .before .before .before .before .before .before .before .before .before .before .before .before .before .before .before .before .before .before .before .before .before .before .at .ensures in
+    let if2 = c .before .before .before .before .before .before .before .before .before .before .before .before .before .before .before .before .before .before .before .before .before .before .before .before .before .before .before .before .before .before .if2 .left in
+    let at-n = c .before .before .before .before .before .before .before .before .before .before .before .before .before .before .before .before .before .before .before .before .before .before .before .before .before .before .before .before .before .at-n .ensures in
+    let if3 = c .before .before .before .before .before .before .before .before .before .before .before .before .before .before .before .before .before .before .before .before .before .before .before .before .before .before .before .before .if3 .left in
+    let eat-name-star = c .before .before .before .before .before .before .before .before .before .before .before .before .before .before .before .before .before .before .before .before .before .before .before .before .before .eat-name-star .ensures in
+    let state2 = c .before .before .before .before .before .before .before .before .before .before .before .before .before .before .before .before .before .before .before .before .state2 .ensures in
+    let ty-annotation = c .before .before .before .before .before .before .before .before .before .before .before .before .before .before .before .before .before .ty-annotation .ensures in
+    let state3 = c .before .before .before .before .before .before .before .before .before .before .before .before .state3 .ensures in
+    let as-pat-tl = c .before .before .before .before .before .before .before .before .before .as-pat-tl .ensures in
+    let state4 = c .before .before .before .before .state4 .ensures in
+    let close3 = c .before .before .close3 .ensures in
+    by-steps pre0 (λ b. s-mark if1 mark (s-kind (s-false _ _ (kind-off _ _ _ _ at if2) (s-kind (s-false _ _ (kind-off _ _ _ _ at-n if3) (s-by _ (settled state2 (runs-always eat-name-star)) (s-by _ (settled state3 (runs-in ty-annotation)) (s-by _ (settled state4 (runs-in as-pat-tl)) (s-close close3 s-end)))))))))
+
+abbrev pat-rows-Inv-loop : pat-rows-lts.InvT-loop
+pat-rows-Inv-loop text toks env table scratch₀ finds₀ left e b s1₀ scratch finds s1 =
+    Loops left b (util.endTurn {g = true} SK.PatRow SK.Comma SK.RCurly (pat.patRow (errOf e))) (mem text toks env table scratch₀ finds₀ s1₀) (mem text toks env table scratch finds s1) × (length scratch ≡ length scratch₀) × (length finds ≡ length finds₀)
+
+abbrev pat-rows-μ-loop : pat-rows-lts.MeasureT-loop
+pat-rows-μ-loop text toks env table scratch₀ finds₀ left e b s1₀ scratch finds s1 = turns (mem text toks env table scratch finds s1)
+
+pat-rows-loop-holds :
+    (t : ℕ) →
+    pat-rows-lts.Need-loop-holds
+    (row-turn-below t, row-turn.Post)
+    (pat-rows-at t)
+    pat-rows.Post
+    pat-rows-Inv-loop
+    pat-rows-μ-loop
+pat-rows-loop-holds t c =
+    let falls = c .before .before .before .before .before .before .pre .0 in
+    let pre0 = c .before .before .before .before .before .before .pre .1 in
+    (loop-starts pre0, refl, refl)
+
+pat-rows-row-turn-requires : (t : ℕ) → pat-rows-lts.Need-row-turn-requires (
+  row-turn-below t,
+  row-turn.Post,
+) (pat-rows-at t) pat-rows.Post pat-rows-Inv-loop pat-rows-μ-loop
+pat-rows-row-turn-requires t c κs =
+    let falls = c .before .before .before .before .before .before .before .before .before .pre .0 in
+    let pre0 = c .before .before .before .before .before .before .before .before .before .pre .1 in
+    let inv = c .before .before .loop .inv .0 .ok in
+    search asks depth 8
+
+pat-rows-enum-known-turn : (t : ℕ) → pat-rows-lts.Need-enum-known-turn (
+  row-turn-below t,
+  row-turn.Post,
+) (pat-rows-at t) pat-rows.Post pat-rows-Inv-loop pat-rows-μ-loop
+pat-rows-enum-known-turn t c =
+    let falls = c .before .before .before .before .before .before .before .before .before .before .before .before .before .before .before .pre .0 in
+    let pre0 = c .before .before .before .before .before .before .before .before .before .before .before .before .before .before .before .pre .1 in
+    search needs
+
+pat-rows-loop-less :
+    (t : ℕ) →
+    pat-rows-lts.Need-loop-less
+    (row-turn-below t, row-turn.Post)
+    (pat-rows-at t)
+    pat-rows.Post
+    pat-rows-Inv-loop
+    pat-rows-μ-loop
+pat-rows-loop-less t c =
+    let row-turn = runs-in {b = 0} (rw (c .before .turn .given .1) at (c .before .before .before .before .before .before .before .row-turn .ensures)) in
+    loop-falls (end-turn-advances true _ _ _ _ _ _) row-turn
+
+pat-rows-loop-again :
+    (t : ℕ) →
+    pat-rows-lts.Need-loop-again
+    (row-turn-below t, row-turn.Post)
+    (pat-rows-at t)
+    pat-rows.Post
+    pat-rows-Inv-loop
+    pat-rows-μ-loop
+pat-rows-loop-again t c =
+    let row-turn = runs-in (rw (c .before .turn .given .1) at (c .before .before .before .before .before .before .before .row-turn .ensures)) in
+    (loop-goes (end-turn-advances true _ _ _ _ _ _) (c .before .before .before .before .before .before .before .before .before .before .loop .inv .0) row-turn, c .before .before .before .before .before .before .before .row-turn .kept .1 .1 .1 .1 .0 ∙ c .before .before .before .before .before .before .before .before .before .before .loop .inv .1, c .before .before .before .before .before .before .before .row-turn .kept .1 .1 .1 .1 .1 .0 ∙ c .before .before .before .before .before .before .before .before .before .before .loop .inv .2)
+
+pat-rows-enum-known-turn-2 : (t : ℕ) → pat-rows-lts.Need-enum-known-turn-2 (
+  row-turn-below t,
+  row-turn.Post,
+) (pat-rows-at t) pat-rows.Post pat-rows-Inv-loop pat-rows-μ-loop
+pat-rows-enum-known-turn-2 t c =
+    let falls = c .before .before .before .before .before .before .before .before .before .before .before .before .before .before .before .pre .0 in
+    let pre0 = c .before .before .before .before .before .before .before .before .before .before .before .before .before .before .before .pre .1 in
+    search needs
+
+pat-rows-same-length :
+    (t : ℕ) →
+    pat-rows-lts.Need-same-length
+    (row-turn-below t, row-turn.Post)
+    (pat-rows-at t)
+    pat-rows.Post
+    pat-rows-Inv-loop
+    pat-rows-μ-loop
+pat-rows-same-length t c =
+    c .before .before .before .before .before .before .before .row-turn .kept .1 .1 .1 .1 .0 ∙ c .before .before .before .before .before .before .before .before .before .before .loop .inv .1
+
+pat-rows-same-length-2 : (t : ℕ) → pat-rows-lts.Need-same-length-2 (
+  row-turn-below t,
+  row-turn.Post,
+) (pat-rows-at t) pat-rows.Post pat-rows-Inv-loop pat-rows-μ-loop
+pat-rows-same-length-2 t c =
+    c .before .before .before .before .before .before .before .row-turn .kept .1 .1 .1 .1 .1 .0 ∙ c .before .before .before .before .before .before .before .before .before .before .loop .inv .2
+
+pat-rows-returns :
+    (t : ℕ) →
+    pat-rows-lts.Need-returns
+    (row-turn-below t, row-turn.Post)
+    (pat-rows-at t)
+    pat-rows.Post
+    pat-rows-Inv-loop
+    pat-rows-μ-loop
+pat-rows-returns t c =
+    let row-turn = runs-in (rw (c .before .turn2 .given .1) at (c .before .before .before .before .before .before .before .row-turn .ensures)) in
+    loop-ends (end-turn-advances true _ _ _ _ _ _) (c .before .before .before .before .before .before .before .before .before .before .loop .inv .0) row-turn
+
+pat-step-peek-requires : (t : ℕ) → pat-step-lts.Need-peek-requires (
+  peek-reads.Asked,
+  peek-reads.Learnt,
+  name-star-reads.Asked,
+  name-star-reads.Learnt,
+  op-step-below t,
+  op-step.Post,
+  or-step-below t,
+  or-step.Post,
+  ascription-reads.Asked,
+  ascription-reads.Learnt,
+  typed-step-reads.Asked,
+  typed-step-reads.Learnt,
+  as-step-below t,
+  as-step.Post,
+) (pat-step-at t) pat-step.Post
+pat-step-peek-requires t c κs =
+    let falls = c .before .before .before .before .before .before .pre .0 in
+    let pre0 = c .before .before .before .before .before .before .pre .1 .0 in
+    let pre1 = c .before .before .before .before .before .before .pre .1 .1 in
+    search asks depth 8
+
+pat-step-enum-known-k : (t : ℕ) → pat-step-lts.Need-enum-known-k (
+  peek-reads.Asked,
+  peek-reads.Learnt,
+  name-star-reads.Asked,
+  name-star-reads.Learnt,
+  op-step-below t,
+  op-step.Post,
+  or-step-below t,
+  or-step.Post,
+  ascription-reads.Asked,
+  ascription-reads.Learnt,
+  typed-step-reads.Asked,
+  typed-step-reads.Learnt,
+  as-step-below t,
+  as-step.Post,
+) (pat-step-at t) pat-step.Post
+pat-step-enum-known-k t c =
+    let falls = c .before .before .before .before .before .before .before .before .pre .0 in
+    let pre0 = c .before .before .before .before .before .before .before .before .pre .1 .0 in
+    let pre1 = c .before .before .before .before .before .before .before .before .pre .1 .1 in
+    search needs
+
+pat-step-enum-told : (t : ℕ) → pat-step-lts.Need-enum-told (
+  peek-reads.Asked,
+  peek-reads.Learnt,
+  name-star-reads.Asked,
+  name-star-reads.Learnt,
+  op-step-below t,
+  op-step.Post,
+  or-step-below t,
+  or-step.Post,
+  ascription-reads.Asked,
+  ascription-reads.Learnt,
+  typed-step-reads.Asked,
+  typed-step-reads.Learnt,
+  as-step-below t,
+  as-step.Post,
+) (pat-step-at t) pat-step.Post
+pat-step-enum-told t c =
+    let falls = c .before .before .before .before .before .before .before .before .pre .0 in
+    let pre0 = c .before .before .before .before .before .before .before .before .pre .1 .0 in
+    let pre1 = c .before .before .before .before .before .before .before .before .pre .1 .1 in
+    search needs
+
+pat-step-returns : (t : ℕ) → pat-step-lts.Need-returns (
+  peek-reads.Asked,
+  peek-reads.Learnt,
+  name-star-reads.Asked,
+  name-star-reads.Learnt,
+  op-step-below t,
+  op-step.Post,
+  or-step-below t,
+  or-step.Post,
+  ascription-reads.Asked,
+  ascription-reads.Learnt,
+  typed-step-reads.Asked,
+  typed-step-reads.Learnt,
+  as-step-below t,
+  as-step.Post,
+) (pat-step-at t) pat-step.Post
+unfolding pat.patStep plan choose chosen
+pat-step-returns t c =
+    let falls = c .before .before .before .before .before .before .before .before .before .pre .0 in
+    let pre0 = c .before .before .before .before .before .before .before .before .before .pre .1 .0 in
+    let pre1 = c .before .before .before .before .before .before .before .before .before .pre .1 .1 in
+    let peek = rw (c .enum-told .given .1) at (c .before .before .peek .ensures) in
+    in-steps pre0 (s-look peek s-end)
+
+pat-step-name-star-requires : (t : ℕ) → pat-step-lts.Need-name-star-requires (
+  peek-reads.Asked,
+  peek-reads.Learnt,
+  name-star-reads.Asked,
+  name-star-reads.Learnt,
+  op-step-below t,
+  op-step.Post,
+  or-step-below t,
+  or-step.Post,
+  ascription-reads.Asked,
+  ascription-reads.Learnt,
+  typed-step-reads.Asked,
+  typed-step-reads.Learnt,
+  as-step-below t,
+  as-step.Post,
+) (pat-step-at t) pat-step.Post
+pat-step-name-star-requires t c κs =
+    let falls = c .before .before .before .before .before .before .before .before .before .before .pre .0 in
+    let pre0 = c .before .before .before .before .before .before .before .before .before .before .pre .1 .0 in
+    let pre1 = c .before .before .before .before .before .before .before .before .before .before .pre .1 .1 in
+    let peek = rw (c .before .k .given .1) at (c .before .before .before .peek .ensures) in
+    search asks depth 8
+
+pat-step-op-step-requires : (t : ℕ) → pat-step-lts.Need-op-step-requires (
+  peek-reads.Asked,
+  peek-reads.Learnt,
+  name-star-reads.Asked,
+  name-star-reads.Learnt,
+  op-step-below t,
+  op-step.Post,
+  or-step-below t,
+  or-step.Post,
+  ascription-reads.Asked,
+  ascription-reads.Learnt,
+  typed-step-reads.Asked,
+  typed-step-reads.Learnt,
+  as-step-below t,
+  as-step.Post,
+) (pat-step-at t) pat-step.Post
+pat-step-op-step-requires t c κs =
+    let falls = c .before .before .before .before .before .before .before .before .before .before .before .before .before .before .pre .0 in
+    let pre0 = c .before .before .before .before .before .before .before .before .before .before .before .before .before .before .pre .1 .0 in
+    let pre1 = c .before .before .before .before .before .before .before .before .before .before .before .before .before .before .pre .1 .1 in
+    let peek = rw (c .before .before .before .before .before .k .given .1) at (c .before .before .before .before .before .before .before .peek .ensures) in
+    let name-star = c .before .before .before .name-star .ensures in
+    let if1 = c .before .before .if1 .taken in
+    search asks depth 8
+
+pat-step-same-length : (t : ℕ) → pat-step-lts.Need-same-length (
+  peek-reads.Asked,
+  peek-reads.Learnt,
+  name-star-reads.Asked,
+  name-star-reads.Learnt,
+  op-step-below t,
+  op-step.Post,
+  or-step-below t,
+  or-step.Post,
+  ascription-reads.Asked,
+  ascription-reads.Learnt,
+  typed-step-reads.Asked,
+  typed-step-reads.Learnt,
+  as-step-below t,
+  as-step.Post,
+) (pat-step-at t) pat-step.Post
+pat-step-same-length t c =
+    c .before .before .before .before .op-step .kept .1 .1 .1 .1 .0
+
+pat-step-same-length-2 : (t : ℕ) → pat-step-lts.Need-same-length-2 (
+  peek-reads.Asked,
+  peek-reads.Learnt,
+  name-star-reads.Asked,
+  name-star-reads.Learnt,
+  op-step-below t,
+  op-step.Post,
+  or-step-below t,
+  or-step.Post,
+  ascription-reads.Asked,
+  ascription-reads.Learnt,
+  typed-step-reads.Asked,
+  typed-step-reads.Learnt,
+  as-step-below t,
+  as-step.Post,
+) (pat-step-at t) pat-step.Post
+pat-step-same-length-2 t c =
+    c .before .before .before .before .op-step .kept .1 .1 .1 .1 .1 .0
+
+pat-step-returns-2 : (t : ℕ) → pat-step-lts.Need-returns-2 (
+  peek-reads.Asked,
+  peek-reads.Learnt,
+  name-star-reads.Asked,
+  name-star-reads.Learnt,
+  op-step-below t,
+  op-step.Post,
+  or-step-below t,
+  or-step.Post,
+  ascription-reads.Asked,
+  ascription-reads.Learnt,
+  typed-step-reads.Asked,
+  typed-step-reads.Learnt,
+  as-step-below t,
+  as-step.Post,
+) (pat-step-at t) pat-step.Post
+unfolding pat.patStep plan choose chosen
+pat-step-returns-2 t c =
+    let falls = c .before .before .before .before .before .before .before .before .before .before .before .before .before .before .before .before .before .before .before .pre .0 in
+    let pre0 = c .before .before .before .before .before .before .before .before .before .before .before .before .before .before .before .before .before .before .before .pre .1 .0 in
+    let pre1 = c .before .before .before .before .before .before .before .before .before .before .before .before .before .before .before .before .before .before .before .pre .1 .1 in
+    let peek = rw (c .before .before .before .before .before .before .before .before .before .before .k .given .1) at (c .before .before .before .before .before .before .before .before .before .before .before .before .peek .ensures) in
+    let name-star = c .before .before .before .before .before .before .before .before .name-star .ensures in
+    let if1 = c .before .before .before .before .before .before .before .if1 .taken in
+    let op-step = c .before .before .before .before .op-step .ensures in
+    in-steps pre0 (s-look peek (s-true _ _ (test-true name-star if1) (s-by _ op-step s-end)))
+
+pat-step-or-step-requires : (t : ℕ) → pat-step-lts.Need-or-step-requires (
+  peek-reads.Asked,
+  peek-reads.Learnt,
+  name-star-reads.Asked,
+  name-star-reads.Learnt,
+  op-step-below t,
+  op-step.Post,
+  or-step-below t,
+  or-step.Post,
+  ascription-reads.Asked,
+  ascription-reads.Learnt,
+  typed-step-reads.Asked,
+  typed-step-reads.Learnt,
+  as-step-below t,
+  as-step.Post,
+) (pat-step-at t) pat-step.Post
+pat-step-or-step-requires t c κs =
+    let falls = c .before .before .before .before .before .before .before .before .before .before .before .before .before .before .before .pre .0 in
+    let pre0 = c .before .before .before .before .before .before .before .before .before .before .before .before .before .before .before .pre .1 .0 in
+    let pre1 = c .before .before .before .before .before .before .before .before .before .before .before .before .before .before .before .pre .1 .1 in
+    let peek = rw (c .before .before .before .before .before .before .k .given .1) at (c .before .before .before .before .before .before .before .before .peek .ensures) in
+    let name-star = c .before .before .before .before .name-star .ensures in
+    let if1 = c .before .before .before .if1 .left in
+    let if2 = c .before .before .if2 .taken in
+    search asks depth 8
+
+pat-step-same-length-3 : (t : ℕ) → pat-step-lts.Need-same-length-3 (
+  peek-reads.Asked,
+  peek-reads.Learnt,
+  name-star-reads.Asked,
+  name-star-reads.Learnt,
+  op-step-below t,
+  op-step.Post,
+  or-step-below t,
+  or-step.Post,
+  ascription-reads.Asked,
+  ascription-reads.Learnt,
+  typed-step-reads.Asked,
+  typed-step-reads.Learnt,
+  as-step-below t,
+  as-step.Post,
+) (pat-step-at t) pat-step.Post
+pat-step-same-length-3 t c =
+    c .before .before .before .before .or-step .kept .1 .1 .1 .1 .0
+
+pat-step-same-length-4 : (t : ℕ) → pat-step-lts.Need-same-length-4 (
+  peek-reads.Asked,
+  peek-reads.Learnt,
+  name-star-reads.Asked,
+  name-star-reads.Learnt,
+  op-step-below t,
+  op-step.Post,
+  or-step-below t,
+  or-step.Post,
+  ascription-reads.Asked,
+  ascription-reads.Learnt,
+  typed-step-reads.Asked,
+  typed-step-reads.Learnt,
+  as-step-below t,
+  as-step.Post,
+) (pat-step-at t) pat-step.Post
+pat-step-same-length-4 t c =
+    c .before .before .before .before .or-step .kept .1 .1 .1 .1 .1 .0
+
+pat-step-returns-3 : (t : ℕ) → pat-step-lts.Need-returns-3 (
+  peek-reads.Asked,
+  peek-reads.Learnt,
+  name-star-reads.Asked,
+  name-star-reads.Learnt,
+  op-step-below t,
+  op-step.Post,
+  or-step-below t,
+  or-step.Post,
+  ascription-reads.Asked,
+  ascription-reads.Learnt,
+  typed-step-reads.Asked,
+  typed-step-reads.Learnt,
+  as-step-below t,
+  as-step.Post,
+) (pat-step-at t) pat-step.Post
+unfolding pat.patStep plan choose chosen
+pat-step-returns-3 t c =
+    let falls = c .before .before .before .before .before .before .before .before .before .before .before .before .before .before .before .before .before .before .before .before .pre .0 in
+    let pre0 = c .before .before .before .before .before .before .before .before .before .before .before .before .before .before .before .before .before .before .before .before .pre .1 .0 in
+    let pre1 = c .before .before .before .before .before .before .before .before .before .before .before .before .before .before .before .before .before .before .before .before .pre .1 .1 in
+    let peek = rw (c .before .before .before .before .before .before .before .before .before .before .before .k .given .1) at (c .before .before .before .before .before .before .before .before .before .before .before .before .before .peek .ensures) in
+    let name-star = c .before .before .before .before .before .before .before .before .before .name-star .ensures in
+    let if1 = c .before .before .before .before .before .before .before .before .if1 .left in
+    let if2 = c .before .before .before .before .before .before .before .if2 .taken in
+    let or-step = c .before .before .before .before .or-step .ensures in
+    in-steps pre0 (s-look peek (s-false _ _ (test-false name-star if1) (s-true _ _ (kind-is if2) (s-by _ or-step s-end))))
+
+pat-step-ascription-requires : (t : ℕ) → pat-step-lts.Need-ascription-requires (
+  peek-reads.Asked,
+  peek-reads.Learnt,
+  name-star-reads.Asked,
+  name-star-reads.Learnt,
+  op-step-below t,
+  op-step.Post,
+  or-step-below t,
+  or-step.Post,
+  ascription-reads.Asked,
+  ascription-reads.Learnt,
+  typed-step-reads.Asked,
+  typed-step-reads.Learnt,
+  as-step-below t,
+  as-step.Post,
+) (pat-step-at t) pat-step.Post
+pat-step-ascription-requires t c κs =
+    let falls = c .before .before .before .before .before .before .before .before .before .before .before .before .before .pre .0 in
+    let pre0 = c .before .before .before .before .before .before .before .before .before .before .before .before .before .pre .1 .0 in
+    let pre1 = c .before .before .before .before .before .before .before .before .before .before .before .before .before .pre .1 .1 in
+    let peek = rw (c .before .before .before .before .k .given .1) at (c .before .before .before .before .before .before .peek .ensures) in
+    let name-star = c .before .before .name-star .ensures in
+    let if1 = c .before .if1 .left in
+    let if2 = c .if2 .left in
+    search asks depth 8
+
+pat-step-typed-step-requires : (t : ℕ) → pat-step-lts.Need-typed-step-requires (
+  peek-reads.Asked,
+  peek-reads.Learnt,
+  name-star-reads.Asked,
+  name-star-reads.Learnt,
+  op-step-below t,
+  op-step.Post,
+  or-step-below t,
+  or-step.Post,
+  ascription-reads.Asked,
+  ascription-reads.Learnt,
+  typed-step-reads.Asked,
+  typed-step-reads.Learnt,
+  as-step-below t,
+  as-step.Post,
+) (pat-step-at t) pat-step.Post
+pat-step-typed-step-requires t c κs =
+    let falls = c .before .before .before .before .before .before .before .before .before .before .before .before .before .before .before .before .before .pre .0 in
+    let pre0 = c .before .before .before .before .before .before .before .before .before .before .before .before .before .before .before .before .before .pre .1 .0 in
+    let pre1 = c .before .before .before .before .before .before .before .before .before .before .before .before .before .before .before .before .before .pre .1 .1 in
+    let peek = rw (c .before .before .before .before .before .before .before .before .k .given .1) at (c .before .before .before .before .before .before .before .before .before .before .peek .ensures) in
+    let name-star = c .before .before .before .before .before .before .name-star .ensures in
+    let if1 = c .before .before .before .before .before .if1 .left in
+    let if2 = c .before .before .before .before .if2 .left in
+    let ascription = c .before .before .before .ascription .ensures in
+    let if3 = c .before .before .if3 .taken in
+    search asks depth 8
+
+pat-step-same-length-5 : (t : ℕ) → pat-step-lts.Need-same-length-5 (
+  peek-reads.Asked,
+  peek-reads.Learnt,
+  name-star-reads.Asked,
+  name-star-reads.Learnt,
+  op-step-below t,
+  op-step.Post,
+  or-step-below t,
+  or-step.Post,
+  ascription-reads.Asked,
+  ascription-reads.Learnt,
+  typed-step-reads.Asked,
+  typed-step-reads.Learnt,
+  as-step-below t,
+  as-step.Post,
+) (pat-step-at t) pat-step.Post
+pat-step-same-length-5 t c =
+    c .before .before .before .before .typed-step .kept .1 .1 .1 .1 .0
+
+pat-step-same-length-6 : (t : ℕ) → pat-step-lts.Need-same-length-6 (
+  peek-reads.Asked,
+  peek-reads.Learnt,
+  name-star-reads.Asked,
+  name-star-reads.Learnt,
+  op-step-below t,
+  op-step.Post,
+  or-step-below t,
+  or-step.Post,
+  ascription-reads.Asked,
+  ascription-reads.Learnt,
+  typed-step-reads.Asked,
+  typed-step-reads.Learnt,
+  as-step-below t,
+  as-step.Post,
+) (pat-step-at t) pat-step.Post
+pat-step-same-length-6 t c =
+    c .before .before .before .before .typed-step .kept .1 .1 .1 .1 .1 .0
+
+pat-step-returns-4 : (t : ℕ) → pat-step-lts.Need-returns-4 (
+  peek-reads.Asked,
+  peek-reads.Learnt,
+  name-star-reads.Asked,
+  name-star-reads.Learnt,
+  op-step-below t,
+  op-step.Post,
+  or-step-below t,
+  or-step.Post,
+  ascription-reads.Asked,
+  ascription-reads.Learnt,
+  typed-step-reads.Asked,
+  typed-step-reads.Learnt,
+  as-step-below t,
+  as-step.Post,
+) (pat-step-at t) pat-step.Post
+unfolding pat.patStep plan choose chosen
+pat-step-returns-4 t c =
+    let falls = c .before .before .before .before .before .before .before .before .before .before .before .before .before .before .before .before .before .before .before .before .before .before .pre .0 in
+    let pre0 = c .before .before .before .before .before .before .before .before .before .before .before .before .before .before .before .before .before .before .before .before .before .before .pre .1 .0 in
+    let pre1 = c .before .before .before .before .before .before .before .before .before .before .before .before .before .before .before .before .before .before .before .before .before .before .pre .1 .1 in
+    let peek = rw (c .before .before .before .before .before .before .before .before .before .before .before .before .before .k .given .1) at (c .before .before .before .before .before .before .before .before .before .before .before .before .before .before .before .peek .ensures) in
+    let name-star = c .before .before .before .before .before .before .before .before .before .before .before .name-star .ensures in
+    let if1 = c .before .before .before .before .before .before .before .before .before .before .if1 .left in
+    let if2 = c .before .before .before .before .before .before .before .before .before .if2 .left in
+    let ascription = c .before .before .before .before .before .before .before .before .ascription .ensures in
+    let if3 = c .before .before .before .before .before .before .before .if3 .taken in
+    let typed-step = c .before .before .before .before .typed-step .ensures in
+    in-steps pre0 (s-look peek (s-false _ _ (test-false name-star if1) (s-false _ _ (kind-not if2) (s-true _ _ (test-true ascription if3) (s-by _ typed-step s-end)))))
+
+pat-step-as-step-requires : (t : ℕ) → pat-step-lts.Need-as-step-requires (
+  peek-reads.Asked,
+  peek-reads.Learnt,
+  name-star-reads.Asked,
+  name-star-reads.Learnt,
+  op-step-below t,
+  op-step.Post,
+  or-step-below t,
+  or-step.Post,
+  ascription-reads.Asked,
+  ascription-reads.Learnt,
+  typed-step-reads.Asked,
+  typed-step-reads.Learnt,
+  as-step-below t,
+  as-step.Post,
+) (pat-step-at t) pat-step.Post
+pat-step-as-step-requires t c κs =
+    let falls = c .before .before .before .before .before .before .before .before .before .before .before .before .before .before .before .before .before .before .pre .0 in
+    let pre0 = c .before .before .before .before .before .before .before .before .before .before .before .before .before .before .before .before .before .before .pre .1 .0 in
+    let pre1 = c .before .before .before .before .before .before .before .before .before .before .before .before .before .before .before .before .before .before .pre .1 .1 in
+    let peek = rw (c .before .before .before .before .before .before .before .before .before .k .given .1) at (c .before .before .before .before .before .before .before .before .before .before .before .peek .ensures) in
+    let name-star = c .before .before .before .before .before .before .before .name-star .ensures in
+    let if1 = c .before .before .before .before .before .before .if1 .left in
+    let if2 = c .before .before .before .before .before .if2 .left in
+    let ascription = c .before .before .before .before .ascription .ensures in
+    let if3 = c .before .before .before .if3 .left in
+    let if4 = c .before .before .if4 .taken in
+    search asks depth 8
+
+pat-step-same-length-7 : (t : ℕ) → pat-step-lts.Need-same-length-7 (
+  peek-reads.Asked,
+  peek-reads.Learnt,
+  name-star-reads.Asked,
+  name-star-reads.Learnt,
+  op-step-below t,
+  op-step.Post,
+  or-step-below t,
+  or-step.Post,
+  ascription-reads.Asked,
+  ascription-reads.Learnt,
+  typed-step-reads.Asked,
+  typed-step-reads.Learnt,
+  as-step-below t,
+  as-step.Post,
+) (pat-step-at t) pat-step.Post
+pat-step-same-length-7 t c =
+    c .before .before .before .before .as-step .kept .1 .1 .1 .1 .0
+
+pat-step-same-length-8 : (t : ℕ) → pat-step-lts.Need-same-length-8 (
+  peek-reads.Asked,
+  peek-reads.Learnt,
+  name-star-reads.Asked,
+  name-star-reads.Learnt,
+  op-step-below t,
+  op-step.Post,
+  or-step-below t,
+  or-step.Post,
+  ascription-reads.Asked,
+  ascription-reads.Learnt,
+  typed-step-reads.Asked,
+  typed-step-reads.Learnt,
+  as-step-below t,
+  as-step.Post,
+) (pat-step-at t) pat-step.Post
+pat-step-same-length-8 t c =
+    c .before .before .before .before .as-step .kept .1 .1 .1 .1 .1 .0
+
+pat-step-returns-5 : (t : ℕ) → pat-step-lts.Need-returns-5 (
+  peek-reads.Asked,
+  peek-reads.Learnt,
+  name-star-reads.Asked,
+  name-star-reads.Learnt,
+  op-step-below t,
+  op-step.Post,
+  or-step-below t,
+  or-step.Post,
+  ascription-reads.Asked,
+  ascription-reads.Learnt,
+  typed-step-reads.Asked,
+  typed-step-reads.Learnt,
+  as-step-below t,
+  as-step.Post,
+) (pat-step-at t) pat-step.Post
+unfolding pat.patStep plan choose chosen
+pat-step-returns-5 t c =
+    let falls = c .before .before .before .before .before .before .before .before .before .before .before .before .before .before .before .before .before .before .before .before .before .before .before .pre .0 in
+    let pre0 = c .before .before .before .before .before .before .before .before .before .before .before .before .before .before .before .before .before .before .before .before .before .before .before .pre .1 .0 in
+    let pre1 = c .before .before .before .before .before .before .before .before .before .before .before .before .before .before .before .before .before .before .before .before .before .before .before .pre .1 .1 in
+    let peek = rw (c .before .before .before .before .before .before .before .before .before .before .before .before .before .before .k .given .1) at (c .before .before .before .before .before .before .before .before .before .before .before .before .before .before .before .before .peek .ensures) in
+    let name-star = c .before .before .before .before .before .before .before .before .before .before .before .before .name-star .ensures in
+    let if1 = c .before .before .before .before .before .before .before .before .before .before .before .if1 .left in
+    let if2 = c .before .before .before .before .before .before .before .before .before .before .if2 .left in
+    let ascription = c .before .before .before .before .before .before .before .before .before .ascription .ensures in
+    let if3 = c .before .before .before .before .before .before .before .before .if3 .left in
+    let if4 = c .before .before .before .before .before .before .before .if4 .taken in
+    let as-step = c .before .before .before .before .as-step .ensures in
+    in-steps pre0 (s-look peek (s-false _ _ (test-false name-star if1) (s-false _ _ (kind-not if2) (s-false _ _ (test-false ascription if3) (s-true _ _ (kind-is if4) (s-by _ as-step s-end))))))
+
+pat-step-returns-6 : (t : ℕ) → pat-step-lts.Need-returns-6 (
+  peek-reads.Asked,
+  peek-reads.Learnt,
+  name-star-reads.Asked,
+  name-star-reads.Learnt,
+  op-step-below t,
+  op-step.Post,
+  or-step-below t,
+  or-step.Post,
+  ascription-reads.Asked,
+  ascription-reads.Learnt,
+  typed-step-reads.Asked,
+  typed-step-reads.Learnt,
+  as-step-below t,
+  as-step.Post,
+) (pat-step-at t) pat-step.Post
+unfolding pat.patStep plan choose chosen
+pat-step-returns-6 t c =
+    let falls = c .before .before .before .before .before .before .before .before .before .before .before .before .before .before .before .before .pre .0 in
+    let pre0 = c .before .before .before .before .before .before .before .before .before .before .before .before .before .before .before .before .pre .1 .0 in
+    let pre1 = c .before .before .before .before .before .before .before .before .before .before .before .before .before .before .before .before .pre .1 .1 in
+    let peek = rw (c .before .before .before .before .before .before .before .k .given .1) at (c .before .before .before .before .before .before .before .before .before .peek .ensures) in
+    let name-star = c .before .before .before .before .before .name-star .ensures in
+    let if1 = c .before .before .before .before .if1 .left in
+    let if2 = c .before .before .before .if2 .left in
+    let ascription = c .before .before .ascription .ensures in
+    let if3 = c .before .if3 .left in
+    let if4 = c .if4 .left in
+    in-steps pre0 (s-look peek (s-false _ _ (test-false name-star if1) (s-false _ _ (kind-not if2) (s-false _ _ (test-false ascription if3) (s-false _ _ (kind-not if4) s-end)))))
+
+abbrev pat-tail-Inv-loop : pat-tail-lts.InvT-loop
+pat-tail-Inv-loop text toks env table scratch₀ finds₀ left min e b s1₀ scratch finds s1 =
+    Loops left b (pat.patStep (precOf min) (errOf e)) (mem text toks env table scratch₀ finds₀ s1₀) (mem text toks env table scratch finds s1) × (length scratch ≡ length scratch₀) × (length finds ≡ length finds₀)
+
+abbrev pat-tail-μ-loop : pat-tail-lts.MeasureT-loop
+pat-tail-μ-loop text toks env table scratch₀ finds₀ left min e b s1₀ scratch finds s1 = turns (mem text toks env table scratch finds s1)
+
+pat-tail-loop-holds :
+    (t : ℕ) →
+    pat-tail-lts.Need-loop-holds
+    (pat-step-below t, pat-step.Post)
+    (pat-tail-at t)
+    pat-tail.Post
+    pat-tail-Inv-loop
+    pat-tail-μ-loop
+pat-tail-loop-holds t c =
+    let falls = c .before .before .before .before .before .before .pre .0 in
+    let pre0 = c .before .before .before .before .before .before .pre .1 .0 in
+    let pre1 = c .before .before .before .before .before .before .pre .1 .1 in
+    (loop-starts pre0, refl, refl)
+
+pat-tail-pat-step-requires : (t : ℕ) → pat-tail-lts.Need-pat-step-requires (
+  pat-step-below t,
+  pat-step.Post,
+) (pat-tail-at t) pat-tail.Post pat-tail-Inv-loop pat-tail-μ-loop
+pat-tail-pat-step-requires t c κs =
+    let falls = c .before .before .before .before .before .before .before .before .before .pre .0 in
+    let pre0 = c .before .before .before .before .before .before .before .before .before .pre .1 .0 in
+    let pre1 = c .before .before .before .before .before .before .before .before .before .pre .1 .1 in
+    let inv = c .before .before .loop .inv .0 .ok in
+    search asks depth 8
+
+pat-tail-enum-known-step : (t : ℕ) → pat-tail-lts.Need-enum-known-step (
+  pat-step-below t,
+  pat-step.Post,
+) (pat-tail-at t) pat-tail.Post pat-tail-Inv-loop pat-tail-μ-loop
+pat-tail-enum-known-step t c =
+    let falls = c .before .before .before .before .before .before .before .before .before .before .before .before .before .before .before .pre .0 in
+    let pre0 = c .before .before .before .before .before .before .before .before .before .before .before .before .before .before .before .pre .1 .0 in
+    let pre1 = c .before .before .before .before .before .before .before .before .before .before .before .before .before .before .before .pre .1 .1 in
+    search needs
+
+pat-tail-loop-less :
+    (t : ℕ) →
+    pat-tail-lts.Need-loop-less
+    (pat-step-below t, pat-step.Post)
+    (pat-tail-at t)
+    pat-tail.Post
+    pat-tail-Inv-loop
+    pat-tail-μ-loop
+pat-tail-loop-less t c =
+    let pat-step = rw (c .before .step .given .1) at (c .before .before .before .before .before .before .before .pat-step .ensures) in
+    loop-falls (pat-step-advances _ _ _ _) pat-step
+
+pat-tail-loop-again :
+    (t : ℕ) →
+    pat-tail-lts.Need-loop-again
+    (pat-step-below t, pat-step.Post)
+    (pat-tail-at t)
+    pat-tail.Post
+    pat-tail-Inv-loop
+    pat-tail-μ-loop
+pat-tail-loop-again t c =
+    let pat-step = rw (c .before .step .given .1) at (c .before .before .before .before .before .before .before .pat-step .ensures) in
+    (loop-goes (pat-step-advances _ _ _ _) (c .before .before .before .before .before .before .before .before .before .before .loop .inv .0) pat-step, c .before .before .before .before .before .before .before .pat-step .kept .1 .1 .1 .1 .0 ∙ c .before .before .before .before .before .before .before .before .before .before .loop .inv .1, c .before .before .before .before .before .before .before .pat-step .kept .1 .1 .1 .1 .1 .0 ∙ c .before .before .before .before .before .before .before .before .before .before .loop .inv .2)
+
+pat-tail-enum-known-step-2 : (t : ℕ) → pat-tail-lts.Need-enum-known-step-2 (
+  pat-step-below t,
+  pat-step.Post,
+) (pat-tail-at t) pat-tail.Post pat-tail-Inv-loop pat-tail-μ-loop
+pat-tail-enum-known-step-2 t c =
+    let falls = c .before .before .before .before .before .before .before .before .before .before .before .before .before .before .before .pre .0 in
+    let pre0 = c .before .before .before .before .before .before .before .before .before .before .before .before .before .before .before .pre .1 .0 in
+    let pre1 = c .before .before .before .before .before .before .before .before .before .before .before .before .before .before .before .pre .1 .1 in
+    search needs
+
+pat-tail-same-length :
+    (t : ℕ) →
+    pat-tail-lts.Need-same-length
+    (pat-step-below t, pat-step.Post)
+    (pat-tail-at t)
+    pat-tail.Post
+    pat-tail-Inv-loop
+    pat-tail-μ-loop
+pat-tail-same-length t c =
+    c .before .before .before .before .before .before .before .pat-step .kept .1 .1 .1 .1 .0 ∙ c .before .before .before .before .before .before .before .before .before .before .loop .inv .1
+
+pat-tail-same-length-2 : (t : ℕ) → pat-tail-lts.Need-same-length-2 (
+  pat-step-below t,
+  pat-step.Post,
+) (pat-tail-at t) pat-tail.Post pat-tail-Inv-loop pat-tail-μ-loop
+pat-tail-same-length-2 t c =
+    c .before .before .before .before .before .before .before .pat-step .kept .1 .1 .1 .1 .1 .0 ∙ c .before .before .before .before .before .before .before .before .before .before .loop .inv .2
+
+pat-tail-returns :
+    (t : ℕ) →
+    pat-tail-lts.Need-returns
+    (pat-step-below t, pat-step.Post)
+    (pat-tail-at t)
+    pat-tail.Post
+    pat-tail-Inv-loop
+    pat-tail-μ-loop
+pat-tail-returns t c =
+    let pat-step = rw (c .before .step2 .given .1) at (c .before .before .before .before .before .before .before .pat-step .ensures) in
+    loop-ends (pat-step-advances _ _ _ _) (c .before .before .before .before .before .before .before .before .before .before .loop .inv .0) pat-step
+
+row-item-refuse-requires : (t : ℕ) → row-item-lts.Need-refuse-requires (
+  refuse-reads.Asked,
+  refuse-reads.Learnt,
+  mark-reads.Asked,
+  mark-reads.Learnt,
+  pat-row-below t,
+  pat-row.Post,
+  at-reads.Asked,
+  at-reads.Learnt,
+  bump-reads.Asked,
+  bump-reads.Learnt,
+  close-reads.Asked,
+  close-reads.Learnt,
+) (row-item-at t) row-item.Post
+row-item-refuse-requires t c κs =
+    let falls = c .before .before .before .before .before .before .before .pre .0 in
+    let pre0 = c .before .before .before .before .before .before .before .pre .1 in
+    let if1 = c .if1 .taken in
+    search asks depth 8
+
+row-item-returns : (t : ℕ) → row-item-lts.Need-returns (
+  refuse-reads.Asked,
+  refuse-reads.Learnt,
+  mark-reads.Asked,
+  mark-reads.Learnt,
+  pat-row-below t,
+  pat-row.Post,
+  at-reads.Asked,
+  at-reads.Learnt,
+  bump-reads.Asked,
+  bump-reads.Learnt,
+  close-reads.Asked,
+  close-reads.Learnt,
+) (row-item-at t) row-item.Post
+unfolding util.endItem plan choose chosen
+row-item-returns t c =
+    let falls = c .before .before .before .before .before .before .before .before .pre .0 in
+    let pre0 = c .before .before .before .before .before .before .before .before .pre .1 in
+    let if1 = c .before .if1 .taken in
+    let refuse = c .refuse .ensures in
+    by-steps pre0 (λ b. s-deep if1 refuse s-end)
+
+row-item-mark-requires : (t : ℕ) → row-item-lts.Need-mark-requires (
+  refuse-reads.Asked,
+  refuse-reads.Learnt,
+  mark-reads.Asked,
+  mark-reads.Learnt,
+  pat-row-below t,
+  pat-row.Post,
+  at-reads.Asked,
+  at-reads.Learnt,
+  bump-reads.Asked,
+  bump-reads.Learnt,
+  close-reads.Asked,
+  close-reads.Learnt,
+) (row-item-at t) row-item.Post
+row-item-mark-requires t c κs =
+    let falls = c .before .before .before .before .before .before .before .pre .0 in
+    let pre0 = c .before .before .before .before .before .before .before .pre .1 in
+    let if1 = c .if1 .left in
+    search asks depth 8
+
+row-item-sub-pat-row : (t : ℕ) → row-item-lts.Need-sub-pat-row (
+  refuse-reads.Asked,
+  refuse-reads.Learnt,
+  mark-reads.Asked,
+  mark-reads.Learnt,
+  pat-row-below t,
+  pat-row.Post,
+  at-reads.Asked,
+  at-reads.Learnt,
+  bump-reads.Asked,
+  bump-reads.Learnt,
+  close-reads.Asked,
+  close-reads.Learnt,
+) (row-item-at t) row-item.Post
+row-item-sub-pat-row t c =
+    let falls = c .before .before .before .before .before .before .before .before .before .before .pre .0 in
+    let pre0 = c .before .before .before .before .before .before .before .before .before .before .pre .1 in
+    let if1 = c .before .before .before .if1 .left in
+    search needs
+
+row-item-pat-row-requires : (t : ℕ) → row-item-lts.Need-pat-row-requires (
+  refuse-reads.Asked,
+  refuse-reads.Learnt,
+  mark-reads.Asked,
+  mark-reads.Learnt,
+  pat-row-below t,
+  pat-row.Post,
+  at-reads.Asked,
+  at-reads.Learnt,
+  bump-reads.Asked,
+  bump-reads.Learnt,
+  close-reads.Asked,
+  close-reads.Learnt,
+) (row-item-at t) row-item.Post
+row-item-pat-row-requires t c κs =
+    let falls = c .before .before .before .before .before .before .before .before .before .before .pre .0 in
+    let pre0 = c .before .before .before .before .before .before .before .before .before .before .pre .1 in
+    let if1 = c .before .before .before .if1 .left in
+    let mark = c .before .before .mark .ensures in
+    let mark-ok = ok-marks mark pre0 in
+    search asks depth 8
+
+row-item-at-requires : (t : ℕ) → row-item-lts.Need-at-requires (
+  refuse-reads.Asked,
+  refuse-reads.Learnt,
+  mark-reads.Asked,
+  mark-reads.Learnt,
+  pat-row-below t,
+  pat-row.Post,
+  at-reads.Asked,
+  at-reads.Learnt,
+  bump-reads.Asked,
+  bump-reads.Learnt,
+  close-reads.Asked,
+  close-reads.Learnt,
+) (row-item-at t) row-item.Post
+row-item-at-requires t c κs =
+    let falls = c .before .before .before .before .before .before .before .before .before .before .before .before .before .before .before .pre .0 in
+    let pre0 = c .before .before .before .before .before .before .before .before .before .before .before .before .before .before .before .pre .1 in
+    let if1 = c .before .before .before .before .before .before .before .before .if1 .left in
+    let mark = c .before .before .before .before .before .before .before .mark .ensures in
+    let mark-ok = ok-marks mark pre0 in
+    let pat-row = c .before .before .before .before .pat-row .ensures in
+    let pat-row-ok = pat-row .ok in
+    search asks depth 8
+
+row-item-bump-requires : (t : ℕ) → row-item-lts.Need-bump-requires (
+  refuse-reads.Asked,
+  refuse-reads.Learnt,
+  mark-reads.Asked,
+  mark-reads.Learnt,
+  pat-row-below t,
+  pat-row.Post,
+  at-reads.Asked,
+  at-reads.Learnt,
+  bump-reads.Asked,
+  bump-reads.Learnt,
+  close-reads.Asked,
+  close-reads.Learnt,
+) (row-item-at t) row-item.Post
+row-item-bump-requires t c κs =
+    let falls = c .before .before .before .before .before .before .before .before .before .before .before .before .before .before .before .before .before .before .pre .0 in
+    let pre0 = c .before .before .before .before .before .before .before .before .before .before .before .before .before .before .before .before .before .before .pre .1 in
+    let if1 = c .before .before .before .before .before .before .before .before .before .before .before .if1 .left in
+    let mark = c .before .before .before .before .before .before .before .before .before .before .mark .ensures in
+    let mark-ok = ok-marks mark pre0 in
+    let pat-row = c .before .before .before .before .before .before .before .pat-row .ensures in
+    let pat-row-ok = pat-row .ok in
+    let at = c .before .before .at .ensures in
+    let if2 = c .before .if2 .taken in
+    search asks depth 8
+
+row-item-close-requires : (t : ℕ) → row-item-lts.Need-close-requires (
+  refuse-reads.Asked,
+  refuse-reads.Learnt,
+  mark-reads.Asked,
+  mark-reads.Learnt,
+  pat-row-below t,
+  pat-row.Post,
+  at-reads.Asked,
+  at-reads.Learnt,
+  bump-reads.Asked,
+  bump-reads.Learnt,
+  close-reads.Asked,
+  close-reads.Learnt,
+) (row-item-at t) row-item.Post
+row-item-close-requires t c κs =
+    let falls = c .before .before .before .before .before .before .before .before .before .before .before .before .before .before .before .before .before .before .before .before .before .before .pre .0 in
+    let pre0 = c .before .before .before .before .before .before .before .before .before .before .before .before .before .before .before .before .before .before .before .before .before .before .pre .1 in
+    let if1 = c .before .before .before .before .before .before .before .before .before .before .before .before .before .before .before .if1 .left in
+    let mark = c .before .before .before .before .before .before .before .before .before .before .before .before .before .before .mark .ensures in
+    let mark-ok = ok-marks mark pre0 in
+    let pat-row = c .before .before .before .before .before .before .before .before .before .before .before .pat-row .ensures in
+    let pat-row-ok = pat-row .ok in
+    let at = c .before .before .before .before .before .before .at .ensures in
+    let if2 = c .before .before .before .before .before .if2 .taken in
+    let bump = c .before .before .before .bump .ensures in
+    let bump-ok = ok-bumps bump pat-row-ok in
+    search asks depth 8
+
+row-item-same-length : (t : ℕ) → row-item-lts.Need-same-length (
+  refuse-reads.Asked,
+  refuse-reads.Learnt,
+  mark-reads.Asked,
+  mark-reads.Learnt,
+  pat-row-below t,
+  pat-row.Post,
+  at-reads.Asked,
+  at-reads.Learnt,
+  bump-reads.Asked,
+  bump-reads.Learnt,
+  close-reads.Asked,
+  close-reads.Learnt,
+) (row-item-at t) row-item.Post
+row-item-same-length t c =
+    c .before .before .close .kept .0 ∙ c .before .before .before .before .before .before .bump .kept .1 .0 ∙ c .before .before .before .before .before .before .before .before .before .before .before .before .before .before .pat-row .kept .1 .1 .1 .1 .0
+
+row-item-same-length-2 : (t : ℕ) → row-item-lts.Need-same-length-2 (
+  refuse-reads.Asked,
+  refuse-reads.Learnt,
+  mark-reads.Asked,
+  mark-reads.Learnt,
+  pat-row-below t,
+  pat-row.Post,
+  at-reads.Asked,
+  at-reads.Learnt,
+  bump-reads.Asked,
+  bump-reads.Learnt,
+  close-reads.Asked,
+  close-reads.Learnt,
+) (row-item-at t) row-item.Post
+row-item-same-length-2 t c =
+    c .before .before .before .before .before .before .before .before .before .before .before .before .before .before .pat-row .kept .1 .1 .1 .1 .1 .0
+
+row-item-returns-2 : (t : ℕ) → row-item-lts.Need-returns-2 (
+  refuse-reads.Asked,
+  refuse-reads.Learnt,
+  mark-reads.Asked,
+  mark-reads.Learnt,
+  pat-row-below t,
+  pat-row.Post,
+  at-reads.Asked,
+  at-reads.Learnt,
+  bump-reads.Asked,
+  bump-reads.Learnt,
+  close-reads.Asked,
+  close-reads.Learnt,
+) (row-item-at t) row-item.Post
+unfolding util.endItem plan choose chosen
+row-item-returns-2 t c =
+    let falls = c .before .before .before .before .before .before .before .before .before .before .before .before .before .before .before .before .before .before .before .before .before .before .before .before .before .pre .0 in
+    let pre0 = c .before .before .before .before .before .before .before .before .before .before .before .before .before .before .before .before .before .before .before .before .before .before .before .before .before .pre .1 in
+    let if1 = c .before .before .before .before .before .before .before .before .before .before .before .before .before .before .before .before .before .before .if1 .left in
+    let mark = c .before .before .before .before .before .before .before .before .before .before .before .before .before .before .before .before .before .mark .ensures in
+    let pat-row = c .before .before .before .before .before .before .before .before .before .before .before .before .before .before .pat-row .ensures in
+    let at = c .before .before .before .before .before .before .before .before .before .at .ensures in
+    let if2 = c .before .before .before .before .before .before .before .before .if2 .taken in
+    let bump = c .before .before .before .before .before .before .bump .ensures in
+    let close = c .before .before .close .ensures in
+    by-steps pre0 (λ b. s-mark if1 mark (s-by _ (runs-in pat-row) (s-kind (s-true _ _ (kind-at _ _ _ _ at if2) (s-bump bump (s-close close s-end))))))
+
+row-item-close-requires-2 : (t : ℕ) → row-item-lts.Need-close-requires-2 (
+  refuse-reads.Asked,
+  refuse-reads.Learnt,
+  mark-reads.Asked,
+  mark-reads.Learnt,
+  pat-row-below t,
+  pat-row.Post,
+  at-reads.Asked,
+  at-reads.Learnt,
+  bump-reads.Asked,
+  bump-reads.Learnt,
+  close-reads.Asked,
+  close-reads.Learnt,
+) (row-item-at t) row-item.Post
+row-item-close-requires-2 t c κs =
+    let falls = c .before .before .before .before .before .before .before .before .before .before .before .before .before .before .before .before .before .before .pre .0 in
+    let pre0 = c .before .before .before .before .before .before .before .before .before .before .before .before .before .before .before .before .before .before .pre .1 in
+    let if1 = c .before .before .before .before .before .before .before .before .before .before .before .if1 .left in
+    let mark = c .before .before .before .before .before .before .before .before .before .before .mark .ensures in
+    let mark-ok = ok-marks mark pre0 in
+    let pat-row = c .before .before .before .before .before .before .before .pat-row .ensures in
+    let pat-row-ok = pat-row .ok in
+    let at = c .before .before .at .ensures in
+    let if2 = c .before .if2 .left in
+    search asks depth 8
+
+row-item-same-length-3 : (t : ℕ) → row-item-lts.Need-same-length-3 (
+  refuse-reads.Asked,
+  refuse-reads.Learnt,
+  mark-reads.Asked,
+  mark-reads.Learnt,
+  pat-row-below t,
+  pat-row.Post,
+  at-reads.Asked,
+  at-reads.Learnt,
+  bump-reads.Asked,
+  bump-reads.Learnt,
+  close-reads.Asked,
+  close-reads.Learnt,
+) (row-item-at t) row-item.Post
+row-item-same-length-3 t c =
+    c .before .before .close2 .kept .0 ∙ c .before .before .before .before .before .before .before .before .before .before .pat-row .kept .1 .1 .1 .1 .0
+
+row-item-same-length-4 : (t : ℕ) → row-item-lts.Need-same-length-4 (
+  refuse-reads.Asked,
+  refuse-reads.Learnt,
+  mark-reads.Asked,
+  mark-reads.Learnt,
+  pat-row-below t,
+  pat-row.Post,
+  at-reads.Asked,
+  at-reads.Learnt,
+  bump-reads.Asked,
+  bump-reads.Learnt,
+  close-reads.Asked,
+  close-reads.Learnt,
+) (row-item-at t) row-item.Post
+row-item-same-length-4 t c =
+    c .before .before .before .before .before .before .before .before .before .before .pat-row .kept .1 .1 .1 .1 .1 .0
+
+row-item-returns-3 : (t : ℕ) → row-item-lts.Need-returns-3 (
+  refuse-reads.Asked,
+  refuse-reads.Learnt,
+  mark-reads.Asked,
+  mark-reads.Learnt,
+  pat-row-below t,
+  pat-row.Post,
+  at-reads.Asked,
+  at-reads.Learnt,
+  bump-reads.Asked,
+  bump-reads.Learnt,
+  close-reads.Asked,
+  close-reads.Learnt,
+) (row-item-at t) row-item.Post
+unfolding util.endItem plan choose chosen
+row-item-returns-3 t c =
+    let falls = c .before .before .before .before .before .before .before .before .before .before .before .before .before .before .before .before .before .before .before .before .before .pre .0 in
+    let pre0 = c .before .before .before .before .before .before .before .before .before .before .before .before .before .before .before .before .before .before .before .before .before .pre .1 in
+    let if1 = c .before .before .before .before .before .before .before .before .before .before .before .before .before .before .if1 .left in
+    let mark = c .before .before .before .before .before .before .before .before .before .before .before .before .before .mark .ensures in
+    let pat-row = c .before .before .before .before .before .before .before .before .before .before .pat-row .ensures in
+    let at = c .before .before .before .before .before .at .ensures in
+    let if2 = c .before .before .before .before .if2 .left in
+    let close2 = c .before .before .close2 .ensures in
+    by-steps pre0 (λ b. s-mark if1 mark (s-by _ (runs-in pat-row) (s-kind (s-false _ _ (kind-off _ _ _ _ at if2) (s-close close2 s-end)))))
+
+row-turn-at-requires : (t : ℕ) → row-turn-lts.Need-at-requires (
+  at-reads.Asked,
+  at-reads.Learnt,
+  bump-reads.Asked,
+  bump-reads.Learnt,
+  row-item-below t,
+  row-item.Post,
+  eat-reads.Asked,
+  eat-reads.Learnt,
+  state-reads.Asked,
+  state-reads.Learnt,
+) (row-turn-at t) row-turn.Post
+row-turn-at-requires t c κs =
+    let falls = c .before .before .before .before .before .before .pre .0 in
+    let pre0 = c .before .before .before .before .before .before .pre .1 in
+    search asks depth 8
+
+row-turn-bump-requires : (t : ℕ) → row-turn-lts.Need-bump-requires (
+  at-reads.Asked,
+  at-reads.Learnt,
+  bump-reads.Asked,
+  bump-reads.Learnt,
+  row-item-below t,
+  row-item.Post,
+  eat-reads.Asked,
+  eat-reads.Learnt,
+  state-reads.Asked,
+  state-reads.Learnt,
+) (row-turn-at t) row-turn.Post
+row-turn-bump-requires t c κs =
+    let falls = c .before .before .before .before .before .before .before .before .before .pre .0 in
+    let pre0 = c .before .before .before .before .before .before .before .before .before .pre .1 in
+    let at = c .before .before .at .ensures in
+    let if1 = c .before .if1 .taken in
+    search asks depth 8
+
+row-turn-same-length : (t : ℕ) → row-turn-lts.Need-same-length (
+  at-reads.Asked,
+  at-reads.Learnt,
+  bump-reads.Asked,
+  bump-reads.Learnt,
+  row-item-below t,
+  row-item.Post,
+  eat-reads.Asked,
+  eat-reads.Learnt,
+  state-reads.Asked,
+  state-reads.Learnt,
+) (row-turn-at t) row-turn.Post
+row-turn-same-length t c =
+    c .before .before .bump .kept .1 .0
+
+row-turn-returns : (t : ℕ) → row-turn-lts.Need-returns (
+  at-reads.Asked,
+  at-reads.Learnt,
+  bump-reads.Asked,
+  bump-reads.Learnt,
+  row-item-below t,
+  row-item.Post,
+  eat-reads.Asked,
+  eat-reads.Learnt,
+  state-reads.Asked,
+  state-reads.Learnt,
+) (row-turn-at t) row-turn.Post
+unfolding util.endTurn plan choose chosen
+row-turn-returns t c =
+    let falls = c .before .before .before .before .before .before .before .before .before .before .before .before .pre .0 in
+    let pre0 = c .before .before .before .before .before .before .before .before .before .before .before .before .pre .1 in
+    let at = c .before .before .before .before .before .at .ensures in
+    let if1 = c .before .before .before .before .if1 .taken in
+    let bump = c .before .before .bump .ensures in
+    by-steps pre0 (λ b. s-kind (s-true _ _ (kind-at _ _ _ _ at if1) (s-bump bump s-end)))
+
+row-turn-row-item-requires : (t : ℕ) → row-turn-lts.Need-row-item-requires (
+  at-reads.Asked,
+  at-reads.Learnt,
+  bump-reads.Asked,
+  bump-reads.Learnt,
+  row-item-below t,
+  row-item.Post,
+  eat-reads.Asked,
+  eat-reads.Learnt,
+  state-reads.Asked,
+  state-reads.Learnt,
+) (row-turn-at t) row-turn.Post
+row-turn-row-item-requires t c κs =
+    let falls = c .before .before .before .before .before .before .before .before .before .before .pre .0 in
+    let pre0 = c .before .before .before .before .before .before .before .before .before .before .pre .1 in
+    let at = c .before .before .before .at .ensures in
+    let if1 = c .before .before .if1 .left in
+    search asks depth 8
+
+row-turn-enum-known-item : (t : ℕ) → row-turn-lts.Need-enum-known-item (
+  at-reads.Asked,
+  at-reads.Learnt,
+  bump-reads.Asked,
+  bump-reads.Learnt,
+  row-item-below t,
+  row-item.Post,
+  eat-reads.Asked,
+  eat-reads.Learnt,
+  state-reads.Asked,
+  state-reads.Learnt,
+) (row-turn-at t) row-turn.Post
+row-turn-enum-known-item t c =
+    let falls = c .before .before .before .before .before .before .before .before .before .before .before .before .before .before .before .before .pre .0 in
+    let pre0 = c .before .before .before .before .before .before .before .before .before .before .before .before .before .before .before .before .pre .1 in
+    let if1 = c .before .before .before .before .before .before .before .before .if1 .left in
+    search needs
+
+row-turn-enum-known-item-2 : (t : ℕ) → row-turn-lts.Need-enum-known-item-2 (
+  at-reads.Asked,
+  at-reads.Learnt,
+  bump-reads.Asked,
+  bump-reads.Learnt,
+  row-item-below t,
+  row-item.Post,
+  eat-reads.Asked,
+  eat-reads.Learnt,
+  state-reads.Asked,
+  state-reads.Learnt,
+) (row-turn-at t) row-turn.Post
+row-turn-enum-known-item-2 t c =
+    let falls = c .before .before .before .before .before .before .before .before .before .before .before .before .before .before .before .before .pre .0 in
+    let pre0 = c .before .before .before .before .before .before .before .before .before .before .before .before .before .before .before .before .pre .1 in
+    let if1 = c .before .before .before .before .before .before .before .before .if1 .left in
+    search needs
+
+row-turn-eat-requires : (t : ℕ) → row-turn-lts.Need-eat-requires (
+  at-reads.Asked,
+  at-reads.Learnt,
+  bump-reads.Asked,
+  bump-reads.Learnt,
+  row-item-below t,
+  row-item.Post,
+  eat-reads.Asked,
+  eat-reads.Learnt,
+  state-reads.Asked,
+  state-reads.Learnt,
+) (row-turn-at t) row-turn.Post
+row-turn-eat-requires t c κs =
+    let falls = c .before .before .before .before .before .before .before .before .before .before .before .before .before .before .before .before .before .before .before .before .pre .0 in
+    let pre0 = c .before .before .before .before .before .before .before .before .before .before .before .before .before .before .before .before .before .before .before .before .pre .1 in
+    let at = c .before .before .before .before .before .before .before .before .before .before .before .before .before .at .ensures in
+    let if1 = c .before .before .before .before .before .before .before .before .before .before .before .before .if1 .left in
+    let row-item = rw (c .before .before .before .item2 .given .1) at (c .before .before .before .before .before .before .before .before .before .row-item .ensures) in
+    let row-item-ok = row-item .ok in
+    search asks depth 8
+
+row-turn-state-requires : (t : ℕ) → row-turn-lts.Need-state-requires (
+  at-reads.Asked,
+  at-reads.Learnt,
+  bump-reads.Asked,
+  bump-reads.Learnt,
+  row-item-below t,
+  row-item.Post,
+  eat-reads.Asked,
+  eat-reads.Learnt,
+  state-reads.Asked,
+  state-reads.Learnt,
+) (row-turn-at t) row-turn.Post
+row-turn-state-requires t c κs =
+    let falls = c .before .before .before .before .before .before .before .before .before .before .before .before .before .before .before .before .before .before .before .before .before .before .before .before .before .pre .0 in
+    let pre0 = c .before .before .before .before .before .before .before .before .before .before .before .before .before .before .before .before .before .before .before .before .before .before .before .before .before .pre .1 in
+    let at = c .before .before .before .before .before .before .before .before .before .before .before .before .before .before .before .before .before .before .at .ensures in
+    let if1 = c .before .before .before .before .before .before .before .before .before .before .before .before .before .before .before .before .before .if1 .left in
+    let row-item = rw (c .before .before .before .before .before .before .before .before .item2 .given .1) at (c .before .before .before .before .before .before .before .before .before .before .before .before .before .before .row-item .ensures) in
+    let row-item-ok = row-item .ok in
+    let eat = c .before .before .before .before .eat .ensures in
+    let eat-ok = eat .ok in
+    search asks depth 8
+
+row-turn-same-length-2 : (t : ℕ) → row-turn-lts.Need-same-length-2 (
+  at-reads.Asked,
+  at-reads.Learnt,
+  bump-reads.Asked,
+  bump-reads.Learnt,
+  row-item-below t,
+  row-item.Post,
+  eat-reads.Asked,
+  eat-reads.Learnt,
+  state-reads.Asked,
+  state-reads.Learnt,
+) (row-turn-at t) row-turn.Post
+row-turn-same-length-2 t c =
+    c .before .before .before .before .before .before .before .row-item .kept .1 .1 .1 .1 .0
+
+row-turn-same-length-3 : (t : ℕ) → row-turn-lts.Need-same-length-3 (
+  at-reads.Asked,
+  at-reads.Learnt,
+  bump-reads.Asked,
+  bump-reads.Learnt,
+  row-item-below t,
+  row-item.Post,
+  eat-reads.Asked,
+  eat-reads.Learnt,
+  state-reads.Asked,
+  state-reads.Learnt,
+) (row-turn-at t) row-turn.Post
+row-turn-same-length-3 t c =
+    c .before .before .before .before .before .before .before .row-item .kept .1 .1 .1 .1 .1 .0
+
+row-turn-returns-2 : (t : ℕ) → row-turn-lts.Need-returns-2 (
+  at-reads.Asked,
+  at-reads.Learnt,
+  bump-reads.Asked,
+  bump-reads.Learnt,
+  row-item-below t,
+  row-item.Post,
+  eat-reads.Asked,
+  eat-reads.Learnt,
+  state-reads.Asked,
+  state-reads.Learnt,
+) (row-turn-at t) row-turn.Post
+unfolding util.endTurn plan choose chosen
+row-turn-returns-2 t c =
+    let falls = c .before .before .before .before .before .before .before .before .before .before .before .before .before .before .before .before .before .before .pre .0 in
+    let pre0 = c .before .before .before .before .before .before .before .before .before .before .before .before .before .before .before .before .before .before .pre .1 in
+    let at = c .before .before .before .before .before .before .before .before .before .before .before .at .ensures in
+    let if1 = c .before .before .before .before .before .before .before .before .before .before .if1 .left in
+    let row-item = rw (c .before .item .given .1) at (c .before .before .before .before .before .before .before .row-item .ensures) in
+    by-steps pre0 (λ b. s-kind (s-false _ _ (kind-off _ _ _ _ at if1) (s-by _ (runs-in row-item) s-end)))
+
+row-turn-same-length-4 : (t : ℕ) → row-turn-lts.Need-same-length-4 (
+  at-reads.Asked,
+  at-reads.Learnt,
+  bump-reads.Asked,
+  bump-reads.Learnt,
+  row-item-below t,
+  row-item.Post,
+  eat-reads.Asked,
+  eat-reads.Learnt,
+  state-reads.Asked,
+  state-reads.Learnt,
+) (row-turn-at t) row-turn.Post
+row-turn-same-length-4 t c =
+    c .before .before .before .before .before .eat .kept .1 .1 .1 .1 .0 ∙ c .before .before .before .before .before .before .before .before .before .before .before .before .before .before .before .row-item .kept .1 .1 .1 .1 .0
+
+row-turn-same-length-5 : (t : ℕ) → row-turn-lts.Need-same-length-5 (
+  at-reads.Asked,
+  at-reads.Learnt,
+  bump-reads.Asked,
+  bump-reads.Learnt,
+  row-item-below t,
+  row-item.Post,
+  eat-reads.Asked,
+  eat-reads.Learnt,
+  state-reads.Asked,
+  state-reads.Learnt,
+) (row-turn-at t) row-turn.Post
+row-turn-same-length-5 t c =
+    c .before .before .before .before .before .eat .kept .1 .1 .1 .1 .1 .0 ∙ c .before .before .before .before .before .before .before .before .before .before .before .before .before .before .before .row-item .kept .1 .1 .1 .1 .1 .0
+
+row-turn-returns-3 : (t : ℕ) → row-turn-lts.Need-returns-3 (
+  at-reads.Asked,
+  at-reads.Learnt,
+  bump-reads.Asked,
+  bump-reads.Learnt,
+  row-item-below t,
+  row-item.Post,
+  eat-reads.Asked,
+  eat-reads.Learnt,
+  state-reads.Asked,
+  state-reads.Learnt,
+) (row-turn-at t) row-turn.Post
+unfolding util.endTurn plan choose chosen
+row-turn-returns-3 t c =
+    let falls = c .before .before .before .before .before .before .before .before .before .before .before .before .before .before .before .before .before .before .before .before .before .before .before .before .before .before .pre .0 in
+    let pre0 = c .before .before .before .before .before .before .before .before .before .before .before .before .before .before .before .before .before .before .before .before .before .before .before .before .before .before .pre .1 in
+    let at = c .before .before .before .before .before .before .before .before .before .before .before .before .before .before .before .before .before .before .before .at .ensures in
+    let if1 = c .before .before .before .before .before .before .before .before .before .before .before .before .before .before .before .before .before .before .if1 .left in
+    let row-item = rw (c .before .before .before .before .before .before .before .before .before .item2 .given .1) at (c .before .before .before .before .before .before .before .before .before .before .before .before .before .before .before .row-item .ensures) in
+    let eat = c .before .before .before .before .before .eat .ensures in
+    let state = c .state .ensures in
+    by-steps pre0 (λ b. s-kind (s-false _ _ (kind-off _ _ _ _ at if1) (s-by _ (runs-in row-item) (s-by _ (settled state (runs-always eat)) s-end))))
+
+vector-refuse-requires : (t : ℕ) → vector-lts.Need-refuse-requires (
+  refuse-reads.Asked,
+  refuse-reads.Learnt,
+  mark-reads.Asked,
+  mark-reads.Learnt,
+  eat-reads.Asked,
+  eat-reads.Learnt,
+  state-reads.Asked,
+  state-reads.Learnt,
+  pat-args-below t,
+  pat-args.Post,
+  close-reads.Asked,
+  close-reads.Learnt,
+) (vector-at t) vector.Post
+vector-refuse-requires t c κs =
+    let falls = c .before .before .before .before .before .before .before .pre .0 in
+    let pre0 = c .before .before .before .before .before .before .before .pre .1 in
+    let if1 = c .if1 .taken in
+    search asks depth 8
+
+vector-returns : (t : ℕ) → vector-lts.Need-returns (
+  refuse-reads.Asked,
+  refuse-reads.Learnt,
+  mark-reads.Asked,
+  mark-reads.Learnt,
+  eat-reads.Asked,
+  eat-reads.Learnt,
+  state-reads.Asked,
+  state-reads.Learnt,
+  pat-args-below t,
+  pat-args.Post,
+  close-reads.Asked,
+  close-reads.Learnt,
+) (vector-at t) vector.Post
+unfolding pat.vector util.endSep plan choose chosen
+vector-returns t c =
+    let falls = c .before .before .before .before .before .before .before .before .pre .0 in
+    let pre0 = c .before .before .before .before .before .before .before .before .pre .1 in
+    let if1 = c .before .if1 .taken in
+    let refuse = c .refuse .ensures in
+    by-steps pre0 (λ b. s-deep if1 refuse s-end)
+
+vector-mark-requires : (t : ℕ) → vector-lts.Need-mark-requires (
+  refuse-reads.Asked,
+  refuse-reads.Learnt,
+  mark-reads.Asked,
+  mark-reads.Learnt,
+  eat-reads.Asked,
+  eat-reads.Learnt,
+  state-reads.Asked,
+  state-reads.Learnt,
+  pat-args-below t,
+  pat-args.Post,
+  close-reads.Asked,
+  close-reads.Learnt,
+) (vector-at t) vector.Post
+vector-mark-requires t c κs =
+    let falls = c .before .before .before .before .before .before .before .pre .0 in
+    let pre0 = c .before .before .before .before .before .before .before .pre .1 in
+    let if1 = c .if1 .left in
+    search asks depth 8
+
+vector-eat-requires : (t : ℕ) → vector-lts.Need-eat-requires (
+  refuse-reads.Asked,
+  refuse-reads.Learnt,
+  mark-reads.Asked,
+  mark-reads.Learnt,
+  eat-reads.Asked,
+  eat-reads.Learnt,
+  state-reads.Asked,
+  state-reads.Learnt,
+  pat-args-below t,
+  pat-args.Post,
+  close-reads.Asked,
+  close-reads.Learnt,
+) (vector-at t) vector.Post
+vector-eat-requires t c κs =
+    let falls = c .before .before .before .before .before .before .before .before .before .before .pre .0 in
+    let pre0 = c .before .before .before .before .before .before .before .before .before .before .pre .1 in
+    let if1 = c .before .before .before .if1 .left in
+    let mark = c .before .before .mark .ensures in
+    let mark-ok = ok-marks mark pre0 in
+    search asks depth 8
+
+vector-state-requires : (t : ℕ) → vector-lts.Need-state-requires (
+  refuse-reads.Asked,
+  refuse-reads.Learnt,
+  mark-reads.Asked,
+  mark-reads.Learnt,
+  eat-reads.Asked,
+  eat-reads.Learnt,
+  state-reads.Asked,
+  state-reads.Learnt,
+  pat-args-below t,
+  pat-args.Post,
+  close-reads.Asked,
+  close-reads.Learnt,
+) (vector-at t) vector.Post
+vector-state-requires t c κs =
+    let falls = c .before .before .before .before .before .before .before .before .before .before .before .before .before .before .before .pre .0 in
+    let pre0 = c .before .before .before .before .before .before .before .before .before .before .before .before .before .before .before .pre .1 in
+    let if1 = c .before .before .before .before .before .before .before .before .if1 .left in
+    let mark = c .before .before .before .before .before .before .before .mark .ensures in
+    let mark-ok = ok-marks mark pre0 in
+    let eat = c .before .before .before .before .eat .ensures in
+    let eat-ok = eat .ok in
+    search asks depth 8
+
+vector-sub-pat-args : (t : ℕ) → vector-lts.Need-sub-pat-args (
+  refuse-reads.Asked,
+  refuse-reads.Learnt,
+  mark-reads.Asked,
+  mark-reads.Learnt,
+  eat-reads.Asked,
+  eat-reads.Learnt,
+  state-reads.Asked,
+  state-reads.Learnt,
+  pat-args-below t,
+  pat-args.Post,
+  close-reads.Asked,
+  close-reads.Learnt,
+) (vector-at t) vector.Post
+vector-sub-pat-args t c =
+    let falls = c .before .before .before .before .before .before .before .before .before .before .before .before .before .before .before .before .before .before .pre .0 in
+    let pre0 = c .before .before .before .before .before .before .before .before .before .before .before .before .before .before .before .before .before .before .pre .1 in
+    let if1 = c .before .before .before .before .before .before .before .before .before .before .before .if1 .left in
+    search needs
+
+vector-pat-args-requires : (t : ℕ) → vector-lts.Need-pat-args-requires (
+  refuse-reads.Asked,
+  refuse-reads.Learnt,
+  mark-reads.Asked,
+  mark-reads.Learnt,
+  eat-reads.Asked,
+  eat-reads.Learnt,
+  state-reads.Asked,
+  state-reads.Learnt,
+  pat-args-below t,
+  pat-args.Post,
+  close-reads.Asked,
+  close-reads.Learnt,
+) (vector-at t) vector.Post
+vector-pat-args-requires t c κs =
+    let falls = c .before .before .before .before .before .before .before .before .before .before .before .before .before .before .before .before .before .before .pre .0 in
+    let pre0 = c .before .before .before .before .before .before .before .before .before .before .before .before .before .before .before .before .before .before .pre .1 in
+    let if1 = c .before .before .before .before .before .before .before .before .before .before .before .if1 .left in
+    let mark = c .before .before .before .before .before .before .before .before .before .before .mark .ensures in
+    let mark-ok = ok-marks mark pre0 in
+    let eat = c .before .before .before .before .before .before .before .eat .ensures in
+    let eat-ok = eat .ok in
+    let state = c .before .before .state .ensures in
+    let state-ok = ok-state state eat-ok in
+    search asks depth 8
+
+vector-close-requires : (t : ℕ) → vector-lts.Need-close-requires (
+  refuse-reads.Asked,
+  refuse-reads.Learnt,
+  mark-reads.Asked,
+  mark-reads.Learnt,
+  eat-reads.Asked,
+  eat-reads.Learnt,
+  state-reads.Asked,
+  state-reads.Learnt,
+  pat-args-below t,
+  pat-args.Post,
+  close-reads.Asked,
+  close-reads.Learnt,
+) (vector-at t) vector.Post
+vector-close-requires t c κs =
+    let falls = c .before .before .before .before .before .before .before .before .before .before .before .before .before .before .before .before .before .before .before .before .before .before .before .before .pre .0 in
+    let pre0 = c .before .before .before .before .before .before .before .before .before .before .before .before .before .before .before .before .before .before .before .before .before .before .before .before .pre .1 in
+    let if1 = c .before .before .before .before .before .before .before .before .before .before .before .before .before .before .before .before .before .if1 .left in
+    let mark = c .before .before .before .before .before .before .before .before .before .before .before .before .before .before .before .before .mark .ensures in
+    let mark-ok = ok-marks mark pre0 in
+    let eat = c .before .before .before .before .before .before .before .before .before .before .before .before .before .eat .ensures in
+    let eat-ok = eat .ok in
+    let state = c .before .before .before .before .before .before .before .before .state .ensures in
+    let state-ok = ok-state state eat-ok in
+    let pat-args = c .before .before .before .before .before .pat-args .ensures in
+    let pat-args-ok = pat-args .ok in
+    search asks depth 8
+
+vector-same-length : (t : ℕ) → vector-lts.Need-same-length (
+  refuse-reads.Asked,
+  refuse-reads.Learnt,
+  mark-reads.Asked,
+  mark-reads.Learnt,
+  eat-reads.Asked,
+  eat-reads.Learnt,
+  state-reads.Asked,
+  state-reads.Learnt,
+  pat-args-below t,
+  pat-args.Post,
+  close-reads.Asked,
+  close-reads.Learnt,
+) (vector-at t) vector.Post
+vector-same-length t c =
+    c .before .before .close .kept .0 ∙ c .before .before .before .before .before .before .before .before .pat-args .kept .1 .1 .1 .1 .0 ∙ c .before .before .before .before .before .before .before .before .before .before .before .before .before .before .before .before .eat .kept .1 .1 .1 .1 .0
+
+vector-same-length-2 : (t : ℕ) → vector-lts.Need-same-length-2 (
+  refuse-reads.Asked,
+  refuse-reads.Learnt,
+  mark-reads.Asked,
+  mark-reads.Learnt,
+  eat-reads.Asked,
+  eat-reads.Learnt,
+  state-reads.Asked,
+  state-reads.Learnt,
+  pat-args-below t,
+  pat-args.Post,
+  close-reads.Asked,
+  close-reads.Learnt,
+) (vector-at t) vector.Post
+vector-same-length-2 t c =
+    c .before .before .before .before .before .before .before .before .pat-args .kept .1 .1 .1 .1 .1 .0 ∙ c .before .before .before .before .before .before .before .before .before .before .before .before .before .before .before .before .eat .kept .1 .1 .1 .1 .1 .0
+
+vector-returns-2 : (t : ℕ) → vector-lts.Need-returns-2 (
+  refuse-reads.Asked,
+  refuse-reads.Learnt,
+  mark-reads.Asked,
+  mark-reads.Learnt,
+  eat-reads.Asked,
+  eat-reads.Learnt,
+  state-reads.Asked,
+  state-reads.Learnt,
+  pat-args-below t,
+  pat-args.Post,
+  close-reads.Asked,
+  close-reads.Learnt,
+) (vector-at t) vector.Post
+unfolding pat.vector util.endSep plan choose chosen
+vector-returns-2 t c =
+    let falls = c .before .before .before .before .before .before .before .before .before .before .before .before .before .before .before .before .before .before .before .before .before .before .before .before .before .before .before .pre .0 in
+    let pre0 = c .before .before .before .before .before .before .before .before .before .before .before .before .before .before .before .before .before .before .before .before .before .before .before .before .before .before .before .pre .1 in
+    let if1 = c .before .before .before .before .before .before .before .before .before .before .before .before .before .before .before .before .before .before .before .before .if1 .left in
+    let mark = c .before .before .before .before .before .before .before .before .before .before .before .before .before .before .before .before .before .before .before .mark .ensures in
+    let eat = c .before .before .before .before .before .before .before .before .before .before .before .before .before .before .before .before .eat .ensures in
+    let state = c .before .before .before .before .before .before .before .before .before .before .before .state .ensures in
+    let pat-args = c .before .before .before .before .before .before .before .before .pat-args .ensures in
+    let close = c .before .before .close .ensures in
+    by-steps pre0 (λ b. s-mark if1 mark (s-by _ (settled state (runs-always eat)) (s-run pat-args (s-close close s-end))))
+
+pub +arg-item+arg-turn+as-pat-tl+as-step+at-head+at-pat+at-pat-l-round+at-pat-must+at-rest+atom-pat+con-head+con-pat+con-turn+infix-pat+op-step+op-tail+or-step+pat-arg+pat-args+pat-must+pat-prec+pat-row+pat-rows+pat-step+pat-tail+row-item+row-turn+vector-spec :
+    {M : Type 1} → statement M
++arg-item+arg-turn+as-pat-tl+as-step+at-head+at-pat+at-pat-l-round+at-pat-must+at-rest+atom-pat+con-head+con-pat+con-turn+infix-pat+op-step+op-tail+or-step+pat-arg+pat-args+pat-must+pat-prec+pat-row+pat-rows+pat-step+pat-tail+row-item+row-turn+vector-spec =
+    close
+    μ-arg-item
+    μ-arg-turn
+    μ-as-pat-tl
+    μ-as-step
+    μ-at-head
+    μ-at-pat
+    μ-at-pat-l-round
+    μ-at-pat-must
+    μ-at-rest
+    μ-atom-pat
+    μ-con-head
+    μ-con-pat
+    μ-con-turn
+    μ-infix-pat
+    μ-op-step
+    μ-op-tail
+    μ-or-step
+    μ-pat-arg
+    μ-pat-args
+    μ-pat-must
+    μ-pat-prec
+    μ-pat-row
+    μ-pat-rows
+    μ-pat-step
+    μ-pat-tail
+    μ-row-item
+    μ-row-turn
+    μ-vector
+    (λ t. arg-item-lts.spec (
+      refuse-reads.Asked,
+      refuse-reads.Learnt,
+      mark-reads.Asked,
+      mark-reads.Learnt,
+      pat-must-below t,
+      pat-must.Post,
+      at-reads.Asked,
+      at-reads.Learnt,
+      bump-reads.Asked,
+      bump-reads.Learnt,
+      close-reads.Asked,
+      close-reads.Learnt,
+    )
+    (arg-item-at t)
+    arg-item.Post
+    (arg-item-refuse-requires t)
+    (arg-item-returns t)
+    (arg-item-mark-requires t)
+    (arg-item-sub-pat-must t)
+    (arg-item-pat-must-requires t)
+    (arg-item-at-requires t)
+    (arg-item-bump-requires t)
+    (arg-item-close-requires t)
+    (arg-item-same-length t)
+    (arg-item-same-length-2 t)
+    (arg-item-returns-2 t)
+    (arg-item-close-requires-2 t)
+    (arg-item-same-length-3 t)
+    (arg-item-same-length-4 t)
+    (arg-item-returns-3 t))
+    (λ t. arg-turn-lts.spec (
+      at-reads.Asked,
+      at-reads.Learnt,
+      bump-reads.Asked,
+      bump-reads.Learnt,
+      arg-item-below t,
+      arg-item.Post,
+      eat-reads.Asked,
+      eat-reads.Learnt,
+      state-reads.Asked,
+      state-reads.Learnt,
+    )
+    (arg-turn-at t)
+    arg-turn.Post
+    (arg-turn-at-requires t)
+    (arg-turn-bump-requires t)
+    (arg-turn-same-length t)
+    (arg-turn-returns t)
+    (arg-turn-arg-item-requires t)
+    (arg-turn-enum-known-item t)
+    (arg-turn-enum-known-item-2 t)
+    (arg-turn-eat-requires t)
+    (arg-turn-state-requires t)
+    (arg-turn-same-length-2 t)
+    (arg-turn-same-length-3 t)
+    (arg-turn-returns-2 t)
+    (arg-turn-same-length-4 t)
+    (arg-turn-same-length-5 t)
+    (arg-turn-returns-3 t))
+    (λ t. as-pat-tl-lts.spec (
+      at-reads.Asked,
+      at-reads.Learnt,
+      refuse-reads.Asked,
+      refuse-reads.Learnt,
+      mark-reads.Asked,
+      mark-reads.Learnt,
+      bump-reads.Asked,
+      bump-reads.Learnt,
+      pat-must-below t,
+      pat-must.Post,
+      close-reads.Asked,
+      close-reads.Learnt,
+    )
+    (as-pat-tl-at t)
+    as-pat-tl.Post
+    (as-pat-tl-at-requires t)
+    (as-pat-tl-refuse-requires t)
+    (as-pat-tl-returns t)
+    (as-pat-tl-mark-requires t)
+    (as-pat-tl-bump-requires t)
+    (as-pat-tl-sub-pat-must t)
+    (as-pat-tl-pat-must-requires t)
+    (as-pat-tl-close-requires t)
+    (as-pat-tl-same-length t)
+    (as-pat-tl-same-length-2 t)
+    (as-pat-tl-returns-2 t)
+    (as-pat-tl-returns-3 t))
+    (λ t. as-step-lts.spec (
+      is-infix-reads.Asked,
+      is-infix-reads.Learnt,
+      refuse-reads.Asked,
+      refuse-reads.Learnt,
+      mark-reads.Asked,
+      mark-reads.Learnt,
+      as-pat-tl-below t,
+      as-pat-tl.Post,
+      close-reads.Asked,
+      close-reads.Learnt,
+      report-reads.Asked,
+      report-reads.Learnt,
+    )
+    (as-step-at t)
+    as-step.Post
+    (as-step-is-infix-requires t)
+    (as-step-returns t)
+    (as-step-refuse-requires t)
+    (as-step-returns-2 t)
+    (as-step-mark-requires t)
+    (as-step-sub-as-pat-tl t)
+    (as-step-as-pat-tl-requires t)
+    (as-step-enum-known-got t)
+    (as-step-close-requires t)
+    (as-step-enum-known-got-2 t)
+    (as-step-report-requires t)
+    (as-step-close-requires-2 t)
+    (as-step-same-length t)
+    (as-step-same-length-2 t)
+    (as-step-returns-3 t)
+    (as-step-same-length-3 t)
+    (as-step-same-length-4 t)
+    (as-step-returns-4 t))
+    (λ t. at-head-lts.spec (
+      s-con-reads.Asked,
+      s-con-reads.Learnt,
+      bump-reads.Asked,
+      bump-reads.Learnt,
+      close-reads.Asked,
+      close-reads.Learnt,
+      path-infix-reads.Asked,
+      path-infix-reads.Learnt,
+      state-reads.Asked,
+      state-reads.Learnt,
+      name-star-reads.Asked,
+      name-star-reads.Learnt,
+      con-path-reads.Asked,
+      con-path-reads.Learnt,
+      at-rest-below t,
+      at-rest.Post,
+    )
+    (at-head-at t)
+    at-head.Post
+    (at-head-s-con-requires t)
+    (at-head-bump-requires t)
+    (at-head-close-requires t)
+    (at-head-same-length t)
+    (at-head-returns t)
+    (at-head-bump-requires-2 t)
+    (at-head-close-requires-2 t)
+    (at-head-same-length-2 t)
+    (at-head-returns-2 t)
+    (at-head-path-infix-requires t)
+    (at-head-state-requires t)
+    (at-head-close-requires-3 t)
+    (at-head-same-length-3 t)
+    (at-head-same-length-4 t)
+    (at-head-returns-3 t)
+    (at-head-name-star-requires t)
+    (at-head-con-path-requires t)
+    (at-head-state-requires-2 t)
+    (at-head-close-requires-4 t)
+    (at-head-same-length-5 t)
+    (at-head-same-length-6 t)
+    (at-head-returns-4 t)
+    (at-head-at-rest-requires t)
+    (at-head-same-length-7 t)
+    (at-head-same-length-8 t)
+    (at-head-returns-5 t))
+    (λ t. at-pat-lts.spec (
+      peek-reads.Asked,
+      peek-reads.Learnt,
+      refuse-reads.Asked,
+      refuse-reads.Learnt,
+      mark-reads.Asked,
+      mark-reads.Learnt,
+      at-head-below t,
+      at-head.Post,
+    )
+    (at-pat-at t)
+    at-pat.Post
+    (at-pat-peek-requires t)
+    (at-pat-enum-known-k t)
+    (at-pat-enum-told t)
+    (at-pat-returns t)
+    (at-pat-refuse-requires t)
+    (at-pat-returns-2 t)
+    (at-pat-mark-requires t)
+    (at-pat-sub-at-head t)
+    (at-pat-at-head-requires t)
+    (at-pat-same-length t)
+    (at-pat-same-length-2 t)
+    (at-pat-returns-3 t))
+    (λ t. at-pat-l-round-lts.spec (
+      at-reads.Asked,
+      at-reads.Learnt,
+      bump-reads.Asked,
+      bump-reads.Learnt,
+      close-reads.Asked,
+      close-reads.Learnt,
+      pat-arg-below t,
+      pat-arg.Post,
+      pat-args-below t,
+      pat-args.Post,
+    )
+    (at-pat-l-round-at t)
+    at-pat-l-round.Post
+    (at-pat-l-round-at-requires t)
+    (at-pat-l-round-bump-requires t)
+    (at-pat-l-round-close-requires t)
+    (at-pat-l-round-same-length t)
+    (at-pat-l-round-returns t)
+    (at-pat-l-round-pat-arg-requires t)
+    (at-pat-l-round-enum-known-first t)
+    (at-pat-l-round-pat-args-requires t)
+    (at-pat-l-round-close-requires-2 t)
+    (at-pat-l-round-enum-known-first-2 t)
+    (at-pat-l-round-bump-requires-2 t)
+    (at-pat-l-round-close-requires-3 t)
+    (at-pat-l-round-same-length-2 t)
+    (at-pat-l-round-same-length-3 t)
+    (at-pat-l-round-returns-2 t)
+    (at-pat-l-round-same-length-4 t)
+    (at-pat-l-round-same-length-5 t)
+    (at-pat-l-round-returns-3 t))
+    (λ t. at-pat-must-lts.spec (
+      at-pat-below t,
+      at-pat.Post,
+      report-reads.Asked,
+      report-reads.Learnt,
+    )
+    (at-pat-must-at t)
+    at-pat-must.Post
+    (at-pat-must-at-pat-requires t)
+    (at-pat-must-enum-known-got t)
+    (at-pat-must-enum-known-got-2 t)
+    (at-pat-must-report-requires t)
+    (at-pat-must-same-length t)
+    (at-pat-must-same-length-2 t)
+    (at-pat-must-returns t)
+    (at-pat-must-same-length-3 t)
+    (at-pat-must-same-length-4 t)
+    (at-pat-must-returns-2 t))
+    (λ t. at-rest-lts.spec (
+      bump-reads.Asked,
+      bump-reads.Learnt,
+      pat-rows-below t,
+      pat-rows.Post,
+      close-reads.Asked,
+      close-reads.Learnt,
+      at-pat-l-round-below t,
+      at-pat-l-round.Post,
+      pat-args-below t,
+      pat-args.Post,
+      vector-below t,
+      vector.Post,
+    )
+    (at-rest-at t)
+    at-rest.Post
+    (at-rest-bump-requires t)
+    (at-rest-pat-rows-requires t)
+    (at-rest-close-requires t)
+    (at-rest-same-length t)
+    (at-rest-same-length-2 t)
+    (at-rest-returns t)
+    (at-rest-bump-requires-2 t)
+    (at-rest-at-pat-l-round-requires t)
+    (at-rest-same-length-3 t)
+    (at-rest-same-length-4 t)
+    (at-rest-returns-2 t)
+    (at-rest-bump-requires-3 t)
+    (at-rest-pat-args-requires t)
+    (at-rest-close-requires-2 t)
+    (at-rest-same-length-5 t)
+    (at-rest-same-length-6 t)
+    (at-rest-returns-3 t)
+    (at-rest-bump-requires-4 t)
+    (at-rest-vector-requires t)
+    (at-rest-close-requires-3 t)
+    (at-rest-same-length-7 t)
+    (at-rest-same-length-8 t)
+    (at-rest-returns-4 t)
+    (at-rest-returns-5 t))
+    (λ t. atom-pat-lts.spec
+    (at-pat-below t, at-pat.Post, pat-tail-below t, pat-tail.Post)
+    (atom-pat-at t)
+    atom-pat.Post
+    (atom-pat-at-pat-requires t)
+    (atom-pat-enum-known-got t)
+    (atom-pat-enum-known-got-2 t)
+    (atom-pat-pat-tail-requires t)
+    (atom-pat-same-length t)
+    (atom-pat-same-length-2 t)
+    (atom-pat-returns t)
+    (atom-pat-same-length-3 t)
+    (atom-pat-same-length-4 t)
+    (atom-pat-returns-2 t))
+    (λ t. con-head-lts.spec (
+      refuse-reads.Asked,
+      refuse-reads.Learnt,
+      mark-reads.Asked,
+      mark-reads.Learnt,
+      con-name-reads.Asked,
+      con-name-reads.Learnt,
+      state-reads.Asked,
+      state-reads.Learnt,
+      con-turn-below t,
+      con-turn.Post,
+    )
+    (con-head-at t)
+    con-head.Post
+    (con-head-refuse-requires t)
+    (con-head-returns t)
+    (con-head-mark-requires t)
+    (con-head-sub-con-name t)
+    (con-head-con-name-requires t)
+    (con-head-state-requires t)
+    (con-head-sub-con-turn t)
+    (con-head-con-turn-requires t)
+    (con-head-same-length t)
+    (con-head-same-length-2 t)
+    (con-head-returns-2 t))
+    (λ t. con-pat-lts.spec (
+      con-head-below t,
+      con-head.Post,
+      pat-tail-below t,
+      pat-tail.Post,
+      op-tail-below t,
+      op-tail.Post,
+    )
+    (con-pat-at t)
+    con-pat.Post
+    (con-pat-con-head-requires t)
+    (con-pat-enum-known-head t)
+    (con-pat-enum-known-head-2 t)
+    (con-pat-pat-tail-requires t)
+    (con-pat-enum-known-head-3 t)
+    (con-pat-op-tail-requires t)
+    (con-pat-pat-tail-requires-2 t)
+    (con-pat-enum-known-head-4 t)
+    (con-pat-same-length t)
+    (con-pat-same-length-2 t)
+    (con-pat-returns t)
+    (con-pat-same-length-3 t)
+    (con-pat-same-length-4 t)
+    (con-pat-returns-2 t)
+    (con-pat-same-length-5 t)
+    (con-pat-same-length-6 t)
+    (con-pat-returns-3 t)
+    (con-pat-same-length-7 t)
+    (con-pat-same-length-8 t)
+    (con-pat-returns-4 t))
+    (λ t. con-turn-lts.spec (
+      peek-reads.Asked,
+      peek-reads.Learnt,
+      close-reads.Asked,
+      close-reads.Learnt,
+      name-star-reads.Asked,
+      name-star-reads.Learnt,
+      fixity-at-reads.Asked,
+      fixity-at-reads.Learnt,
+      at-pat-must-below t,
+      at-pat-must.Post,
+      con-op-reads.Asked,
+      con-op-reads.Learnt,
+      arg-reads.Asked,
+      arg-reads.Learnt,
+    )
+    (con-turn-at t)
+    con-turn.Post
+    (con-turn-peek-requires t)
+    (con-turn-enum-known-k t)
+    (con-turn-enum-told t)
+    (con-turn-close-requires t)
+    (con-turn-same-length t)
+    (con-turn-returns t)
+    (con-turn-name-star-requires t)
+    (con-turn-fixity-at-requires t)
+    (con-turn-enum-told-2 t)
+    (con-turn-at-pat-must-requires t)
+    (con-turn-close-requires-2 t)
+    (con-turn-same-length-2 t)
+    (con-turn-same-length-3 t)
+    (con-turn-returns-2 t)
+    (con-turn-enum-known-fix t)
+    (con-turn-con-op-requires t)
+    (con-turn-same-length-4 t)
+    (con-turn-same-length-5 t)
+    (con-turn-returns-3 t)
+    (con-turn-arg-requires t)
+    (con-turn-at-pat-must-requires-2 t)
+    (con-turn-close-requires-3 t)
+    (con-turn-same-length-6 t)
+    (con-turn-same-length-7 t)
+    (con-turn-returns-4 t)
+    (con-turn-close-requires-4 t)
+    (con-turn-same-length-8 t)
+    (con-turn-returns-5 t))
+    (λ t. infix-pat-lts.spec (
+      refuse-reads.Asked,
+      refuse-reads.Learnt,
+      mark-reads.Asked,
+      mark-reads.Learnt,
+      bump-reads.Asked,
+      bump-reads.Learnt,
+      pat-must-below t,
+      pat-must.Post,
+      close-reads.Asked,
+      close-reads.Learnt,
+    )
+    (infix-pat-at t)
+    infix-pat.Post
+    (infix-pat-refuse-requires t)
+    (infix-pat-returns t)
+    (infix-pat-mark-requires t)
+    (infix-pat-bump-requires t)
+    (infix-pat-sub-pat-must t)
+    (infix-pat-pat-must-requires t)
+    (infix-pat-close-requires t)
+    (infix-pat-same-length t)
+    (infix-pat-same-length-2 t)
+    (infix-pat-returns-2 t))
+    (λ t. op-step-lts.spec (
+      fixity-at-reads.Asked,
+      fixity-at-reads.Learnt,
+      index-reads.Asked,
+      index-reads.Learnt,
+      report-reads.Asked,
+      report-reads.Learnt,
+      should-break-pat-reads.Asked,
+      should-break-pat-reads.Learnt,
+      infix-pat-below t,
+      infix-pat.Post,
+    )
+    (op-step-at t)
+    op-step.Post
+    (op-step-fixity-at-requires t)
+    (op-step-enum-told t)
+    (op-step-index-requires t)
+    (op-step-report-requires t)
+    (op-step-enum-known-fix t)
+    (op-step-should-break-pat-requires t)
+    (op-step-enum-known-ends t)
+    (op-step-enum-known-ends-2 t)
+    (op-step-infix-pat-requires t)
+    (op-step-same-length t)
+    (op-step-returns t)
+    (op-step-same-length-2 t)
+    (op-step-same-length-3 t)
+    (op-step-returns-2 t)
+    (op-step-same-length-4 t)
+    (op-step-same-length-5 t)
+    (op-step-returns-3 t))
+    (λ t. op-tail-lts.spec (
+      fixity-at-reads.Asked,
+      fixity-at-reads.Learnt,
+      infix-pat-below t,
+      infix-pat.Post,
+    )
+    (op-tail-at t)
+    op-tail.Post
+    (op-tail-fixity-at-requires t)
+    (op-tail-enum-told t)
+    (op-tail-enum-known-fix t)
+    (op-tail-infix-pat-requires t)
+    (op-tail-returns t)
+    (op-tail-same-length t)
+    (op-tail-same-length-2 t)
+    (op-tail-returns-2 t))
+    (λ t. or-step-lts.spec (
+      is-min-reads.Asked,
+      is-min-reads.Learnt,
+      refuse-reads.Asked,
+      refuse-reads.Learnt,
+      mark-reads.Asked,
+      mark-reads.Learnt,
+      bump-reads.Asked,
+      bump-reads.Learnt,
+      pat-must-below t,
+      pat-must.Post,
+      close-reads.Asked,
+      close-reads.Learnt,
+    )
+    (or-step-at t)
+    or-step.Post
+    (or-step-is-min-requires t)
+    (or-step-refuse-requires t)
+    (or-step-returns t)
+    (or-step-mark-requires t)
+    (or-step-bump-requires t)
+    (or-step-sub-pat-must t)
+    (or-step-pat-must-requires t)
+    (or-step-close-requires t)
+    (or-step-same-length t)
+    (or-step-same-length-2 t)
+    (or-step-returns-2 t)
+    (or-step-returns-3 t))
+    (λ t. pat-arg-lts.spec (
+      refuse-reads.Asked,
+      refuse-reads.Learnt,
+      mark-reads.Asked,
+      mark-reads.Learnt,
+      pat-must-below t,
+      pat-must.Post,
+      at-reads.Asked,
+      at-reads.Learnt,
+      eat-reads.Asked,
+      eat-reads.Learnt,
+      state-reads.Asked,
+      state-reads.Learnt,
+      close-reads.Asked,
+      close-reads.Learnt,
+    )
+    (pat-arg-at t)
+    pat-arg.Post
+    (pat-arg-refuse-requires t)
+    (pat-arg-returns t)
+    (pat-arg-mark-requires t)
+    (pat-arg-sub-pat-must t)
+    (pat-arg-pat-must-requires t)
+    (pat-arg-at-requires t)
+    (pat-arg-same-length t)
+    (pat-arg-same-length-2 t)
+    (pat-arg-returns-2 t)
+    (pat-arg-eat-requires t)
+    (pat-arg-state-requires t)
+    (pat-arg-close-requires t)
+    (pat-arg-same-length-3 t)
+    (pat-arg-same-length-4 t)
+    (pat-arg-returns-3 t))
+    (λ t. pat-args-lts.spec
+    (arg-turn-below t, arg-turn.Post)
+    (pat-args-at t)
+    pat-args.Post
+    pat-args-Inv-loop
+    pat-args-μ-loop
+    (pat-args-loop-holds t)
+    (pat-args-arg-turn-requires t)
+    (pat-args-enum-known-turn t)
+    (pat-args-loop-less t)
+    (pat-args-loop-again t)
+    (pat-args-enum-known-turn-2 t)
+    (pat-args-same-length t)
+    (pat-args-same-length-2 t)
+    (pat-args-returns t))
+    (λ t. pat-must-lts.spec (
+      pat-prec-below t,
+      pat-prec.Post,
+      report-reads.Asked,
+      report-reads.Learnt,
+    )
+    (pat-must-at t)
+    pat-must.Post
+    (pat-must-pat-prec-requires t)
+    (pat-must-enum-known-got t)
+    (pat-must-enum-known-got-2 t)
+    (pat-must-report-requires t)
+    (pat-must-same-length t)
+    (pat-must-same-length-2 t)
+    (pat-must-returns t)
+    (pat-must-same-length-3 t)
+    (pat-must-same-length-4 t)
+    (pat-must-returns-2 t))
+    (λ t. pat-prec-lts.spec (
+      peek-reads.Asked,
+      peek-reads.Learnt,
+      atom-pat-below t,
+      atom-pat.Post,
+      name-star-reads.Asked,
+      name-star-reads.Learnt,
+      con-pat-below t,
+      con-pat.Post,
+      peek-n-reads.Asked,
+      peek-n-reads.Learnt,
+    )
+    (pat-prec-at t)
+    pat-prec.Post
+    (pat-prec-peek-requires t)
+    (pat-prec-enum-known-k t)
+    (pat-prec-enum-told t)
+    (pat-prec-atom-pat-requires t)
+    (pat-prec-same-length t)
+    (pat-prec-same-length-2 t)
+    (pat-prec-returns t)
+    (pat-prec-name-star-requires t)
+    (pat-prec-con-pat-requires t)
+    (pat-prec-same-length-3 t)
+    (pat-prec-same-length-4 t)
+    (pat-prec-returns-2 t)
+    (pat-prec-peek-n-requires t)
+    (pat-prec-enum-known-k1 t)
+    (pat-prec-enum-told-2 t)
+    (pat-prec-atom-pat-requires-2 t)
+    (pat-prec-same-length-5 t)
+    (pat-prec-same-length-6 t)
+    (pat-prec-returns-3 t)
+    (pat-prec-name-star-requires-2 t)
+    (pat-prec-con-pat-requires-2 t)
+    (pat-prec-same-length-7 t)
+    (pat-prec-same-length-8 t)
+    (pat-prec-returns-4 t)
+    (pat-prec-atom-pat-requires-3 t)
+    (pat-prec-same-length-9 t)
+    (pat-prec-same-length-10 t)
+    (pat-prec-returns-5 t)
+    (pat-prec-atom-pat-requires-4 t)
+    (pat-prec-same-length-11 t)
+    (pat-prec-same-length-12 t)
+    (pat-prec-returns-6 t))
+    (λ t. pat-row-lts.spec (
+      refuse-reads.Asked,
+      refuse-reads.Learnt,
+      mark-reads.Asked,
+      mark-reads.Learnt,
+      at-reads.Asked,
+      at-reads.Learnt,
+      bump-reads.Asked,
+      bump-reads.Learnt,
+      close-reads.Asked,
+      close-reads.Learnt,
+      at-n-reads.Asked,
+      at-n-reads.Learnt,
+      lab-reads.Asked,
+      lab-reads.Learnt,
+      eat-reads.Asked,
+      eat-reads.Learnt,
+      state-reads.Asked,
+      state-reads.Learnt,
+      pat-must-below t,
+      pat-must.Post,
+      eat-name-star-reads.Asked,
+      eat-name-star-reads.Learnt,
+      ty-annotation-reads.Asked,
+      ty-annotation-reads.Learnt,
+      as-pat-tl-below t,
+      as-pat-tl.Post,
+    )
+    (pat-row-at t)
+    pat-row.Post
+    (pat-row-refuse-requires t)
+    (pat-row-returns t)
+    (pat-row-mark-requires t)
+    (pat-row-at-requires t)
+    (pat-row-bump-requires t)
+    (pat-row-close-requires t)
+    (pat-row-same-length t)
+    (pat-row-returns-2 t)
+    (pat-row-at-n-requires t)
+    (pat-row-lab-requires t)
+    (pat-row-eat-requires t)
+    (pat-row-state-requires t)
+    (pat-row-sub-pat-must t)
+    (pat-row-pat-must-requires t)
+    (pat-row-close-requires-2 t)
+    (pat-row-same-length-2 t)
+    (pat-row-same-length-3 t)
+    (pat-row-returns-3 t)
+    (pat-row-eat-name-star-requires t)
+    (pat-row-state-requires-2 t)
+    (pat-row-sub-ty-annotation t)
+    (pat-row-ty-annotation-requires t)
+    (pat-row-state-requires-3 t)
+    (pat-row-sub-as-pat-tl t)
+    (pat-row-as-pat-tl-requires t)
+    (pat-row-state-requires-4 t)
+    (pat-row-close-requires-3 t)
+    (pat-row-same-length-4 t)
+    (pat-row-same-length-5 t)
+    (pat-row-returns-4 t))
+    (λ t. pat-rows-lts.spec
+    (row-turn-below t, row-turn.Post)
+    (pat-rows-at t)
+    pat-rows.Post
+    pat-rows-Inv-loop
+    pat-rows-μ-loop
+    (pat-rows-loop-holds t)
+    (pat-rows-row-turn-requires t)
+    (pat-rows-enum-known-turn t)
+    (pat-rows-loop-less t)
+    (pat-rows-loop-again t)
+    (pat-rows-enum-known-turn-2 t)
+    (pat-rows-same-length t)
+    (pat-rows-same-length-2 t)
+    (pat-rows-returns t))
+    (λ t. pat-step-lts.spec (
+      peek-reads.Asked,
+      peek-reads.Learnt,
+      name-star-reads.Asked,
+      name-star-reads.Learnt,
+      op-step-below t,
+      op-step.Post,
+      or-step-below t,
+      or-step.Post,
+      ascription-reads.Asked,
+      ascription-reads.Learnt,
+      typed-step-reads.Asked,
+      typed-step-reads.Learnt,
+      as-step-below t,
+      as-step.Post,
+    )
+    (pat-step-at t)
+    pat-step.Post
+    (pat-step-peek-requires t)
+    (pat-step-enum-known-k t)
+    (pat-step-enum-told t)
+    (pat-step-returns t)
+    (pat-step-name-star-requires t)
+    (pat-step-op-step-requires t)
+    (pat-step-same-length t)
+    (pat-step-same-length-2 t)
+    (pat-step-returns-2 t)
+    (pat-step-or-step-requires t)
+    (pat-step-same-length-3 t)
+    (pat-step-same-length-4 t)
+    (pat-step-returns-3 t)
+    (pat-step-ascription-requires t)
+    (pat-step-typed-step-requires t)
+    (pat-step-same-length-5 t)
+    (pat-step-same-length-6 t)
+    (pat-step-returns-4 t)
+    (pat-step-as-step-requires t)
+    (pat-step-same-length-7 t)
+    (pat-step-same-length-8 t)
+    (pat-step-returns-5 t)
+    (pat-step-returns-6 t))
+    (λ t. pat-tail-lts.spec
+    (pat-step-below t, pat-step.Post)
+    (pat-tail-at t)
+    pat-tail.Post
+    pat-tail-Inv-loop
+    pat-tail-μ-loop
+    (pat-tail-loop-holds t)
+    (pat-tail-pat-step-requires t)
+    (pat-tail-enum-known-step t)
+    (pat-tail-loop-less t)
+    (pat-tail-loop-again t)
+    (pat-tail-enum-known-step-2 t)
+    (pat-tail-same-length t)
+    (pat-tail-same-length-2 t)
+    (pat-tail-returns t))
+    (λ t. row-item-lts.spec (
+      refuse-reads.Asked,
+      refuse-reads.Learnt,
+      mark-reads.Asked,
+      mark-reads.Learnt,
+      pat-row-below t,
+      pat-row.Post,
+      at-reads.Asked,
+      at-reads.Learnt,
+      bump-reads.Asked,
+      bump-reads.Learnt,
+      close-reads.Asked,
+      close-reads.Learnt,
+    )
+    (row-item-at t)
+    row-item.Post
+    (row-item-refuse-requires t)
+    (row-item-returns t)
+    (row-item-mark-requires t)
+    (row-item-sub-pat-row t)
+    (row-item-pat-row-requires t)
+    (row-item-at-requires t)
+    (row-item-bump-requires t)
+    (row-item-close-requires t)
+    (row-item-same-length t)
+    (row-item-same-length-2 t)
+    (row-item-returns-2 t)
+    (row-item-close-requires-2 t)
+    (row-item-same-length-3 t)
+    (row-item-same-length-4 t)
+    (row-item-returns-3 t))
+    (λ t. row-turn-lts.spec (
+      at-reads.Asked,
+      at-reads.Learnt,
+      bump-reads.Asked,
+      bump-reads.Learnt,
+      row-item-below t,
+      row-item.Post,
+      eat-reads.Asked,
+      eat-reads.Learnt,
+      state-reads.Asked,
+      state-reads.Learnt,
+    )
+    (row-turn-at t)
+    row-turn.Post
+    (row-turn-at-requires t)
+    (row-turn-bump-requires t)
+    (row-turn-same-length t)
+    (row-turn-returns t)
+    (row-turn-row-item-requires t)
+    (row-turn-enum-known-item t)
+    (row-turn-enum-known-item-2 t)
+    (row-turn-eat-requires t)
+    (row-turn-state-requires t)
+    (row-turn-same-length-2 t)
+    (row-turn-same-length-3 t)
+    (row-turn-returns-2 t)
+    (row-turn-same-length-4 t)
+    (row-turn-same-length-5 t)
+    (row-turn-returns-3 t))
+    λ t. vector-lts.spec (
+      refuse-reads.Asked,
+      refuse-reads.Learnt,
+      mark-reads.Asked,
+      mark-reads.Learnt,
+      eat-reads.Asked,
+      eat-reads.Learnt,
+      state-reads.Asked,
+      state-reads.Learnt,
+      pat-args-below t,
+      pat-args.Post,
+      close-reads.Asked,
+      close-reads.Learnt,
+    )
+    (vector-at t)
+    vector.Post
+    (vector-refuse-requires t)
+    (vector-returns t)
+    (vector-mark-requires t)
+    (vector-eat-requires t)
+    (vector-state-requires t)
+    (vector-sub-pat-args t)
+    (vector-pat-args-requires t)
+    (vector-close-requires t)
+    (vector-same-length t)
+    (vector-same-length-2 t)
+    (vector-returns-2 t)

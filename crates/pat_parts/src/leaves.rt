@@ -1,0 +1,145 @@
+// The parts of pat.rs that call no rule for patterns.
+use crate::Head;
+use crate::PatPrec;
+use crate::cases::is_infix;
+use crate::cases::reports;
+use parser::Found;
+use parser::State;
+use parser::TOO_DEEP;
+use parser::at;
+use parser::bump;
+use parser::close;
+use parser::kind;
+use parser::util::InfixErr;
+use parser::util::path;
+use parser::util::path_infix;
+use parser::util::path_no_infix;
+use parser::util::should_break;
+use sml_fixity::Infix;
+use ty::ARROW;
+use ty::ty_must;
+ghost use mathlib.Core.Path.{_≡_};
+ghost use mathlib.Core.Bool.{Bool, true, false};
+ghost use Prim.Native.Nat.{ℕ, suc, _+_, _-_, _*_, _<_};
+ghost use Rattle.grammar.specs.Pat as pat;
+ghost use Rattle.sml_fixity.specs.Fix.{infixOf};
+ghost use Rattle.parser.specs.View.{Sound, mem, errOf, outState, outVal};
+ghost use Rattle.parser.specs.Runs.{Always, Runs, RunsIn};
+ghost use Rattle.pat_parts.specs.Prec.{precOf, headState, headVal};
+
+// Whether an infix name ends the climb.
+pub fn should_break_pat(
+    text: &[u8],
+    toks: &[u8],
+    env: &[u8],
+    table: &[u8],
+    scratch: &mut [u8],
+    finds: &mut [u8],
+    op: Infix,
+    min: PatPrec,
+    s: State,
+) -> Found
+    requires { ⌜ Sound (mem (now text) (now toks) (now env) (now table) (now scratch) (now finds) s) ⌝ }
+    ensures { λ r. ⌜ ((g : Bool) → Always (pat.shouldBreakPat {g = g} (infixOf op) (precOf min)) (mem (now (text .entry)) (now (toks .entry)) (now (env .entry)) (now (table .entry)) (now (scratch .entry)) (now (finds .entry)) s) (mem (now (text .entry)) (now (toks .entry)) (now (env .entry)) (now (table .entry)) (now (scratch .exit)) (now (finds .exit)) (outState r)) (outVal r)) ⌝ }
+{
+    match min {
+        PatPrec::Min => Found::Missing(s),
+        PatPrec::Or => Found::Missing(s),
+        PatPrec::Infix(over) => should_break(text, toks, env, table, scratch, finds, op, over, s),
+    }
+}
+
+// The path of a constructor without `op`.
+pub fn con_path(
+    text: &[u8],
+    toks: &[u8],
+    env: &[u8],
+    table: &[u8],
+    scratch: &mut [u8],
+    finds: &mut [u8],
+    left: usize,
+    e: InfixErr,
+    s: State,
+) -> Found
+    requires { ⌜ Sound (mem (now text) (now toks) (now env) (now table) (now scratch) (now finds) s) ⌝ }
+    ensures { λ r. ⌜ Runs left (pat.conPath {g = true} (errOf e)) (mem (now (text .entry)) (now (toks .entry)) (now (env .entry)) (now (table .entry)) (now (scratch .entry)) (now (finds .entry)) s) (mem (now (text .entry)) (now (toks .entry)) (now (env .entry)) (now (table .entry)) (now (scratch .exit)) (now (finds .exit)) (outState r)) (outVal r) ⌝ }
+{
+    if reports(e) {
+        path_no_infix(text, toks, env, table, scratch, finds, left, s)
+    } else {
+        path(text, toks, env, table, scratch, finds, left, s)
+    }
+}
+
+// The path of a constructor.
+pub fn con_name(
+    text: &[u8],
+    toks: &[u8],
+    env: &[u8],
+    table: &[u8],
+    scratch: &mut [u8],
+    finds: &mut [u8],
+    left: usize,
+    e: InfixErr,
+    s: State,
+) -> Found
+    requires { ⌜ Sound (mem (now text) (now toks) (now env) (now table) (now scratch) (now finds) s) ⌝ }
+    ensures { λ r. ⌜ Runs left (pat.conName {g = true} (errOf e)) (mem (now (text .entry)) (now (toks .entry)) (now (env .entry)) (now (table .entry)) (now (scratch .entry)) (now (finds .entry)) s) (mem (now (text .entry)) (now (toks .entry)) (now (env .entry)) (now (table .entry)) (now (scratch .exit)) (now (finds .exit)) (outState r)) (outVal r) ⌝ }
+{
+    if at(toks, kind::OP_KW, s) {
+        path_infix(text, toks, env, table, scratch, finds, left, s)
+    } else {
+        con_path(text, toks, env, table, scratch, finds, left, e, s)
+    }
+}
+
+// The end of a constructor pattern that started at `b`, at an infix name.
+pub fn con_op(
+    text: &[u8],
+    toks: &[u8],
+    env: &[u8],
+    table: &[u8],
+    scratch: &mut [u8],
+    finds: &mut [u8],
+    left: usize,
+    op: Infix,
+    min: PatPrec,
+    b: usize,
+    s: State,
+) -> Head
+    requires { ⌜ Sound (mem (now text) (now toks) (now env) (now table) (now scratch) (now finds) s) × (b < 4294967296) ⌝ }
+    ensures { λ r. ⌜ RunsIn left b (pat.conOp (infixOf op) (precOf min)) (mem (now (text .entry)) (now (toks .entry)) (now (env .entry)) (now (table .entry)) (now (scratch .entry)) (now (finds .entry)) s) (mem (now (text .entry)) (now (toks .entry)) (now (env .entry)) (now (table .entry)) (now (scratch .exit)) (now (finds .exit)) (headState r)) (headVal r) ⌝ }
+{
+    let ends = should_break_pat(text, toks, env, table, scratch, finds, op, min, s);
+    match ends {
+        Found::At(s1) => Head::Stop(close(scratch, kind::CON_PAT, b, s1)),
+        Found::Missing(s1) => Head::AtOp(close(scratch, kind::CON_PAT, b, s1)),
+    }
+}
+
+// `:` or `:>`, and the type behind it, where they may stand.
+pub fn typed_step(
+    text: &[u8],
+    toks: &[u8],
+    env: &[u8],
+    table: &[u8],
+    scratch: &mut [u8],
+    finds: &mut [u8],
+    left: usize,
+    min: PatPrec,
+    b: usize,
+    s: State,
+) -> Found
+    requires { ⌜ Sound (mem (now text) (now toks) (now env) (now table) (now scratch) (now finds) s) × (b < 4294967296) ⌝ }
+    ensures { λ r. ⌜ RunsIn left b (pat.typedStep (precOf min)) (mem (now (text .entry)) (now (toks .entry)) (now (env .entry)) (now (table .entry)) (now (scratch .entry)) (now (finds .entry)) s) (mem (now (text .entry)) (now (toks .entry)) (now (env .entry)) (now (table .entry)) (now (scratch .exit)) (now (finds .exit)) (outState r)) (outVal r) ⌝ }
+{
+    if is_infix(min) {
+        return Found::Missing(s);
+    }
+    if left == 0 {
+        return Found::At(s.refuse(TOO_DEEP));
+    }
+    let s1 = bump(toks, scratch, s.mark());
+    let s2 = ty_must(text, toks, env, table, scratch, finds, left - 1, ARROW, s1);
+    Found::At(close(scratch, kind::TYPED_PAT, b, s2))
+}
