@@ -12,10 +12,10 @@ use Rattle.grammar.specs.Prog.Look.{index, says, number, mode}
 use Rattle.grammar.specs.Prog.Act.{takeAs}
 use Rattle.grammar.specs.Rule.{Rule, PatPrec, InfixErr}
 use Rattle.grammar.specs.Rule.Rule.{dec, strExp, sigExp}
-use Rattle.grammar.specs.Util.{is, ifKind, ifNone, when, done, plain, expected, eat, want, bumpIf, commaSep, manySep, maybeSemiSep, isNameStar, isNameStarEq, isAscription, bumpAscription, eatNameStar, path, pathMust}
+use Rattle.grammar.specs.Util.{is, ifKind, ifNone, when, done, plain, expected, eat, want, choose, bumpIf, commaSep, manySep, maybeSemiSep, isNameStar, isNameStarEq, isAscription, bumpAscription, eatNameStar, path, pathMust}
 use Rattle.grammar.specs.Ty.{ty, tyVarSeq, ofTy, tyAnnotation}
 use Rattle.grammar.specs.Pat.{pat, patMust, atPat, atPatMust, asPatTl}
-use Rattle.grammar.specs.Exp.{exp, expOpt, eqExp}
+use Rattle.grammar.specs.Exp.{exp, expOpt, eqExp, arm}
 use Rattle.grammar.specs.SyntaxKind as SK
 use Rattle.grammar.specs.ErrorKind as EK
 
@@ -402,6 +402,18 @@ functorBind = do
     strMust
     ret 1)
 
+-- util.rs, `many_sep`: the closure that the kind of its node names, of those whose items hold expressions, structures or signatures.
+-- For contracts of code: no rule is made of it.
+unfoldable pub manyClosure : ℕ → InfixErr → Prog Rule true
+manyClosure wrap e =
+    choose (eqb wrap SK.Arm) arm
+    (choose (eqb wrap SK.ValBind) (valBind e)
+    (choose (eqb wrap SK.FunBind) (funBind e)
+    (choose (eqb wrap SK.FunBindCase) (funCase e)
+    (choose (eqb wrap SK.ExBind) exBind
+    (choose (eqb wrap SK.StrBind) strBind
+    (choose (eqb wrap SK.SigBind) sigBind functorBind))))))
+
 -- dec.rs, `es_import_spec`: the kinds of its name
 abbrev pub isNameOrString : ℕ → Bool
 isNameOrString k = is k SK.Name || is k SK.StringLit
@@ -619,6 +631,10 @@ decWithTail e = marked (from (do
     ret t) (do
       sharings
       done SK.DecWithTail)))
+
+-- util.rs, `maybe_semi_sep`: the closure that the kind of its node names. For contracts of code: no rule is made of it.
+unfoldable pub semiClosure : ℕ → InfixErr → Prog Rule true
+semiClosure wrap e = choose (eqb wrap SK.Dec) (decWithTail e) (decOne e)
 
 -- dec.rs, `dec`. The scope serves no node.
 unfoldable pub decs : {g : Bool} → InfixErr → Prog Rule g

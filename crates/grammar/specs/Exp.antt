@@ -8,7 +8,7 @@ use Rattle.grammar.specs.Prog.Prog.{ret, branch, lookup, act, from, clos
 use Rattle.grammar.specs.Prog.Act.{refuse}
 use Rattle.grammar.specs.Rule.{Rule, ExpPrec, InfixErr}
 use Rattle.grammar.specs.Rule.Rule.{expPrec, dec}
-use Rattle.grammar.specs.Util.{is, ifKind, ifNone, when, done, expected, want, bumpIf, endSep, commaSep, manySep, shouldBreak, isNameStarEq, isAscription, pathInfix, pathNoInfix, lab}
+use Rattle.grammar.specs.Util.{is, ifKind, ifNone, when, done, expected, want, choose, bumpIf, endSep, commaSep, manySep, shouldBreak, isNameStarEq, isAscription, pathInfix, pathNoInfix, lab}
 use Rattle.grammar.specs.Ty.{ty}
 use Rattle.grammar.specs.Pat.{pat, isSCon}
 use Rattle.grammar.specs.SyntaxKind as SK
@@ -222,6 +222,10 @@ unfoldable pub appExp : {g : Bool} → Prog Rule g
 appExp = marked (do
   atExpMust
   close SK.AppExp)
+
+-- util.rs, `end_sep`: the closure that the kind of its node names, a row of a record or an expression. For contracts of code: no rule is made of it.
+unfoldable pub endClosure : ℕ → Prog Rule true
+endClosure wrap = choose (eqb wrap SK.ExpRow) expRow exp
 
 -- exp.rs, `should_break_exp`: that a case cannot happen, that the climb goes on or ends, or that two infix names decide.
 -- Verdicts are data, so that a fact about `should_break_exp` has four cases and not thirty-six.

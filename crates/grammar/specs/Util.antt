@@ -57,6 +57,12 @@ want k = do
   eat k
   ret 0
 
+-- The first program where the test holds, and the second otherwise. Unlike `branch` it is one of the two, so that at a number that is known
+-- it is the program that the number names.
+unfoldable pub choose : {g : Bool} → Bool → Prog Rule g → Prog Rule g → Prog Rule g
+choose true p q = p
+choose false p q = q
+
 -- event_parse, `at` and `bump`: a token of this kind is read, where it is next
 unfoldable pub bumpIf : {g : Bool} → ℕ → Prog Rule g
 bumpIf want = do

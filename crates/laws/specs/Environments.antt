@@ -106,7 +106,7 @@ match-still = search (stills, many-still, want-still, exp-still) depth 40 fits 1
 
 at-exp-still : {g : Bool} → Still Kind g E.atExp
 unfolding E.atExp E.atExpHead E.atExpLeaf E.atExpLRound E.parenEnd E.opExp E.recordUpdate E.updatePath E.expRow E.hashExp E.letExp E.letBody E.eqExp U.lab
-at-exp-still = search (stills, infix-still, no-infix-still, end-still, want-still, exp-still) depth 60 fits 10000
+at-exp-still = search (stills, infix-still, no-infix-still, end-still, exp-still) depth 60 fits 10000
 
 -- one case for each verdict
 decide-still : {g : Bool} (v : E.Verdict) → Still Kind g (E.decide v)

@@ -3,6 +3,7 @@ use Prim.Native.Nat.{ℕ}
 use mathlib.Core.Path.{_≡_, refl}
 use mathlib.Core.Option.{Option}
 use mathlib.Core.Bool.{Bool, true, false}
+use lib.Dec.{eqb}
 use Rattle.grammar.specs.Env as Env
 use Rattle.grammar.specs.World.{World, Out}
 use Rattle.grammar.specs.Prog.{Prog, _>>_, eval, rule}
@@ -128,7 +129,7 @@ module _ (ρ : ℕ → ℕ → Rule → World → Out) (grows : Growing ρ) (adv
 
   exp-scope : (n : ℕ) (k : ℕ) (min : ExpPrec) → Moves ρ n (E.expScope min) k Idle
   unfolding E.expScope E.expRest E.expHead E.keyword E.needParens
-  exp-scope n k min = search (moving, at-exp, test (E.isInfix min)) depth 40 fits 10000
+  exp-scope n k min = search (moving, at-exp) depth 40 fits 10000
 
   -- where what is wrapped takes a token unless it gives 0, so does a turn, and so does the whole
   semi-turn : {g : Bool} (wrap : ℕ) (f : Prog Rule true) → ((n k : ℕ) (K : ℕ → Type 0) → K 0 → Moves ρ n f k K)
@@ -180,6 +181,15 @@ module _ (ρ : ℕ → ℕ → Rule → World → Out) (grows : Growing ρ) (adv
   dec-tail e n k K z = moves-cases (U.is k SK.SharingKw)
       (search (moving, semi-sep {g = true} SK.DecInSeq (D.decOne e) (dec-one e), moves-turn, share-takes) depth 40 fits 10000)
       (λ h. search (moving, semi-sep {g = true} SK.DecInSeq (D.decOne e) (dec-one e)) depth 40 fits 10000)
+
+  -- what a kind of node names moves, whichever it is
+  semi-closure : (wrap : ℕ) (e : InfixErr) (n k : ℕ) (K : ℕ → Type 0) → K 0 → Moves ρ n (D.semiClosure wrap e) k K
+  unfolding D.semiClosure U.choose
+  semi-closure wrap e n k K z = go (eqb wrap SK.Dec)
+    where
+      go : (t : Bool) → Moves {g = true} ρ n (U.choose t (D.decWithTail e) (D.decOne e)) k K
+      go true = dec-tail e n k K z
+      go false = dec-one e n k K z
 
   decs : (e : InfixErr) (n k : ℕ) → Moves {g = false} ρ n (D.decs e) k Idle
   unfolding D.decs
@@ -255,6 +265,9 @@ module _ (g : Bool) where
 
   pub dec-one-advances : (e : InfixErr) (n b : ℕ) → Advances (eval (rule Root.body) n b (U.semiTurn {g = g} SK.DecInSeq (D.decOne e)))
   dec-one-advances e = turns (U.semiTurn SK.DecInSeq (D.decOne e)) (λ ρ grows adv n k. semi-turn ρ grows adv SK.DecInSeq (D.decOne e) (dec-one ρ grows adv e) n k Idle refl)
+
+  pub semi-turn-advances : (wrap : ℕ) (e : InfixErr) (n b : ℕ) → Advances (eval (rule Root.body) n b (U.semiTurn {g = g} wrap (D.semiClosure wrap e)))
+  semi-turn-advances wrap e = turns (U.semiTurn wrap (D.semiClosure wrap e)) (λ ρ grows adv n k. semi-turn ρ grows adv wrap (D.semiClosure wrap e) (semi-closure ρ grows adv wrap e) n k Idle refl)
 
   pub sharing-advances : (n b : ℕ) → Advances (eval (rule Root.body) n b (D.sharingTurn {g = g}))
   sharing-advances = turns D.sharingTurn (λ ρ grows adv n k. share-turn ρ grows adv n k)

@@ -12,11 +12,11 @@ use borrow.Author.Tests.{eq-eqb, ne-eqb, lt-ltb, le-ltb, eqb-true, eqb-false}
 use lib.Dec.{eqb}
 use Rattle.grammar.specs.Tokens.{Token, live, kindAt}
 use Rattle.grammar.specs.SyntaxKind as SK
-use Rattle.grammar.specs.World.{World, Rec, tokenIn, tokenAhead, ahead, indexAhead, noName, refuse, withRecord, placeIn, takeIn, mark, take1, end, report, noScratch, noFindings}
+use Rattle.grammar.specs.World.{World, Rec, tokenIn, tokenAhead, ahead, indexAhead, modeOf, noName, refuse, withRecord, placeIn, takeIn, mark, take1, end, report, noScratch, noFindings}
 use Rattle.grammar.specs.World.Rec.{took}
 use Rattle.grammar.specs.World.World.{refused, on}
 use Rattle.grammar.specs.Prog.{seen}
-use Rattle.grammar.specs.Prog.Look.{kind}
+use Rattle.grammar.specs.Prog.Look.{kind, mode}
 use Rattle.parser.specs.declared.State.{State}
 use Rattle.parser.specs.declared.Found.the-variants.{At, Missing}
 use Rattle.parser.specs.View.{Mem, mem, Reads, Logs, Sound, Next, Did, Kept, Saw, Is, Spells, Marks, Bumps, Adds, Tells, chunks, recOf, findOf, putAt, restOf, nowOf, seenIn, refusedBy, sinceOf, tookTag, endedTag}
@@ -121,6 +121,16 @@ module _ {s : State} where
   pub spells-at : s .stop ≡ 0 → s .at < s .count → Spells s (s .at)
   unfolding seen indexAhead tokenIn
   spells-at h p = record { small = λ q. omega arith; same = λ x t e j l f o. rw (token-on (mem x t e j l f s) 0 h, live-token x t (s .count) (s .at) p (o .reads .ready p), seen, indexAhead) }
+
+-- the mode
+module _ {toks : List ℕ} {s : State} where
+  pub mode-off : (s .stop ≡ 0 → ⊥) → Saw mode toks s 0
+  unfolding seen modeOf
+  mode-off h = record { same = λ x e j l f. rw (seen-off (mem x toks e j l f s) h) }
+
+  pub mode-on : s .stop ≡ 0 → Saw mode toks s (s .mode)
+  unfolding seen modeOf nowOf
+  mode-on h = record { same = λ x e j l f. rw (seen-on (mem x toks e j l f s) h) }
 
 -- ---- what `ok_since` leaves
 

@@ -21,12 +21,11 @@ use Rattle.sml_fixity.specs.Table.{Stands, entriesIn, inForce}
 use Rattle.sml_fixity.specs.Names.{by-test}
 use Rattle.sml_fixity.proofs.Journals.{force-kept, journal-kept}
 use Rattle.parser.specs.View.{Mem, mem, Sound, seenIn, nowOf, chunks, recOf, findOf, Kept, outState, outVal, sinceOf, backOf, tableIn, restOf}
-use Rattle.parser.specs.Runs.{RunsIn, Runs, runs-in, shut, length-chunks}
+use Rattle.parser.specs.Runs.{RunsIn, shut, length-chunks}
 use Rattle.parser.specs.Plans.{Plan, Steps, s-run}
 use Rattle.parser.specs.Plans.Plan.{runs}
 use Rattle.parser.specs.declared.State.{State}
 use Rattle.parser.specs.declared.Found.{Found}
-use Rattle.parser.specs.declared.Found.the-variants.{At, Missing}
 
 -- ---- a buffer's first records
 
@@ -218,24 +217,11 @@ module _ {g : Bool} {n b : ℕ} {p : Prog Rule g} {f : ℕ → ℕ → Plan} {x 
 
 -- ---- what a call behind them requires
 
--- the fixities were given back
-pub ok-scoped : {x t e j l y j' l' y' : List ℕ} {s s' r : State} → Kept (mem x t e j l y s) (mem x t e j' l' y' s') → r ≡ backOf s s' → Sound (mem x t e j l y s) → Sound (mem x t e j' l' y' s') → Sound (mem x t e j' l' y' r)
-ok-scoped k q o o' = rw q (sound-back k o o')
+module _ {g : Bool} {n b u : ℕ} {p : Prog Rule g} {x t e j l y j' l' y' : List ℕ} {s s' : State} (q : RunsIn n b p (mem x t e j l y s) (mem x t e j' l' y' s') u) where
+  -- the fixities were given back
+  pub ok-back : {r : State} → r ≡ backOf s s' → Sound (mem x t e j l y s) → Sound (mem x t e j' l' y' r)
+  ok-back w o = runs-scoped o q w .ok
 
-module _ {g : Bool} {n u : ℕ} {p : Prog Rule g} {x t e j l y j' l' y' : List ℕ} {s s' r : State} where
-  -- what was tried stays
-  pub ok-tried : {b : ℕ} → RunsIn n b p (mem x t e j l y s) (mem x t e j' l' y' s') u → At r ≡ sinceOf s s' → Sound (mem x t e j l y s) → Sound (mem x t e j' l' y' r)
-  ok-tried q w o = runs-attempt o q w .ok
-
-  pub ok-any-tried : Runs n p (mem x t e j l y s) (mem x t e j' l' y' s') u → At r ≡ sinceOf s s' → Sound (mem x t e j l y s) → Sound (mem x t e j' l' y' r)
-  ok-any-tried q w o = runs-attempt {b = 0} o (runs-in q) w .ok
-
-  -- or the state is back
-  pub ok-failed : {b : ℕ} → RunsIn n b p (mem x t e j l y s) (mem x t e j' l' y' s') u → Missing r ≡ sinceOf s s' → Sound (mem x t e j l y s) → Sound (mem x t e j' l' y' r)
-  ok-failed q w o = runs-attempt o q w .ok
-
-  pub ok-any-failed : Runs n p (mem x t e j l y s) (mem x t e j' l' y' s') u → Missing r ≡ sinceOf s s' → Sound (mem x t e j l y s) → Sound (mem x t e j' l' y' r)
-  ok-any-failed q w o = runs-attempt {b = 0} o (runs-in q) w .ok
-
--- for a search beside `asks`
-pub ruleset back-asks = (ok-scoped, ok-tried, ok-any-tried, ok-failed, ok-any-failed)
+  -- what was tried stays, or the state is back
+  pub ok-since : {r : Found} → r ≡ sinceOf s s' → Sound (mem x t e j l y s) → Sound (mem x t e j' l' y' (outState r))
+  ok-since w o = runs-attempt o q w .ok

@@ -10,11 +10,12 @@ use lib.Dec.{eqb}
 use Rattle.grammar.specs.Env as Env
 use Rattle.grammar.specs.World.{World, Out, out, ahead, fixityAhead, refuse, lengthOf, tooDeep}
 use Rattle.grammar.specs.World as world
-use Rattle.grammar.specs.Prog.{Prog, Look as Ask, Act, seen, does, eval, rule}
+use Rattle.grammar.specs.Prog.{Prog, Look as Ask, Act, Reason, answerOf, seen, does, eval, rule}
 use Rattle.grammar.specs.Prog.Look.{kind, index}
-use Rattle.grammar.specs.Prog.Act.{take, report}
+use Rattle.grammar.specs.Prog.Act.{take, report, refuse as refuses}
 use Rattle.grammar.specs.Prog.Prog.{ret, bind, branch, look, lookup, act, from, close, marked, loop, scoped, attempt, call}
 use Rattle.grammar.specs.Rule.{Rule}
+use Rattle.grammar.specs.Util as Util
 use Rattle.grammar.specs.Root.{body}
 use Rattle.laws.specs.Laws.{unfold-rule}
 use Rattle.sml_fixity.specs.Fix.{fixityOf}
@@ -162,6 +163,16 @@ module _ {a e : Mem} {v : ℕ} {t : Bool} (p q : Plan) where
   unfolding choose
   s-false h s = rw h s
 
+-- a test of the number that names a program
+module _ {g : Bool} {a e : Mem} {v : ℕ} {t : Bool} (n b l : ℕ) (p q : Prog Rule g) (f : ℕ → ℕ → Plan) where
+  pub s-first : t ≡ true → Steps (plan n b l p f) a e v → Steps (plan n b l (Util.choose t p q) f) a e v
+  unfolding Util.choose
+  s-first h s = rw h s
+
+  pub s-second : t ≡ false → Steps (plan n b l q f) a e v → Steps (plan n b l (Util.choose t p q) f) a e v
+  unfolding Util.choose
+  s-second h s = rw h s
+
 module _ {a e : Mem} {v : ℕ} {f : ℕ → Plan} where
   seen-so : {x : Ask} {u : ℕ} → u ≡ seen x (seenIn a) → Steps (f u) a e v → Steps (sees x f) a e v
   unfolding means
@@ -245,6 +256,18 @@ module _ {f : ℕ → Plan} {e : Mem} {v : ℕ} where
           next (ok-refused tooDeep q o) (kept-same (ap (λ (s : State). s .fixes) q)) (told f (mem x t n j l h s') (refuse tooDeep (seenIn a)) (rw q (refused-same tooDeep a (λ z. omega arith))) ∙ ap (λ (t : Bool).
           elim t [ true ↦ means (f (lengthOf (refuse tooDeep (seenIn a)))) (refuse tooDeep (seenIn a)) | false ↦ means (g (lengthOf (world.mark (seenIn a)))) (world.mark (seenIn a)) ]) (sym (eq-eqb m 0 z))) r;
     }
+
+-- a refusal of a case that cannot happen
+pub s-refuse : {y : Reason} {f : ℕ → Plan} {x t n j l h : List ℕ} {s s' : State} {e : Mem} {v : ℕ} → s' ≡ refusedBy (answerOf y) s
+    → Steps (f (s' .len)) (mem x t n j l h s') e v → Steps (acts (refuses y) f) (mem x t n j l h s) e v
+unfolding does
+s-refuse {y} {f} {x} {t} {n} {j} {l} {h} {s} {s'} q r = record {
+  go = λ o. did o (record { ok = ok-refused (answerOf y) q o; same = rw q (refused-same (answerOf y) (mem x t n j l h s) (not-zero y)); kept = kept-same (ap (λ (s : State). s .fixes) q) }) r;
+}
+  where
+    not-zero : (y : Reason) → answerOf y ≡ 0 → ⊥
+    not-zero Reason.deep z = omega arith
+    not-zero Reason.unreachable z = omega arith
 
 -- ---- calls
 

@@ -21,6 +21,9 @@ pub const NO_SCRATCH: u8 = 5;
 
 pub const NO_FINDINGS: u8 = 7;
 
+// One of the cases of `should_break_exp` that cannot happen.
+pub const IMPOSSIBLE: u8 = 10;
+
 // The name of a finding that carries none.
 pub const NO_NAME: usize = 65535;
 
@@ -283,4 +286,14 @@ pub fn index(s: State) -> usize
         return NO_NAME;
     }
     if s.at < s.count { s.at } else { NO_NAME }
+}
+
+// The mode of the call.
+pub fn mode(toks: &[u8], s: State) -> u8
+    ensures { λ r. ⌜ Saw Ask.mode (now (toks .entry)) s r ⌝ }
+{
+    if s.stop != 0 {
+        return 0;
+    }
+    s.mode
 }

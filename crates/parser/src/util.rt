@@ -101,6 +101,24 @@ pub fn eat(
     }
 }
 
+// The same, where it does not matter which.
+pub fn want(
+    text: &[u8],
+    toks: &[u8],
+    env: &[u8],
+    table: &[u8],
+    scratch: &mut [u8],
+    finds: &mut [u8],
+    k: u8,
+    s: State,
+) -> State
+    requires { ⌜ Sound (mem (now text) (now toks) (now env) (now table) (now scratch) (now finds) s) × (k < 128) ⌝ }
+    ensures { λ r. ⌜ Always (util.want {g = true} k) (mem (now (text .entry)) (now (toks .entry)) (now (env .entry)) (now (table .entry)) (now (scratch .entry)) (now (finds .entry)) s) (mem (now (text .entry)) (now (toks .entry)) (now (env .entry)) (now (table .entry)) (now (scratch .exit)) (now (finds .exit)) r) 0 ⌝ }
+{
+    let got = eat(text, toks, env, table, scratch, finds, k, s);
+    got.state()
+}
+
 // Takes a token of a kind, where it is next.
 pub fn bump_if(
     text: &[u8],

@@ -93,27 +93,27 @@ pub fn pat_prec(
 {
     let b = s.len;
     let Look::Kind(k) = peek(toks, s) else {
-        return atom_pat(text, toks, env, table, scratch, finds, left, min, e, b, s);
+        return atom(text, toks, env, table, scratch, finds, left, min, e, b, s);
     };
     if name_star(k) {
-        return con_pat(text, toks, env, table, scratch, finds, left, min, e, b, s);
+        return con(text, toks, env, table, scratch, finds, left, min, e, b, s);
     }
     if k == kind::OP_KW {
         let Look::Kind(k1) = peek_n(toks, 1, s) else {
-            return atom_pat(text, toks, env, table, scratch, finds, left, min, e, b, s);
+            return atom(text, toks, env, table, scratch, finds, left, min, e, b, s);
         };
         if name_star(k1) {
-            return con_pat(text, toks, env, table, scratch, finds, left, min, e, b, s);
+            return con(text, toks, env, table, scratch, finds, left, min, e, b, s);
         }
-        return atom_pat(text, toks, env, table, scratch, finds, left, min, e, b, s);
+        return atom(text, toks, env, table, scratch, finds, left, min, e, b, s);
     }
-    atom_pat(text, toks, env, table, scratch, finds, left, min, e, b, s)
+    atom(text, toks, env, table, scratch, finds, left, min, e, b, s)
 }
 
 // A pattern that starts with a constructor.
 // measure: 64 * left + 4
 // unfolds: pat.patTail
-fn con_pat(
+fn con(
     text: &[u8],
     toks: &[u8],
     env: &[u8],
@@ -133,12 +133,12 @@ fn con_pat(
     match head {
         Head::Missing(s1) => Found::Missing(s1),
         Head::GoOn(s1) => {
-            let s2 = pat_tail(text, toks, env, table, scratch, finds, left, min, e, b, s1);
+            let s2 = tail(text, toks, env, table, scratch, finds, left, min, e, b, s1);
             Found::At(s2)
         }
         Head::AtOp(s1) => {
             let s2 = op_tail(text, toks, env, table, scratch, finds, left, e, b, s1);
-            let s3 = pat_tail(text, toks, env, table, scratch, finds, left, min, e, b, s2);
+            let s3 = tail(text, toks, env, table, scratch, finds, left, min, e, b, s2);
             Found::At(s3)
         }
         Head::Stop(s1) => Found::At(s1),
@@ -209,7 +209,7 @@ fn con_turn(
         let fix = fixity_at(text, toks, env, table, 0, s);
         match fix {
             Fixity::Nonfix => {
-                let s1 = at_pat_must(text, toks, env, table, scratch, finds, left, e, s);
+                let s1 = at_must(text, toks, env, table, scratch, finds, left, e, s);
                 return Head::GoOn(close(scratch, kind::CON_PAT, b, s1));
             }
             Fixity::Is(op) => {
@@ -218,7 +218,7 @@ fn con_turn(
         }
     }
     if arg(k) {
-        let s1 = at_pat_must(text, toks, env, table, scratch, finds, left, e, s);
+        let s1 = at_must(text, toks, env, table, scratch, finds, left, e, s);
         return Head::GoOn(close(scratch, kind::CON_PAT, b, s1));
     }
     Head::GoOn(close(scratch, kind::CON_PAT, b, s))
@@ -244,13 +244,13 @@ fn op_tail(
     let fix = fixity_at(text, toks, env, table, 0, s);
     match fix {
         Fixity::Nonfix => s,
-        Fixity::Is(op) => infix_pat(text, toks, env, table, scratch, finds, left, op, e, b, s),
+        Fixity::Is(op) => inf_pat(text, toks, env, table, scratch, finds, left, op, e, b, s),
     }
 }
 
 // A pattern that starts with no constructor.
 // measure: 64 * left + 4
-fn atom_pat(
+fn atom(
     text: &[u8],
     toks: &[u8],
     env: &[u8],
@@ -270,7 +270,7 @@ fn atom_pat(
     match got {
         Found::Missing(s1) => Found::Missing(s1),
         Found::At(s1) => {
-            let s2 = pat_tail(text, toks, env, table, scratch, finds, left, min, e, b, s1);
+            let s2 = tail(text, toks, env, table, scratch, finds, left, min, e, b, s1);
             Found::At(s2)
         }
     }
@@ -279,7 +279,7 @@ fn atom_pat(
 // What follows a pattern that started at `b`.
 // measure: 64 * left + 3
 // advances: pat-step-advances _ _
-fn pat_tail(
+fn tail(
     text: &[u8],
     toks: &[u8],
     env: &[u8],
@@ -297,8 +297,8 @@ fn pat_tail(
 {
     let mut s1 = s;
     loop {
-        let step = pat_step(text, toks, env, table, scratch, finds, left, min, e, b, s1);
-        match step {
+        let turn = step(text, toks, env, table, scratch, finds, left, min, e, b, s1);
+        match turn {
             Found::At(s2) => s1 = s2,
             Found::Missing(s2) => return s2,
         }
@@ -307,7 +307,7 @@ fn pat_tail(
 
 // One of it: an infix pattern, `|`, a type or `as`.
 // measure: 64 * left + 2
-fn pat_step(
+fn step(
     text: &[u8],
     toks: &[u8],
     env: &[u8],
@@ -370,7 +370,7 @@ fn op_step(
             match ends {
                 Found::At(s1) => Found::Missing(s1),
                 Found::Missing(s1) => {
-                    let s2 = infix_pat(text, toks, env, table, scratch, finds, left, op, e, b, s1);
+                    let s2 = inf_pat(text, toks, env, table, scratch, finds, left, op, e, b, s1);
                     Found::At(s2)
                 }
             }
@@ -380,7 +380,7 @@ fn op_step(
 
 // An infix name and the pattern behind it.
 // measure: 64 * left
-fn infix_pat(
+fn inf_pat(
     text: &[u8],
     toks: &[u8],
     env: &[u8],
@@ -502,7 +502,7 @@ pub fn as_pat_tl(
 
 // `at_pat`, or the finding that there is no pattern.
 // measure: 64 * left + 1
-pub fn at_pat_must(
+pub fn at_must(
     text: &[u8],
     toks: &[u8],
     env: &[u8],
@@ -598,13 +598,13 @@ fn at_head(
         let s1 = got.state();
         return Found::At(close(scratch, kind::CON_PAT, b, s1));
     }
-    at_rest(text, toks, env, table, scratch, finds, left, k, e, b, s)
+    rest(text, toks, env, table, scratch, finds, left, k, e, b, s)
 }
 
 // The starts of an atomic pattern that hold others.
 // measure: 64 * left + 4
 // unfolds: util.endSep
-fn at_rest(
+fn rest(
     text: &[u8],
     toks: &[u8],
     env: &[u8],
@@ -622,17 +622,17 @@ fn at_rest(
 {
     if k == kind::LCURLY {
         let s1 = bump(toks, scratch, s);
-        let s2 = pat_rows(text, toks, env, table, scratch, finds, left, e, b, s1);
+        let s2 = rows(text, toks, env, table, scratch, finds, left, e, b, s1);
         return Found::At(close(scratch, kind::RECORD_PAT, b, s2));
     }
     if k == kind::LROUND {
         let s1 = bump(toks, scratch, s);
-        return at_pat_l_round(text, toks, env, table, scratch, finds, left, e, b, s1);
+        return at_round(text, toks, env, table, scratch, finds, left, e, b, s1);
     }
     if k == kind::LSQUARE {
         let s1 = bump(toks, scratch, s);
         let end = kind::RSQUARE;
-        let s2 = pat_args(text, toks, env, table, scratch, finds, left, end, e, b, s1);
+        let s2 = args(text, toks, env, table, scratch, finds, left, end, e, b, s1);
         return Found::At(close(scratch, kind::LIST_PAT, b, s2));
     }
     if k == kind::HASH {
@@ -668,7 +668,7 @@ fn vector(
     let got = eat(text, toks, env, table, scratch, finds, kind::LSQUARE, s1);
     let s2 = got.state();
     let end = kind::RSQUARE;
-    let s3 = pat_args(
+    let s3 = args(
         text,
         toks,
         env,
@@ -687,7 +687,7 @@ fn vector(
 // A pattern that starts with `(`, from behind it on.
 // measure: 64 * left + 3
 // unfolds: util.endSep
-fn at_pat_l_round(
+fn at_round(
     text: &[u8],
     toks: &[u8],
     env: &[u8],
@@ -710,7 +710,7 @@ fn at_pat_l_round(
     match first {
         Found::Missing(s1) => {
             let end = kind::RROUND;
-            let s2 = pat_args(text, toks, env, table, scratch, finds, left, end, e, b, s1);
+            let s2 = args(text, toks, env, table, scratch, finds, left, end, e, b, s1);
             Found::At(close(scratch, kind::TUPLE_PAT, b, s2))
         }
         Found::At(s1) => {
@@ -754,7 +754,7 @@ fn pat_arg(
 // Patterns with commas, up to `end`.
 // measure: 64 * left + 2
 // advances: end-turn-advances true _ _ _ _
-fn pat_args(
+fn args(
     text: &[u8],
     toks: &[u8],
     env: &[u8],
@@ -844,7 +844,7 @@ fn arg_item(
 // The rows of a record pattern, up to `}`.
 // measure: 64 * left + 2
 // advances: end-turn-advances true _ _ _ _
-fn pat_rows(
+fn rows(
     text: &[u8],
     toks: &[u8],
     env: &[u8],
@@ -920,7 +920,7 @@ fn row_item(
     }
     let s1 = s.mark();
     let b = s1.len;
-    let s2 = pat_row(text, toks, env, table, scratch, finds, left - 1, e, s1);
+    let s2 = row(text, toks, env, table, scratch, finds, left - 1, e, s1);
     if at(toks, kind::COMMA, s2) {
         let s3 = bump(toks, scratch, s2);
         return Found::At(close(scratch, kind::PAT_ROW, b, s3));
@@ -930,7 +930,7 @@ fn row_item(
 
 // A row: `...`, a label and its pattern, or a name with what may follow it.
 // measure: 64 * left
-fn pat_row(
+fn row(
     text: &[u8],
     toks: &[u8],
     env: &[u8],
@@ -965,7 +965,7 @@ fn pat_row(
     let s2 = name.state();
     let ty = ty_annotation(text, toks, env, table, scratch, finds, left - 1, s2);
     let s3 = ty.state();
-    let tail = as_pat_tl(text, toks, env, table, scratch, finds, left - 1, e, s3);
-    let s4 = tail.state();
+    let more = as_pat_tl(text, toks, env, table, scratch, finds, left - 1, e, s3);
+    let s4 = more.state();
     close(scratch, kind::LAB_PAT_ROW, b, s4)
 }

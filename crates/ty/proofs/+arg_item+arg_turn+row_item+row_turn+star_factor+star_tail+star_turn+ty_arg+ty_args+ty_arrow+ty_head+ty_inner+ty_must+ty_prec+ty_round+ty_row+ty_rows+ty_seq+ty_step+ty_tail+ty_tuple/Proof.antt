@@ -5,10 +5,11 @@ use Rattle.grammar.specs.Root as root
 use Rattle.grammar.specs.SyntaxKind as SK
 use Rattle.laws.specs.Progress.{end-turn-advances, star-advances, ty-step-advances}
 use Rattle.parser.specs.View.{mem}
-use Rattle.parser.specs.Runs.{asks, runs-in, runs-always, kind-at, kind-off, kind-is, kind-not, ok-bumps, ok-marks, ok-state, Loops, turns, loop-starts, loop-goes, loop-falls, loop-ends}
+use Rattle.parser.specs.Runs.{runs-in, runs-always, kind-at, kind-off, kind-is, kind-not, ok-bumps, ok-marks, ok-state, small-len, Loops, turns, loop-starts, loop-goes, loop-falls, loop-ends}
 use Rattle.parser.specs.Plans.{plan, choose, chosen, in-steps, by-steps, s-rule, s-look, s-kind, s-true, s-false, s-bump, s-close, s-report, s-mark, s-deep, s-by, s-run, settled, s-end}
 use borrow.Author.Tests.{lt-ltb, le-ltb}
 use borrow.Author.Needs.{needs}
+use native.Mathlib.Omega.{arith}
 use mathlib.Core.Path.{_≡_, refl, _∙_}
 use lib.ListN.{length}
 use Prim.Native.Nat.{_+_, _-_, _*_}
@@ -315,10 +316,7 @@ arg-item-refuse-requires : (t : ℕ) → arg-item-lts.Need-refuse-requires (
   close-reads.Learnt,
 ) (arg-item-at t) arg-item.Post
 arg-item-refuse-requires t c κs =
-    let falls = c .before .before .before .before .before .before .before .pre .0 in
-    let pre0 = c .before .before .before .before .before .before .before .pre .1 in
-    let if1 = c .if1 .taken in
-    search asks depth 8
+    tt
 
 arg-item-returns : (t : ℕ) → arg-item-lts.Need-returns (
   refuse-reads.Asked,
@@ -357,10 +355,7 @@ arg-item-mark-requires : (t : ℕ) → arg-item-lts.Need-mark-requires (
   close-reads.Learnt,
 ) (arg-item-at t) arg-item.Post
 arg-item-mark-requires t c κs =
-    let falls = c .before .before .before .before .before .before .before .pre .0 in
-    let pre0 = c .before .before .before .before .before .before .before .pre .1 in
-    let if1 = c .if1 .left in
-    search asks depth 8
+    tt
 
 arg-item-sub-ty-must : (t : ℕ) → arg-item-lts.Need-sub-ty-must (
   refuse-reads.Asked,
@@ -402,7 +397,7 @@ arg-item-ty-must-requires t c κs =
     let if1 = c .before .before .before .if1 .left in
     let mark = c .before .before .mark .ensures in
     let mark-ok = ok-marks mark pre0 in
-    search asks depth 8
+    (omega arith, mark-ok)
 
 arg-item-at-requires : (t : ℕ) → arg-item-lts.Need-at-requires (
   refuse-reads.Asked,
@@ -419,14 +414,9 @@ arg-item-at-requires : (t : ℕ) → arg-item-lts.Need-at-requires (
   close-reads.Learnt,
 ) (arg-item-at t) arg-item.Post
 arg-item-at-requires t c κs =
-    let falls = c .before .before .before .before .before .before .before .before .before .before .before .before .before .before .before .pre .0 in
-    let pre0 = c .before .before .before .before .before .before .before .before .before .before .before .before .before .before .before .pre .1 in
-    let if1 = c .before .before .before .before .before .before .before .before .if1 .left in
-    let mark = c .before .before .before .before .before .before .before .mark .ensures in
-    let mark-ok = ok-marks mark pre0 in
     let ty-must = c .before .before .before .before .ty-must .ensures in
     let ty-must-ok = ty-must .ok in
-    search asks depth 8
+    ty-must-ok .reads
 
 arg-item-bump-requires : (t : ℕ) → arg-item-lts.Need-bump-requires (
   refuse-reads.Asked,
@@ -443,16 +433,9 @@ arg-item-bump-requires : (t : ℕ) → arg-item-lts.Need-bump-requires (
   close-reads.Learnt,
 ) (arg-item-at t) arg-item.Post
 arg-item-bump-requires t c κs =
-    let falls = c .before .before .before .before .before .before .before .before .before .before .before .before .before .before .before .before .before .before .pre .0 in
-    let pre0 = c .before .before .before .before .before .before .before .before .before .before .before .before .before .before .before .before .before .before .pre .1 in
-    let if1 = c .before .before .before .before .before .before .before .before .before .before .before .if1 .left in
-    let mark = c .before .before .before .before .before .before .before .before .before .before .mark .ensures in
-    let mark-ok = ok-marks mark pre0 in
     let ty-must = c .before .before .before .before .before .before .before .ty-must .ensures in
     let ty-must-ok = ty-must .ok in
-    let at = c .before .before .at .ensures in
-    let if2 = c .before .if2 .taken in
-    search asks depth 8
+    (ty-must-ok .reads, ty-must-ok .logs)
 
 arg-item-close-requires : (t : ℕ) → arg-item-lts.Need-close-requires (
   refuse-reads.Asked,
@@ -469,18 +452,14 @@ arg-item-close-requires : (t : ℕ) → arg-item-lts.Need-close-requires (
   close-reads.Learnt,
 ) (arg-item-at t) arg-item.Post
 arg-item-close-requires t c κs =
-    let falls = c .before .before .before .before .before .before .before .before .before .before .before .before .before .before .before .before .before .before .before .before .before .before .pre .0 in
     let pre0 = c .before .before .before .before .before .before .before .before .before .before .before .before .before .before .before .before .before .before .before .before .before .before .pre .1 in
-    let if1 = c .before .before .before .before .before .before .before .before .before .before .before .before .before .before .before .if1 .left in
     let mark = c .before .before .before .before .before .before .before .before .before .before .before .before .before .before .mark .ensures in
     let mark-ok = ok-marks mark pre0 in
     let ty-must = c .before .before .before .before .before .before .before .before .before .before .before .ty-must .ensures in
     let ty-must-ok = ty-must .ok in
-    let at = c .before .before .before .before .before .before .at .ensures in
-    let if2 = c .before .before .before .before .before .if2 .taken in
     let bump = c .before .before .before .bump .ensures in
     let bump-ok = ok-bumps bump ty-must-ok in
-    search asks depth 8
+    (bump-ok .logs, small-len mark-ok)
 
 arg-item-same-length : (t : ℕ) → arg-item-lts.Need-same-length (
   refuse-reads.Asked,
@@ -558,16 +537,12 @@ arg-item-close-requires-2 : (t : ℕ) → arg-item-lts.Need-close-requires-2 (
   close-reads.Learnt,
 ) (arg-item-at t) arg-item.Post
 arg-item-close-requires-2 t c κs =
-    let falls = c .before .before .before .before .before .before .before .before .before .before .before .before .before .before .before .before .before .before .pre .0 in
     let pre0 = c .before .before .before .before .before .before .before .before .before .before .before .before .before .before .before .before .before .before .pre .1 in
-    let if1 = c .before .before .before .before .before .before .before .before .before .before .before .if1 .left in
     let mark = c .before .before .before .before .before .before .before .before .before .before .mark .ensures in
     let mark-ok = ok-marks mark pre0 in
     let ty-must = c .before .before .before .before .before .before .before .ty-must .ensures in
     let ty-must-ok = ty-must .ok in
-    let at = c .before .before .at .ensures in
-    let if2 = c .before .if2 .left in
-    search asks depth 8
+    (ty-must-ok .logs, small-len mark-ok)
 
 arg-item-same-length-3 : (t : ℕ) → arg-item-lts.Need-same-length-3 (
   refuse-reads.Asked,
@@ -642,9 +617,8 @@ arg-turn-at-requires : (t : ℕ) → arg-turn-lts.Need-at-requires (
   state-reads.Learnt,
 ) (arg-turn-at t) arg-turn.Post
 arg-turn-at-requires t c κs =
-    let falls = c .before .before .before .before .before .before .pre .0 in
     let pre0 = c .before .before .before .before .before .before .pre .1 in
-    search asks depth 8
+    pre0 .reads
 
 arg-turn-bump-requires : (t : ℕ) → arg-turn-lts.Need-bump-requires (
   at-reads.Asked,
@@ -659,11 +633,8 @@ arg-turn-bump-requires : (t : ℕ) → arg-turn-lts.Need-bump-requires (
   state-reads.Learnt,
 ) (arg-turn-at t) arg-turn.Post
 arg-turn-bump-requires t c κs =
-    let falls = c .before .before .before .before .before .before .before .before .before .pre .0 in
     let pre0 = c .before .before .before .before .before .before .before .before .before .pre .1 in
-    let at = c .before .before .at .ensures in
-    let if1 = c .before .if1 .taken in
-    search asks depth 8
+    (pre0 .reads, pre0 .logs)
 
 arg-turn-same-length : (t : ℕ) → arg-turn-lts.Need-same-length (
   at-reads.Asked,
@@ -716,9 +687,8 @@ arg-turn-arg-item-requires : (t : ℕ) → arg-turn-lts.Need-arg-item-requires (
 arg-turn-arg-item-requires t c κs =
     let falls = c .before .before .before .before .before .before .before .before .before .before .pre .0 in
     let pre0 = c .before .before .before .before .before .before .before .before .before .before .pre .1 in
-    let at = c .before .before .before .at .ensures in
     let if1 = c .before .before .if1 .left in
-    search asks depth 8
+    (omega arith, pre0)
 
 arg-turn-enum-known-item : (t : ℕ) → arg-turn-lts.Need-enum-known-item (
   at-reads.Asked,
@@ -770,12 +740,11 @@ arg-turn-eat-requires : (t : ℕ) → arg-turn-lts.Need-eat-requires (
 ) (arg-turn-at t) arg-turn.Post
 arg-turn-eat-requires t c κs =
     let falls = c .before .before .before .before .before .before .before .before .before .before .before .before .before .before .before .before .before .before .before .before .pre .0 in
-    let pre0 = c .before .before .before .before .before .before .before .before .before .before .before .before .before .before .before .before .before .before .before .before .pre .1 in
     let at = c .before .before .before .before .before .before .before .before .before .before .before .before .before .at .ensures in
     let if1 = c .before .before .before .before .before .before .before .before .before .before .before .before .if1 .left in
     let arg-item = rw (c .before .before .before .item2 .given .1) at (c .before .before .before .before .before .before .before .before .before .arg-item .ensures) in
     let arg-item-ok = arg-item .ok in
-    search asks depth 8
+    (arg-item-ok, omega arith)
 
 arg-turn-state-requires : (t : ℕ) → arg-turn-lts.Need-state-requires (
   at-reads.Asked,
@@ -790,15 +759,7 @@ arg-turn-state-requires : (t : ℕ) → arg-turn-lts.Need-state-requires (
   state-reads.Learnt,
 ) (arg-turn-at t) arg-turn.Post
 arg-turn-state-requires t c κs =
-    let falls = c .before .before .before .before .before .before .before .before .before .before .before .before .before .before .before .before .before .before .before .before .before .before .before .before .before .pre .0 in
-    let pre0 = c .before .before .before .before .before .before .before .before .before .before .before .before .before .before .before .before .before .before .before .before .before .before .before .before .before .pre .1 in
-    let at = c .before .before .before .before .before .before .before .before .before .before .before .before .before .before .before .before .before .before .at .ensures in
-    let if1 = c .before .before .before .before .before .before .before .before .before .before .before .before .before .before .before .before .before .if1 .left in
-    let arg-item = rw (c .before .before .before .before .before .before .before .before .item2 .given .1) at (c .before .before .before .before .before .before .before .before .before .before .before .before .before .before .arg-item .ensures) in
-    let arg-item-ok = arg-item .ok in
-    let eat = c .before .before .before .before .eat .ensures in
-    let eat-ok = eat .ok in
-    search asks depth 8
+    tt
 
 arg-turn-same-length-2 : (t : ℕ) → arg-turn-lts.Need-same-length-2 (
   at-reads.Asked,
@@ -919,10 +880,7 @@ row-item-refuse-requires : (t : ℕ) → row-item-lts.Need-refuse-requires (
   close-reads.Learnt,
 ) (row-item-at t) row-item.Post
 row-item-refuse-requires t c κs =
-    let falls = c .before .before .before .before .before .before .before .pre .0 in
-    let pre0 = c .before .before .before .before .before .before .before .pre .1 in
-    let if1 = c .if1 .taken in
-    search asks depth 8
+    tt
 
 row-item-returns : (t : ℕ) → row-item-lts.Need-returns (
   refuse-reads.Asked,
@@ -961,10 +919,7 @@ row-item-mark-requires : (t : ℕ) → row-item-lts.Need-mark-requires (
   close-reads.Learnt,
 ) (row-item-at t) row-item.Post
 row-item-mark-requires t c κs =
-    let falls = c .before .before .before .before .before .before .before .pre .0 in
-    let pre0 = c .before .before .before .before .before .before .before .pre .1 in
-    let if1 = c .if1 .left in
-    search asks depth 8
+    tt
 
 row-item-sub-ty-row : (t : ℕ) → row-item-lts.Need-sub-ty-row (
   refuse-reads.Asked,
@@ -1006,7 +961,7 @@ row-item-ty-row-requires t c κs =
     let if1 = c .before .before .before .if1 .left in
     let mark = c .before .before .mark .ensures in
     let mark-ok = ok-marks mark pre0 in
-    search asks depth 8
+    (omega arith, mark-ok)
 
 row-item-at-requires : (t : ℕ) → row-item-lts.Need-at-requires (
   refuse-reads.Asked,
@@ -1023,14 +978,9 @@ row-item-at-requires : (t : ℕ) → row-item-lts.Need-at-requires (
   close-reads.Learnt,
 ) (row-item-at t) row-item.Post
 row-item-at-requires t c κs =
-    let falls = c .before .before .before .before .before .before .before .before .before .before .before .before .before .before .before .pre .0 in
-    let pre0 = c .before .before .before .before .before .before .before .before .before .before .before .before .before .before .before .pre .1 in
-    let if1 = c .before .before .before .before .before .before .before .before .if1 .left in
-    let mark = c .before .before .before .before .before .before .before .mark .ensures in
-    let mark-ok = ok-marks mark pre0 in
     let ty-row = c .before .before .before .before .ty-row .ensures in
     let ty-row-ok = ty-row .ok in
-    search asks depth 8
+    ty-row-ok .reads
 
 row-item-bump-requires : (t : ℕ) → row-item-lts.Need-bump-requires (
   refuse-reads.Asked,
@@ -1047,16 +997,9 @@ row-item-bump-requires : (t : ℕ) → row-item-lts.Need-bump-requires (
   close-reads.Learnt,
 ) (row-item-at t) row-item.Post
 row-item-bump-requires t c κs =
-    let falls = c .before .before .before .before .before .before .before .before .before .before .before .before .before .before .before .before .before .before .pre .0 in
-    let pre0 = c .before .before .before .before .before .before .before .before .before .before .before .before .before .before .before .before .before .before .pre .1 in
-    let if1 = c .before .before .before .before .before .before .before .before .before .before .before .if1 .left in
-    let mark = c .before .before .before .before .before .before .before .before .before .before .mark .ensures in
-    let mark-ok = ok-marks mark pre0 in
     let ty-row = c .before .before .before .before .before .before .before .ty-row .ensures in
     let ty-row-ok = ty-row .ok in
-    let at = c .before .before .at .ensures in
-    let if2 = c .before .if2 .taken in
-    search asks depth 8
+    (ty-row-ok .reads, ty-row-ok .logs)
 
 row-item-close-requires : (t : ℕ) → row-item-lts.Need-close-requires (
   refuse-reads.Asked,
@@ -1073,18 +1016,14 @@ row-item-close-requires : (t : ℕ) → row-item-lts.Need-close-requires (
   close-reads.Learnt,
 ) (row-item-at t) row-item.Post
 row-item-close-requires t c κs =
-    let falls = c .before .before .before .before .before .before .before .before .before .before .before .before .before .before .before .before .before .before .before .before .before .before .pre .0 in
     let pre0 = c .before .before .before .before .before .before .before .before .before .before .before .before .before .before .before .before .before .before .before .before .before .before .pre .1 in
-    let if1 = c .before .before .before .before .before .before .before .before .before .before .before .before .before .before .before .if1 .left in
     let mark = c .before .before .before .before .before .before .before .before .before .before .before .before .before .before .mark .ensures in
     let mark-ok = ok-marks mark pre0 in
     let ty-row = c .before .before .before .before .before .before .before .before .before .before .before .ty-row .ensures in
     let ty-row-ok = ty-row .ok in
-    let at = c .before .before .before .before .before .before .at .ensures in
-    let if2 = c .before .before .before .before .before .if2 .taken in
     let bump = c .before .before .before .bump .ensures in
     let bump-ok = ok-bumps bump ty-row-ok in
-    search asks depth 8
+    (bump-ok .logs, small-len mark-ok)
 
 row-item-same-length : (t : ℕ) → row-item-lts.Need-same-length (
   refuse-reads.Asked,
@@ -1162,16 +1101,12 @@ row-item-close-requires-2 : (t : ℕ) → row-item-lts.Need-close-requires-2 (
   close-reads.Learnt,
 ) (row-item-at t) row-item.Post
 row-item-close-requires-2 t c κs =
-    let falls = c .before .before .before .before .before .before .before .before .before .before .before .before .before .before .before .before .before .before .pre .0 in
     let pre0 = c .before .before .before .before .before .before .before .before .before .before .before .before .before .before .before .before .before .before .pre .1 in
-    let if1 = c .before .before .before .before .before .before .before .before .before .before .before .if1 .left in
     let mark = c .before .before .before .before .before .before .before .before .before .before .mark .ensures in
     let mark-ok = ok-marks mark pre0 in
     let ty-row = c .before .before .before .before .before .before .before .ty-row .ensures in
     let ty-row-ok = ty-row .ok in
-    let at = c .before .before .at .ensures in
-    let if2 = c .before .if2 .left in
-    search asks depth 8
+    (ty-row-ok .logs, small-len mark-ok)
 
 row-item-same-length-3 : (t : ℕ) → row-item-lts.Need-same-length-3 (
   refuse-reads.Asked,
@@ -1246,9 +1181,8 @@ row-turn-at-requires : (t : ℕ) → row-turn-lts.Need-at-requires (
   state-reads.Learnt,
 ) (row-turn-at t) row-turn.Post
 row-turn-at-requires t c κs =
-    let falls = c .before .before .before .before .before .before .pre .0 in
     let pre0 = c .before .before .before .before .before .before .pre .1 in
-    search asks depth 8
+    pre0 .reads
 
 row-turn-bump-requires : (t : ℕ) → row-turn-lts.Need-bump-requires (
   at-reads.Asked,
@@ -1263,11 +1197,8 @@ row-turn-bump-requires : (t : ℕ) → row-turn-lts.Need-bump-requires (
   state-reads.Learnt,
 ) (row-turn-at t) row-turn.Post
 row-turn-bump-requires t c κs =
-    let falls = c .before .before .before .before .before .before .before .before .before .pre .0 in
     let pre0 = c .before .before .before .before .before .before .before .before .before .pre .1 in
-    let at = c .before .before .at .ensures in
-    let if1 = c .before .if1 .taken in
-    search asks depth 8
+    (pre0 .reads, pre0 .logs)
 
 row-turn-same-length : (t : ℕ) → row-turn-lts.Need-same-length (
   at-reads.Asked,
@@ -1320,9 +1251,8 @@ row-turn-row-item-requires : (t : ℕ) → row-turn-lts.Need-row-item-requires (
 row-turn-row-item-requires t c κs =
     let falls = c .before .before .before .before .before .before .before .before .before .before .pre .0 in
     let pre0 = c .before .before .before .before .before .before .before .before .before .before .pre .1 in
-    let at = c .before .before .before .at .ensures in
     let if1 = c .before .before .if1 .left in
-    search asks depth 8
+    (omega arith, pre0)
 
 row-turn-enum-known-item : (t : ℕ) → row-turn-lts.Need-enum-known-item (
   at-reads.Asked,
@@ -1374,12 +1304,11 @@ row-turn-eat-requires : (t : ℕ) → row-turn-lts.Need-eat-requires (
 ) (row-turn-at t) row-turn.Post
 row-turn-eat-requires t c κs =
     let falls = c .before .before .before .before .before .before .before .before .before .before .before .before .before .before .before .before .before .before .before .before .pre .0 in
-    let pre0 = c .before .before .before .before .before .before .before .before .before .before .before .before .before .before .before .before .before .before .before .before .pre .1 in
     let at = c .before .before .before .before .before .before .before .before .before .before .before .before .before .at .ensures in
     let if1 = c .before .before .before .before .before .before .before .before .before .before .before .before .if1 .left in
     let row-item = rw (c .before .before .before .item2 .given .1) at (c .before .before .before .before .before .before .before .before .before .row-item .ensures) in
     let row-item-ok = row-item .ok in
-    search asks depth 8
+    (row-item-ok, omega arith)
 
 row-turn-state-requires : (t : ℕ) → row-turn-lts.Need-state-requires (
   at-reads.Asked,
@@ -1394,15 +1323,7 @@ row-turn-state-requires : (t : ℕ) → row-turn-lts.Need-state-requires (
   state-reads.Learnt,
 ) (row-turn-at t) row-turn.Post
 row-turn-state-requires t c κs =
-    let falls = c .before .before .before .before .before .before .before .before .before .before .before .before .before .before .before .before .before .before .before .before .before .before .before .before .before .pre .0 in
-    let pre0 = c .before .before .before .before .before .before .before .before .before .before .before .before .before .before .before .before .before .before .before .before .before .before .before .before .before .pre .1 in
-    let at = c .before .before .before .before .before .before .before .before .before .before .before .before .before .before .before .before .before .before .at .ensures in
-    let if1 = c .before .before .before .before .before .before .before .before .before .before .before .before .before .before .before .before .before .if1 .left in
-    let row-item = rw (c .before .before .before .before .before .before .before .before .item2 .given .1) at (c .before .before .before .before .before .before .before .before .before .before .before .before .before .before .row-item .ensures) in
-    let row-item-ok = row-item .ok in
-    let eat = c .before .before .before .before .eat .ensures in
-    let eat-ok = eat .ok in
-    search asks depth 8
+    tt
 
 row-turn-same-length-2 : (t : ℕ) → row-turn-lts.Need-same-length-2 (
   at-reads.Asked,
@@ -1521,10 +1442,7 @@ star-factor-refuse-requires : (t : ℕ) → star-factor-lts.Need-refuse-requires
   close-reads.Learnt,
 ) (star-factor-at t) star-factor.Post
 star-factor-refuse-requires t c κs =
-    let falls = c .before .before .before .before .before .before .before .pre .0 in
-    let pre0 = c .before .before .before .before .before .before .before .pre .1 in
-    let if1 = c .if1 .taken in
-    search asks depth 8
+    tt
 
 star-factor-returns : (t : ℕ) → star-factor-lts.Need-returns (
   refuse-reads.Asked,
@@ -1559,10 +1477,7 @@ star-factor-mark-requires : (t : ℕ) → star-factor-lts.Need-mark-requires (
   close-reads.Learnt,
 ) (star-factor-at t) star-factor.Post
 star-factor-mark-requires t c κs =
-    let falls = c .before .before .before .before .before .before .before .pre .0 in
-    let pre0 = c .before .before .before .before .before .before .before .pre .1 in
-    let if1 = c .if1 .left in
-    search asks depth 8
+    tt
 
 star-factor-bump-requires : (t : ℕ) → star-factor-lts.Need-bump-requires (
   refuse-reads.Asked,
@@ -1577,12 +1492,10 @@ star-factor-bump-requires : (t : ℕ) → star-factor-lts.Need-bump-requires (
   close-reads.Learnt,
 ) (star-factor-at t) star-factor.Post
 star-factor-bump-requires t c κs =
-    let falls = c .before .before .before .before .before .before .before .before .before .pre .0 in
     let pre0 = c .before .before .before .before .before .before .before .before .before .pre .1 in
-    let if1 = c .before .before .if1 .left in
     let mark = c .before .mark .ensures in
     let mark-ok = ok-marks mark pre0 in
-    search asks depth 8
+    (mark-ok .reads, mark-ok .logs)
 
 star-factor-sub-ty-must : (t : ℕ) → star-factor-lts.Need-sub-ty-must (
   refuse-reads.Asked,
@@ -1622,7 +1535,7 @@ star-factor-ty-must-requires t c κs =
     let mark-ok = ok-marks mark pre0 in
     let bump = c .before .before .before .before .bump .ensures in
     let bump-ok = ok-bumps bump mark-ok in
-    search asks depth 8
+    (omega arith, bump-ok)
 
 star-factor-close-requires : (t : ℕ) → star-factor-lts.Need-close-requires (
   refuse-reads.Asked,
@@ -1637,16 +1550,12 @@ star-factor-close-requires : (t : ℕ) → star-factor-lts.Need-close-requires (
   close-reads.Learnt,
 ) (star-factor-at t) star-factor.Post
 star-factor-close-requires t c κs =
-    let falls = c .before .before .before .before .before .before .before .before .before .before .before .before .before .before .before .before .before .before .before .before .pre .0 in
     let pre0 = c .before .before .before .before .before .before .before .before .before .before .before .before .before .before .before .before .before .before .before .before .pre .1 in
-    let if1 = c .before .before .before .before .before .before .before .before .before .before .before .before .before .if1 .left in
     let mark = c .before .before .before .before .before .before .before .before .before .before .before .before .mark .ensures in
     let mark-ok = ok-marks mark pre0 in
-    let bump = c .before .before .before .before .before .before .before .before .before .before .bump .ensures in
-    let bump-ok = ok-bumps bump mark-ok in
     let ty-must = c .before .before .before .before .before .ty-must .ensures in
     let ty-must-ok = ty-must .ok in
-    search asks depth 8
+    (ty-must-ok .logs, small-len mark-ok)
 
 star-factor-same-length : (t : ℕ) → star-factor-lts.Need-same-length (
   refuse-reads.Asked,
@@ -1727,9 +1636,8 @@ star-tail-star-turn-requires : (t : ℕ) → star-tail-lts.Need-star-turn-requir
 ) (star-tail-at t) star-tail.Post star-tail-Inv-loop star-tail-μ-loop
 star-tail-star-turn-requires t c κs =
     let falls = c .before .before .before .before .before .before .before .before .before .pre .0 in
-    let pre0 = c .before .before .before .before .before .before .before .before .before .pre .1 in
     let inv = c .before .before .loop .inv .0 .ok in
-    search asks depth 8
+    (omega arith, inv)
 
 star-tail-enum-known-turn : (t : ℕ) → star-tail-lts.Need-enum-known-turn (
   star-turn-below t,
@@ -1749,8 +1657,8 @@ star-tail-loop-less :
     star-tail-Inv-loop
     star-tail-μ-loop
 star-tail-loop-less t c =
-    let star-turn = runs-in {b = 0} (rw (c .before .turn .given .1) at (c .before .before .before .before .before .before .before .star-turn .ensures)) in
-    loop-falls (star-advances _ _) star-turn
+    let star-turn = rw (c .before .turn .given .1) at (c .before .before .before .before .before .before .before .star-turn .ensures) in
+    loop-falls (star-advances _ _) (runs-in {b = 0} star-turn)
 
 star-tail-loop-again :
     (t : ℕ) →
@@ -1761,8 +1669,9 @@ star-tail-loop-again :
     star-tail-Inv-loop
     star-tail-μ-loop
 star-tail-loop-again t c =
-    let star-turn = runs-in (rw (c .before .turn .given .1) at (c .before .before .before .before .before .before .before .star-turn .ensures)) in
-    (loop-goes (star-advances _ _) (c .before .before .before .before .before .before .before .before .before .before .loop .inv .0) star-turn, c .before .before .before .before .before .before .before .star-turn .kept .1 .1 .1 .1 .0 ∙ c .before .before .before .before .before .before .before .before .before .before .loop .inv .1, c .before .before .before .before .before .before .before .star-turn .kept .1 .1 .1 .1 .1 .0 ∙ c .before .before .before .before .before .before .before .before .before .before .loop .inv .2)
+    let inv = c .before .before .before .before .before .before .before .before .before .before .loop .inv .0 in
+    let star-turn = rw (c .before .turn .given .1) at (c .before .before .before .before .before .before .before .star-turn .ensures) in
+    (loop-goes (star-advances _ _) inv (runs-in star-turn), c .before .before .before .before .before .before .before .star-turn .kept .1 .1 .1 .1 .0 ∙ c .before .before .before .before .before .before .before .before .before .before .loop .inv .1, c .before .before .before .before .before .before .before .star-turn .kept .1 .1 .1 .1 .1 .0 ∙ c .before .before .before .before .before .before .before .before .before .before .loop .inv .2)
 
 star-tail-enum-known-turn-2 : (t : ℕ) → star-tail-lts.Need-enum-known-turn-2 (
   star-turn-below t,
@@ -1796,8 +1705,9 @@ star-tail-returns :
     star-tail-Inv-loop
     star-tail-μ-loop
 star-tail-returns t c =
-    let star-turn = runs-in (rw (c .before .turn2 .given .1) at (c .before .before .before .before .before .before .before .star-turn .ensures)) in
-    loop-ends (star-advances _ _) (c .before .before .before .before .before .before .before .before .before .before .loop .inv .0) star-turn
+    let inv = c .before .before .before .before .before .before .before .before .before .before .loop .inv .0 in
+    let star-turn = rw (c .before .turn2 .given .1) at (c .before .before .before .before .before .before .before .star-turn .ensures) in
+    loop-ends (star-advances _ _) inv (runs-in star-turn)
 
 star-turn-at-requires : (t : ℕ) → star-turn-lts.Need-at-requires (
   at-reads.Asked,
@@ -1806,9 +1716,8 @@ star-turn-at-requires : (t : ℕ) → star-turn-lts.Need-at-requires (
   star-factor.Post,
 ) (star-turn-at t) star-turn.Post
 star-turn-at-requires t c κs =
-    let falls = c .before .before .before .before .before .before .pre .0 in
     let pre0 = c .before .before .before .before .before .before .pre .1 in
-    search asks depth 8
+    pre0 .reads
 
 star-turn-star-factor-requires : (t : ℕ) → star-turn-lts.Need-star-factor-requires (
   at-reads.Asked,
@@ -1819,9 +1728,8 @@ star-turn-star-factor-requires : (t : ℕ) → star-turn-lts.Need-star-factor-re
 star-turn-star-factor-requires t c κs =
     let falls = c .before .before .before .before .before .before .before .before .before .before .pre .0 in
     let pre0 = c .before .before .before .before .before .before .before .before .before .before .pre .1 in
-    let at = c .before .before .before .at .ensures in
     let if1 = c .before .before .if1 .taken in
-    search asks depth 8
+    (omega arith, pre0)
 
 star-turn-same-length : (t : ℕ) → star-turn-lts.Need-same-length (
   at-reads.Asked,
@@ -1887,10 +1795,7 @@ ty-arg-refuse-requires : (t : ℕ) → ty-arg-lts.Need-refuse-requires (
   close-reads.Learnt,
 ) (ty-arg-at t) ty-arg.Post
 ty-arg-refuse-requires t c κs =
-    let falls = c .before .before .before .before .before .before .before .pre .0 in
-    let pre0 = c .before .before .before .before .before .before .before .pre .1 in
-    let if1 = c .if1 .taken in
-    search asks depth 8
+    tt
 
 ty-arg-returns : (t : ℕ) → ty-arg-lts.Need-returns (
   refuse-reads.Asked,
@@ -1933,10 +1838,7 @@ ty-arg-mark-requires : (t : ℕ) → ty-arg-lts.Need-mark-requires (
   close-reads.Learnt,
 ) (ty-arg-at t) ty-arg.Post
 ty-arg-mark-requires t c κs =
-    let falls = c .before .before .before .before .before .before .before .pre .0 in
-    let pre0 = c .before .before .before .before .before .before .before .pre .1 in
-    let if1 = c .if1 .left in
-    search asks depth 8
+    tt
 
 ty-arg-sub-ty-must : (t : ℕ) → ty-arg-lts.Need-sub-ty-must (
   refuse-reads.Asked,
@@ -1982,7 +1884,7 @@ ty-arg-ty-must-requires t c κs =
     let if1 = c .before .before .before .if1 .left in
     let mark = c .before .before .mark .ensures in
     let mark-ok = ok-marks mark pre0 in
-    search asks depth 8
+    (omega arith, mark-ok)
 
 ty-arg-at-requires : (t : ℕ) → ty-arg-lts.Need-at-requires (
   refuse-reads.Asked,
@@ -2001,14 +1903,9 @@ ty-arg-at-requires : (t : ℕ) → ty-arg-lts.Need-at-requires (
   close-reads.Learnt,
 ) (ty-arg-at t) ty-arg.Post
 ty-arg-at-requires t c κs =
-    let falls = c .before .before .before .before .before .before .before .before .before .before .before .before .before .before .before .pre .0 in
-    let pre0 = c .before .before .before .before .before .before .before .before .before .before .before .before .before .before .before .pre .1 in
-    let if1 = c .before .before .before .before .before .before .before .before .if1 .left in
-    let mark = c .before .before .before .before .before .before .before .mark .ensures in
-    let mark-ok = ok-marks mark pre0 in
     let ty-must = c .before .before .before .before .ty-must .ensures in
     let ty-must-ok = ty-must .ok in
-    search asks depth 8
+    ty-must-ok .reads
 
 ty-arg-same-length : (t : ℕ) → ty-arg-lts.Need-same-length (
   refuse-reads.Asked,
@@ -2093,15 +1990,11 @@ ty-arg-eat-requires : (t : ℕ) → ty-arg-lts.Need-eat-requires (
 ) (ty-arg-at t) ty-arg.Post
 ty-arg-eat-requires t c κs =
     let falls = c .before .before .before .before .before .before .before .before .before .before .before .before .before .before .before .before .before .before .before .pre .0 in
-    let pre0 = c .before .before .before .before .before .before .before .before .before .before .before .before .before .before .before .before .before .before .before .pre .1 in
     let if1 = c .before .before .before .before .before .before .before .before .before .before .before .before .if1 .left in
-    let mark = c .before .before .before .before .before .before .before .before .before .before .before .mark .ensures in
-    let mark-ok = ok-marks mark pre0 in
     let ty-must = c .before .before .before .before .before .before .before .before .ty-must .ensures in
     let ty-must-ok = ty-must .ok in
-    let at = c .before .before .before .at .ensures in
     let if2 = c .before .before .if2 .left in
-    search asks depth 8
+    (ty-must-ok, omega arith)
 
 ty-arg-state-requires : (t : ℕ) → ty-arg-lts.Need-state-requires (
   refuse-reads.Asked,
@@ -2120,18 +2013,7 @@ ty-arg-state-requires : (t : ℕ) → ty-arg-lts.Need-state-requires (
   close-reads.Learnt,
 ) (ty-arg-at t) ty-arg.Post
 ty-arg-state-requires t c κs =
-    let falls = c .before .before .before .before .before .before .before .before .before .before .before .before .before .before .before .before .before .before .before .before .before .before .before .before .pre .0 in
-    let pre0 = c .before .before .before .before .before .before .before .before .before .before .before .before .before .before .before .before .before .before .before .before .before .before .before .before .pre .1 in
-    let if1 = c .before .before .before .before .before .before .before .before .before .before .before .before .before .before .before .before .before .if1 .left in
-    let mark = c .before .before .before .before .before .before .before .before .before .before .before .before .before .before .before .before .mark .ensures in
-    let mark-ok = ok-marks mark pre0 in
-    let ty-must = c .before .before .before .before .before .before .before .before .before .before .before .before .before .ty-must .ensures in
-    let ty-must-ok = ty-must .ok in
-    let at = c .before .before .before .before .before .before .before .before .at .ensures in
-    let if2 = c .before .before .before .before .before .before .before .if2 .left in
-    let eat = c .before .before .before .before .eat .ensures in
-    let eat-ok = eat .ok in
-    search asks depth 8
+    tt
 
 ty-arg-close-requires : (t : ℕ) → ty-arg-lts.Need-close-requires (
   refuse-reads.Asked,
@@ -2150,20 +2032,14 @@ ty-arg-close-requires : (t : ℕ) → ty-arg-lts.Need-close-requires (
   close-reads.Learnt,
 ) (ty-arg-at t) ty-arg.Post
 ty-arg-close-requires t c κs =
-    let falls = c .before .before .before .before .before .before .before .before .before .before .before .before .before .before .before .before .before .before .before .before .before .before .before .before .before .before .pre .0 in
     let pre0 = c .before .before .before .before .before .before .before .before .before .before .before .before .before .before .before .before .before .before .before .before .before .before .before .before .before .before .pre .1 in
-    let if1 = c .before .before .before .before .before .before .before .before .before .before .before .before .before .before .before .before .before .before .before .if1 .left in
     let mark = c .before .before .before .before .before .before .before .before .before .before .before .before .before .before .before .before .before .before .mark .ensures in
     let mark-ok = ok-marks mark pre0 in
-    let ty-must = c .before .before .before .before .before .before .before .before .before .before .before .before .before .before .before .ty-must .ensures in
-    let ty-must-ok = ty-must .ok in
-    let at = c .before .before .before .before .before .before .before .before .before .before .at .ensures in
-    let if2 = c .before .before .before .before .before .before .before .before .before .if2 .left in
     let eat = c .before .before .before .before .before .before .eat .ensures in
     let eat-ok = eat .ok in
     let state = c .before .state .ensures in
     let state-ok = ok-state state eat-ok in
-    search asks depth 8
+    (state-ok .logs, small-len mark-ok)
 
 ty-arg-same-length-3 : (t : ℕ) → ty-arg-lts.Need-same-length-3 (
   refuse-reads.Asked,
@@ -2259,9 +2135,8 @@ ty-args-arg-turn-requires : (t : ℕ) → ty-args-lts.Need-arg-turn-requires (
 ) (ty-args-at t) ty-args.Post ty-args-Inv-loop ty-args-μ-loop
 ty-args-arg-turn-requires t c κs =
     let falls = c .before .before .before .before .before .before .before .before .before .pre .0 in
-    let pre0 = c .before .before .before .before .before .before .before .before .before .pre .1 in
     let inv = c .before .before .loop .inv .0 .ok in
-    search asks depth 8
+    (omega arith, inv)
 
 ty-args-enum-known-turn : (t : ℕ) → ty-args-lts.Need-enum-known-turn (
   arg-turn-below t,
@@ -2281,8 +2156,8 @@ ty-args-loop-less :
     ty-args-Inv-loop
     ty-args-μ-loop
 ty-args-loop-less t c =
-    let arg-turn = runs-in {b = 0} (rw (c .before .turn .given .1) at (c .before .before .before .before .before .before .before .arg-turn .ensures)) in
-    loop-falls (end-turn-advances true _ _ _ _ _ _) arg-turn
+    let arg-turn = rw (c .before .turn .given .1) at (c .before .before .before .before .before .before .before .arg-turn .ensures) in
+    loop-falls (end-turn-advances true _ _ _ _ _ _) (runs-in {b = 0} arg-turn)
 
 ty-args-loop-again :
     (t : ℕ) →
@@ -2293,8 +2168,9 @@ ty-args-loop-again :
     ty-args-Inv-loop
     ty-args-μ-loop
 ty-args-loop-again t c =
-    let arg-turn = runs-in (rw (c .before .turn .given .1) at (c .before .before .before .before .before .before .before .arg-turn .ensures)) in
-    (loop-goes (end-turn-advances true _ _ _ _ _ _) (c .before .before .before .before .before .before .before .before .before .before .loop .inv .0) arg-turn, c .before .before .before .before .before .before .before .arg-turn .kept .1 .1 .1 .1 .0 ∙ c .before .before .before .before .before .before .before .before .before .before .loop .inv .1, c .before .before .before .before .before .before .before .arg-turn .kept .1 .1 .1 .1 .1 .0 ∙ c .before .before .before .before .before .before .before .before .before .before .loop .inv .2)
+    let inv = c .before .before .before .before .before .before .before .before .before .before .loop .inv .0 in
+    let arg-turn = rw (c .before .turn .given .1) at (c .before .before .before .before .before .before .before .arg-turn .ensures) in
+    (loop-goes (end-turn-advances true _ _ _ _ _ _) inv (runs-in arg-turn), c .before .before .before .before .before .before .before .arg-turn .kept .1 .1 .1 .1 .0 ∙ c .before .before .before .before .before .before .before .before .before .before .loop .inv .1, c .before .before .before .before .before .before .before .arg-turn .kept .1 .1 .1 .1 .1 .0 ∙ c .before .before .before .before .before .before .before .before .before .before .loop .inv .2)
 
 ty-args-enum-known-turn-2 : (t : ℕ) → ty-args-lts.Need-enum-known-turn-2 (
   arg-turn-below t,
@@ -2336,8 +2212,9 @@ ty-args-returns :
     ty-args-Inv-loop
     ty-args-μ-loop
 ty-args-returns t c =
-    let arg-turn = runs-in (rw (c .before .turn2 .given .1) at (c .before .before .before .before .before .before .before .arg-turn .ensures)) in
-    loop-ends (end-turn-advances true _ _ _ _ _ _) (c .before .before .before .before .before .before .before .before .before .before .loop .inv .0) arg-turn
+    let inv = c .before .before .before .before .before .before .before .before .before .before .loop .inv .0 in
+    let arg-turn = rw (c .before .turn2 .given .1) at (c .before .before .before .before .before .before .before .arg-turn .ensures) in
+    loop-ends (end-turn-advances true _ _ _ _ _ _) inv (runs-in arg-turn)
 
 ty-arrow-refuse-requires : (t : ℕ) → ty-arrow-lts.Need-refuse-requires (
   refuse-reads.Asked,
@@ -2352,11 +2229,7 @@ ty-arrow-refuse-requires : (t : ℕ) → ty-arrow-lts.Need-refuse-requires (
   close-reads.Learnt,
 ) (ty-arrow-at t) ty-arrow.Post
 ty-arrow-refuse-requires t c κs =
-    let falls = c .before .before .before .before .before .before .before .pre .0 in
-    let pre0 = c .before .before .before .before .before .before .before .pre .1 .0 in
-    let pre1 = c .before .before .before .before .before .before .before .pre .1 .1 in
-    let if1 = c .if1 .taken in
-    search asks depth 8
+    tt
 
 ty-arrow-returns : (t : ℕ) → ty-arrow-lts.Need-returns (
   refuse-reads.Asked,
@@ -2392,11 +2265,7 @@ ty-arrow-mark-requires : (t : ℕ) → ty-arrow-lts.Need-mark-requires (
   close-reads.Learnt,
 ) (ty-arrow-at t) ty-arrow.Post
 ty-arrow-mark-requires t c κs =
-    let falls = c .before .before .before .before .before .before .before .before .pre .0 in
-    let pre0 = c .before .before .before .before .before .before .before .before .pre .1 .0 in
-    let pre1 = c .before .before .before .before .before .before .before .before .pre .1 .1 in
-    let if1 = c .before .if1 .left in
-    search asks depth 8
+    tt
 
 ty-arrow-bump-requires : (t : ℕ) → ty-arrow-lts.Need-bump-requires (
   refuse-reads.Asked,
@@ -2411,13 +2280,10 @@ ty-arrow-bump-requires : (t : ℕ) → ty-arrow-lts.Need-bump-requires (
   close-reads.Learnt,
 ) (ty-arrow-at t) ty-arrow.Post
 ty-arrow-bump-requires t c κs =
-    let falls = c .before .before .before .before .before .before .before .before .before .pre .0 in
     let pre0 = c .before .before .before .before .before .before .before .before .before .pre .1 .0 in
-    let pre1 = c .before .before .before .before .before .before .before .before .before .pre .1 .1 in
-    let if1 = c .before .before .if1 .left in
     let mark = c .mark .ensures in
     let mark-ok = ok-marks mark pre0 in
-    search asks depth 8
+    (mark-ok .reads, mark-ok .logs)
 
 ty-arrow-sub-ty-must : (t : ℕ) → ty-arrow-lts.Need-sub-ty-must (
   refuse-reads.Asked,
@@ -2459,7 +2325,7 @@ ty-arrow-ty-must-requires t c κs =
     let mark-ok = ok-marks mark pre0 in
     let bump = c .before .before .before .before .bump .ensures in
     let bump-ok = ok-bumps bump mark-ok in
-    search asks depth 8
+    (omega arith, bump-ok)
 
 ty-arrow-close-requires : (t : ℕ) → ty-arrow-lts.Need-close-requires (
   refuse-reads.Asked,
@@ -2474,17 +2340,10 @@ ty-arrow-close-requires : (t : ℕ) → ty-arrow-lts.Need-close-requires (
   close-reads.Learnt,
 ) (ty-arrow-at t) ty-arrow.Post
 ty-arrow-close-requires t c κs =
-    let falls = c .before .before .before .before .before .before .before .before .before .before .before .before .before .before .before .before .before .before .before .before .pre .0 in
-    let pre0 = c .before .before .before .before .before .before .before .before .before .before .before .before .before .before .before .before .before .before .before .before .pre .1 .0 in
     let pre1 = c .before .before .before .before .before .before .before .before .before .before .before .before .before .before .before .before .before .before .before .before .pre .1 .1 in
-    let if1 = c .before .before .before .before .before .before .before .before .before .before .before .before .before .if1 .left in
-    let mark = c .before .before .before .before .before .before .before .before .before .before .before .mark .ensures in
-    let mark-ok = ok-marks mark pre0 in
-    let bump = c .before .before .before .before .before .before .before .before .before .before .bump .ensures in
-    let bump-ok = ok-bumps bump mark-ok in
     let ty-must = c .before .before .before .before .before .ty-must .ensures in
     let ty-must-ok = ty-must .ok in
-    search asks depth 8
+    (ty-must-ok .logs, pre1)
 
 ty-arrow-same-length : (t : ℕ) → ty-arrow-lts.Need-same-length (
   refuse-reads.Asked,
@@ -2549,11 +2408,8 @@ ty-head-bump-requires : (t : ℕ) → ty-head-lts.Need-bump-requires (
   ty-inner.Post,
 ) (ty-head-at t) ty-head.Post
 ty-head-bump-requires t c κs =
-    let falls = c .before .before .before .before .before .before .before .before .pre .0 in
     let pre0 = c .before .before .before .before .before .before .before .before .pre .1 .0 in
-    let pre1 = c .before .before .before .before .before .before .before .before .pre .1 .1 in
-    let if1 = c .before .if1 .taken in
-    search asks depth 8
+    (pre0 .reads, pre0 .logs)
 
 ty-head-close-requires : (t : ℕ) → ty-head-lts.Need-close-requires (
   bump-reads.Asked,
@@ -2564,13 +2420,11 @@ ty-head-close-requires : (t : ℕ) → ty-head-lts.Need-close-requires (
   ty-inner.Post,
 ) (ty-head-at t) ty-head.Post
 ty-head-close-requires t c κs =
-    let falls = c .before .before .before .before .before .before .before .before .before .before .before .before .pre .0 in
     let pre0 = c .before .before .before .before .before .before .before .before .before .before .before .before .pre .1 .0 in
     let pre1 = c .before .before .before .before .before .before .before .before .before .before .before .before .pre .1 .1 in
-    let if1 = c .before .before .before .before .before .if1 .taken in
     let bump = c .before .before .before .bump .ensures in
     let bump-ok = ok-bumps bump pre0 in
-    search asks depth 8
+    (bump-ok .logs, pre1)
 
 ty-head-same-length : (t : ℕ) → ty-head-lts.Need-same-length (
   bump-reads.Asked,
@@ -2610,12 +2464,8 @@ ty-head-bump-requires-2 : (t : ℕ) → ty-head-lts.Need-bump-requires-2 (
   ty-inner.Post,
 ) (ty-head-at t) ty-head.Post
 ty-head-bump-requires-2 t c κs =
-    let falls = c .before .before .before .before .before .before .before .before .before .pre .0 in
     let pre0 = c .before .before .before .before .before .before .before .before .before .pre .1 .0 in
-    let pre1 = c .before .before .before .before .before .before .before .before .before .pre .1 .1 in
-    let if1 = c .before .before .if1 .left in
-    let if2 = c .before .if2 .taken in
-    search asks depth 8
+    (pre0 .reads, pre0 .logs)
 
 ty-head-close-requires-2 : (t : ℕ) → ty-head-lts.Need-close-requires-2 (
   bump-reads.Asked,
@@ -2626,14 +2476,11 @@ ty-head-close-requires-2 : (t : ℕ) → ty-head-lts.Need-close-requires-2 (
   ty-inner.Post,
 ) (ty-head-at t) ty-head.Post
 ty-head-close-requires-2 t c κs =
-    let falls = c .before .before .before .before .before .before .before .before .before .before .before .before .before .pre .0 in
     let pre0 = c .before .before .before .before .before .before .before .before .before .before .before .before .before .pre .1 .0 in
     let pre1 = c .before .before .before .before .before .before .before .before .before .before .before .before .before .pre .1 .1 in
-    let if1 = c .before .before .before .before .before .before .if1 .left in
-    let if2 = c .before .before .before .before .before .if2 .taken in
     let bump2 = c .before .before .before .bump2 .ensures in
     let bump2-ok = ok-bumps bump2 pre0 in
-    search asks depth 8
+    (bump2-ok .logs, pre1)
 
 ty-head-same-length-2 : (t : ℕ) → ty-head-lts.Need-same-length-2 (
   bump-reads.Asked,
@@ -2674,13 +2521,8 @@ ty-head-bump-requires-3 : (t : ℕ) → ty-head-lts.Need-bump-requires-3 (
   ty-inner.Post,
 ) (ty-head-at t) ty-head.Post
 ty-head-bump-requires-3 t c κs =
-    let falls = c .before .before .before .before .before .before .before .before .before .before .pre .0 in
     let pre0 = c .before .before .before .before .before .before .before .before .before .before .pre .1 .0 in
-    let pre1 = c .before .before .before .before .before .before .before .before .before .before .pre .1 .1 in
-    let if1 = c .before .before .before .if1 .left in
-    let if2 = c .before .before .if2 .left in
-    let if3 = c .before .if3 .taken in
-    search asks depth 8
+    (pre0 .reads, pre0 .logs)
 
 ty-head-close-requires-3 : (t : ℕ) → ty-head-lts.Need-close-requires-3 (
   bump-reads.Asked,
@@ -2691,15 +2533,11 @@ ty-head-close-requires-3 : (t : ℕ) → ty-head-lts.Need-close-requires-3 (
   ty-inner.Post,
 ) (ty-head-at t) ty-head.Post
 ty-head-close-requires-3 t c κs =
-    let falls = c .before .before .before .before .before .before .before .before .before .before .before .before .before .before .pre .0 in
     let pre0 = c .before .before .before .before .before .before .before .before .before .before .before .before .before .before .pre .1 .0 in
     let pre1 = c .before .before .before .before .before .before .before .before .before .before .before .before .before .before .pre .1 .1 in
-    let if1 = c .before .before .before .before .before .before .before .if1 .left in
-    let if2 = c .before .before .before .before .before .before .if2 .left in
-    let if3 = c .before .before .before .before .before .if3 .taken in
     let bump3 = c .before .before .before .bump3 .ensures in
     let bump3-ok = ok-bumps bump3 pre0 in
-    search asks depth 8
+    (bump3-ok .logs, pre1)
 
 ty-head-same-length-3 : (t : ℕ) → ty-head-lts.Need-same-length-3 (
   bump-reads.Asked,
@@ -2747,7 +2585,7 @@ ty-head-ty-inner-requires t c κs =
     let if1 = c .before .before .before .before .if1 .left in
     let if2 = c .before .before .before .if2 .left in
     let if3 = c .before .before .if3 .left in
-    search asks depth 8
+    (omega arith, (pre0, pre1))
 
 ty-head-same-length-4 : (t : ℕ) → ty-head-lts.Need-same-length-4 (
   bump-reads.Asked,
@@ -2805,11 +2643,8 @@ ty-inner-bump-requires : (t : ℕ) → ty-inner-lts.Need-bump-requires (
   state-reads.Learnt,
 ) (ty-inner-at t) ty-inner.Post
 ty-inner-bump-requires t c κs =
-    let falls = c .before .before .before .before .before .before .before .before .pre .0 in
     let pre0 = c .before .before .before .before .before .before .before .before .pre .1 .0 in
-    let pre1 = c .before .before .before .before .before .before .before .before .pre .1 .1 in
-    let if1 = c .before .if1 .taken in
-    search asks depth 8
+    (pre0 .reads, pre0 .logs)
 
 ty-inner-ty-rows-requires : (t : ℕ) → ty-inner-lts.Need-ty-rows-requires (
   bump-reads.Asked,
@@ -2832,7 +2667,7 @@ ty-inner-ty-rows-requires t c κs =
     let if1 = c .before .before .before .before .before .before .if1 .taken in
     let bump = c .before .before .before .before .bump .ensures in
     let bump-ok = ok-bumps bump pre0 in
-    search asks depth 8
+    (omega arith, bump-ok)
 
 ty-inner-close-requires : (t : ℕ) → ty-inner-lts.Need-close-requires (
   bump-reads.Asked,
@@ -2849,15 +2684,10 @@ ty-inner-close-requires : (t : ℕ) → ty-inner-lts.Need-close-requires (
   state-reads.Learnt,
 ) (ty-inner-at t) ty-inner.Post
 ty-inner-close-requires t c κs =
-    let falls = c .before .before .before .before .before .before .before .before .before .before .before .before .before .before .before .before .before .before .before .pre .0 in
-    let pre0 = c .before .before .before .before .before .before .before .before .before .before .before .before .before .before .before .before .before .before .before .pre .1 .0 in
     let pre1 = c .before .before .before .before .before .before .before .before .before .before .before .before .before .before .before .before .before .before .before .pre .1 .1 in
-    let if1 = c .before .before .before .before .before .before .before .before .before .before .before .before .if1 .taken in
-    let bump = c .before .before .before .before .before .before .before .before .before .before .bump .ensures in
-    let bump-ok = ok-bumps bump pre0 in
     let ty-rows = c .before .before .before .before .before .ty-rows .ensures in
     let ty-rows-ok = ty-rows .ok in
-    search asks depth 8
+    (ty-rows-ok .logs, pre1)
 
 ty-inner-same-length : (t : ℕ) → ty-inner-lts.Need-same-length (
   bump-reads.Asked,
@@ -2938,7 +2768,7 @@ ty-inner-ty-round-requires t c κs =
     let pre1 = c .before .before .before .before .before .before .before .before .before .before .pre .1 .1 in
     let if1 = c .before .before .before .if1 .left in
     let if2 = c .before .before .if2 .taken in
-    search asks depth 8
+    (omega arith, (pre0, pre1))
 
 ty-inner-same-length-3 : (t : ℕ) → ty-inner-lts.Need-same-length-3 (
   bump-reads.Asked,
@@ -3013,13 +2843,8 @@ ty-inner-path-must-requires : (t : ℕ) → ty-inner-lts.Need-path-must-requires
   state-reads.Learnt,
 ) (ty-inner-at t) ty-inner.Post
 ty-inner-path-must-requires t c κs =
-    let falls = c .before .before .before .before .before .before .before .before .before .before .before .pre .0 in
     let pre0 = c .before .before .before .before .before .before .before .before .before .before .before .pre .1 .0 in
-    let pre1 = c .before .before .before .before .before .before .before .before .before .before .before .pre .1 .1 in
-    let if1 = c .before .before .before .before .if1 .left in
-    let if2 = c .before .before .before .if2 .left in
-    let if3 = c .before .before .if3 .taken in
-    search asks depth 8
+    pre0
 
 ty-inner-state-requires : (t : ℕ) → ty-inner-lts.Need-state-requires (
   bump-reads.Asked,
@@ -3036,15 +2861,7 @@ ty-inner-state-requires : (t : ℕ) → ty-inner-lts.Need-state-requires (
   state-reads.Learnt,
 ) (ty-inner-at t) ty-inner.Post
 ty-inner-state-requires t c κs =
-    let falls = c .before .before .before .before .before .before .before .before .before .before .before .before .before .before .before .before .pre .0 in
-    let pre0 = c .before .before .before .before .before .before .before .before .before .before .before .before .before .before .before .before .pre .1 .0 in
-    let pre1 = c .before .before .before .before .before .before .before .before .before .before .before .before .before .before .before .before .pre .1 .1 in
-    let if1 = c .before .before .before .before .before .before .before .before .before .if1 .left in
-    let if2 = c .before .before .before .before .before .before .before .before .if2 .left in
-    let if3 = c .before .before .before .before .before .before .before .if3 .taken in
-    let path-must = c .before .before .before .before .path-must .ensures in
-    let path-must-ok = path-must .ok in
-    search asks depth 8
+    tt
 
 ty-inner-close-requires-2 : (t : ℕ) → ty-inner-lts.Need-close-requires-2 (
   bump-reads.Asked,
@@ -3061,17 +2878,12 @@ ty-inner-close-requires-2 : (t : ℕ) → ty-inner-lts.Need-close-requires-2 (
   state-reads.Learnt,
 ) (ty-inner-at t) ty-inner.Post
 ty-inner-close-requires-2 t c κs =
-    let falls = c .before .before .before .before .before .before .before .before .before .before .before .before .before .before .before .before .before .before .pre .0 in
-    let pre0 = c .before .before .before .before .before .before .before .before .before .before .before .before .before .before .before .before .before .before .pre .1 .0 in
     let pre1 = c .before .before .before .before .before .before .before .before .before .before .before .before .before .before .before .before .before .before .pre .1 .1 in
-    let if1 = c .before .before .before .before .before .before .before .before .before .before .before .if1 .left in
-    let if2 = c .before .before .before .before .before .before .before .before .before .before .if2 .left in
-    let if3 = c .before .before .before .before .before .before .before .before .before .if3 .taken in
     let path-must = c .before .before .before .before .before .before .path-must .ensures in
     let path-must-ok = path-must .ok in
     let state = c .before .state .ensures in
     let state-ok = ok-state state path-must-ok in
-    search asks depth 8
+    (state-ok .logs, pre1)
 
 ty-inner-same-length-5 : (t : ℕ) → ty-inner-lts.Need-same-length-5 (
   bump-reads.Asked,
@@ -3167,7 +2979,7 @@ ty-must-ty-prec-requires : (t : ℕ) → ty-must-lts.Need-ty-prec-requires (
 ty-must-ty-prec-requires t c κs =
     let falls = c .before .before .before .before .before .before .before .before .pre .0 in
     let pre0 = c .before .before .before .before .before .before .before .before .pre .1 in
-    search asks depth 8
+    (omega arith, pre0)
 
 ty-must-enum-known-got : (t : ℕ) → ty-must-lts.Need-enum-known-got (
   ty-prec-below t,
@@ -3199,10 +3011,9 @@ ty-must-report-requires : (t : ℕ) → ty-must-lts.Need-report-requires (
 ) (ty-must-at t) ty-must.Post
 ty-must-report-requires t c κs =
     let falls = c .before .before .before .before .before .before .before .before .before .before .before .before .before .before .before .before .before .pre .0 in
-    let pre0 = c .before .before .before .before .before .before .before .before .before .before .before .before .before .before .before .before .before .pre .1 in
     let ty-prec = rw (c .before .before .got2 .given .1) at (c .before .before .before .before .before .before .before .before .ty-prec .ensures) in
     let ty-prec-ok = ty-prec .ok in
-    search asks depth 8
+    (ty-prec-ok .holds, (let few = ty-prec-ok .reads .few in let inside = ty-prec-ok .reads .inside in omega arith), omega arith)
 
 ty-must-same-length : (t : ℕ) → ty-must-lts.Need-same-length (
   ty-prec-below t,
@@ -3280,9 +3091,8 @@ ty-prec-peek-requires : (t : ℕ) → ty-prec-lts.Need-peek-requires (
   ty-tail.Post,
 ) (ty-prec-at t) ty-prec.Post
 ty-prec-peek-requires t c κs =
-    let falls = c .before .before .before .before .before .before .pre .0 in
     let pre0 = c .before .before .before .before .before .before .pre .1 in
-    search asks depth 8
+    pre0 .reads
 
 ty-prec-enum-known-k : (t : ℕ) → ty-prec-lts.Need-enum-known-k (
   peek-reads.Asked,
@@ -3350,11 +3160,7 @@ ty-prec-refuse-requires : (t : ℕ) → ty-prec-lts.Need-refuse-requires (
   ty-tail.Post,
 ) (ty-prec-at t) ty-prec.Post
 ty-prec-refuse-requires t c κs =
-    let falls = c .before .before .before .before .before .before .before .before .before .before .before .pre .0 in
-    let pre0 = c .before .before .before .before .before .before .before .before .before .before .before .pre .1 in
-    let peek = rw (c .before .before .k .given .1) at (c .before .before .before .before .peek .ensures) in
-    let if1 = c .if1 .taken in
-    search asks depth 8
+    tt
 
 ty-prec-returns-2 : (t : ℕ) → ty-prec-lts.Need-returns-2 (
   peek-reads.Asked,
@@ -3408,11 +3214,7 @@ ty-prec-mark-requires : (t : ℕ) → ty-prec-lts.Need-mark-requires (
   ty-tail.Post,
 ) (ty-prec-at t) ty-prec.Post
 ty-prec-mark-requires t c κs =
-    let falls = c .before .before .before .before .before .before .before .before .before .before .before .before .before .pre .0 in
-    let pre0 = c .before .before .before .before .before .before .before .before .before .before .before .before .before .pre .1 in
-    let peek = rw (c .before .before .before .before .k .given .1) at (c .before .before .before .before .before .before .peek .ensures) in
-    let if1 = c .before .before .if1 .left in
-    search asks depth 8
+    tt
 
 ty-prec-ty-head-requires : (t : ℕ) → ty-prec-lts.Need-ty-head-requires (
   peek-reads.Asked,
@@ -3429,11 +3231,10 @@ ty-prec-ty-head-requires : (t : ℕ) → ty-prec-lts.Need-ty-head-requires (
 ty-prec-ty-head-requires t c κs =
     let falls = c .before .before .before .before .before .before .before .before .before .before .before .before .before .before .pre .0 in
     let pre0 = c .before .before .before .before .before .before .before .before .before .before .before .before .before .before .pre .1 in
-    let peek = rw (c .before .before .before .before .before .k .given .1) at (c .before .before .before .before .before .before .before .peek .ensures) in
     let if1 = c .before .before .before .if1 .left in
     let mark = c .mark .ensures in
     let mark-ok = ok-marks mark pre0 in
-    search asks depth 8
+    (omega arith, (mark-ok, small-len pre0))
 
 ty-prec-enum-known-head : (t : ℕ) → ty-prec-lts.Need-enum-known-head (
   peek-reads.Asked,
@@ -3486,13 +3287,10 @@ ty-prec-ty-tail-requires : (t : ℕ) → ty-prec-lts.Need-ty-tail-requires (
 ty-prec-ty-tail-requires t c κs =
     let falls = c .before .before .before .before .before .before .before .before .before .before .before .before .before .before .before .before .before .before .before .before .before .before .before .before .pre .0 in
     let pre0 = c .before .before .before .before .before .before .before .before .before .before .before .before .before .before .before .before .before .before .before .before .before .before .before .before .pre .1 in
-    let peek = rw (c .before .before .before .before .before .before .before .before .before .before .before .before .before .before .before .k .given .1) at (c .before .before .before .before .before .before .before .before .before .before .before .before .before .before .before .before .before .peek .ensures) in
     let if1 = c .before .before .before .before .before .before .before .before .before .before .before .before .before .if1 .left in
-    let mark = c .before .before .before .before .before .before .before .before .before .before .mark .ensures in
-    let mark-ok = ok-marks mark pre0 in
     let ty-head = rw (c .before .before .before .head2 .given .1) at (c .before .before .before .before .before .before .before .before .before .ty-head .ensures) in
     let ty-head-ok = ty-head .ok in
-    search asks depth 8
+    (omega arith, (ty-head-ok, small-len pre0))
 
 ty-prec-same-length : (t : ℕ) → ty-prec-lts.Need-same-length (
   peek-reads.Asked,
@@ -3615,7 +3413,7 @@ ty-round-ty-seq-requires t c κs =
     let falls = c .before .before .before .before .before .before .before .before .pre .0 in
     let pre0 = c .before .before .before .before .before .before .before .before .pre .1 .0 in
     let pre1 = c .before .before .before .before .before .before .before .before .pre .1 .1 in
-    search asks depth 8
+    (omega arith, pre0)
 
 ty-round-enum-known-seq : (t : ℕ) → ty-round-lts.Need-enum-known-seq (
   ty-seq-below t,
@@ -3648,12 +3446,9 @@ ty-round-path-must-requires : (t : ℕ) → ty-round-lts.Need-path-must-requires
   bump-reads.Learnt,
 ) (ty-round-at t) ty-round.Post
 ty-round-path-must-requires t c κs =
-    let falls = c .before .before .before .before .before .before .before .before .before .before .before .before .before .before .before .before .before .before .pre .0 in
-    let pre0 = c .before .before .before .before .before .before .before .before .before .before .before .before .before .before .before .before .before .before .pre .1 .0 in
-    let pre1 = c .before .before .before .before .before .before .before .before .before .before .before .before .before .before .before .before .before .before .pre .1 .1 in
     let ty-seq = rw (c .before .before .before .seq .given .1) at (c .before .before .before .before .before .before .before .before .before .ty-seq .ensures) in
     let ty-seq-ok = ty-seq .ok in
-    search asks depth 8
+    ty-seq-ok
 
 ty-round-state-requires : (t : ℕ) → ty-round-lts.Need-state-requires (
   ty-seq-below t,
@@ -3668,14 +3463,7 @@ ty-round-state-requires : (t : ℕ) → ty-round-lts.Need-state-requires (
   bump-reads.Learnt,
 ) (ty-round-at t) ty-round.Post
 ty-round-state-requires t c κs =
-    let falls = c .before .before .before .before .before .before .before .before .before .before .before .before .before .before .before .before .before .before .before .before .before .before .before .pre .0 in
-    let pre0 = c .before .before .before .before .before .before .before .before .before .before .before .before .before .before .before .before .before .before .before .before .before .before .before .pre .1 .0 in
-    let pre1 = c .before .before .before .before .before .before .before .before .before .before .before .before .before .before .before .before .before .before .before .before .before .before .before .pre .1 .1 in
-    let ty-seq = rw (c .before .before .before .before .before .before .before .before .seq .given .1) at (c .before .before .before .before .before .before .before .before .before .before .before .before .before .before .ty-seq .ensures) in
-    let ty-seq-ok = ty-seq .ok in
-    let path-must = c .before .before .before .before .path-must .ensures in
-    let path-must-ok = path-must .ok in
-    search asks depth 8
+    tt
 
 ty-round-close-requires : (t : ℕ) → ty-round-lts.Need-close-requires (
   ty-seq-below t,
@@ -3690,16 +3478,12 @@ ty-round-close-requires : (t : ℕ) → ty-round-lts.Need-close-requires (
   bump-reads.Learnt,
 ) (ty-round-at t) ty-round.Post
 ty-round-close-requires t c κs =
-    let falls = c .before .before .before .before .before .before .before .before .before .before .before .before .before .before .before .before .before .before .before .before .before .before .before .before .before .pre .0 in
-    let pre0 = c .before .before .before .before .before .before .before .before .before .before .before .before .before .before .before .before .before .before .before .before .before .before .before .before .before .pre .1 .0 in
     let pre1 = c .before .before .before .before .before .before .before .before .before .before .before .before .before .before .before .before .before .before .before .before .before .before .before .before .before .pre .1 .1 in
-    let ty-seq = rw (c .before .before .before .before .before .before .before .before .before .before .seq .given .1) at (c .before .before .before .before .before .before .before .before .before .before .before .before .before .before .before .before .ty-seq .ensures) in
-    let ty-seq-ok = ty-seq .ok in
     let path-must = c .before .before .before .before .before .before .path-must .ensures in
     let path-must-ok = path-must .ok in
     let state = c .before .state .ensures in
     let state-ok = ok-state state path-must-ok in
-    search asks depth 8
+    (state-ok .logs, pre1)
 
 ty-round-enum-known-seq-2 : (t : ℕ) → ty-round-lts.Need-enum-known-seq-2 (
   ty-seq-below t,
@@ -3732,12 +3516,9 @@ ty-round-bump-requires : (t : ℕ) → ty-round-lts.Need-bump-requires (
   bump-reads.Learnt,
 ) (ty-round-at t) ty-round.Post
 ty-round-bump-requires t c κs =
-    let falls = c .before .before .before .before .before .before .before .before .before .before .before .before .before .before .before .before .before .pre .0 in
-    let pre0 = c .before .before .before .before .before .before .before .before .before .before .before .before .before .before .before .before .before .pre .1 .0 in
-    let pre1 = c .before .before .before .before .before .before .before .before .before .before .before .before .before .before .before .before .before .pre .1 .1 in
     let ty-seq = rw (c .before .before .seq2 .given .1) at (c .before .before .before .before .before .before .before .before .ty-seq .ensures) in
     let ty-seq-ok = ty-seq .ok in
-    search asks depth 8
+    (ty-seq-ok .reads, ty-seq-ok .logs)
 
 ty-round-close-requires-2 : (t : ℕ) → ty-round-lts.Need-close-requires-2 (
   ty-seq-below t,
@@ -3752,14 +3533,12 @@ ty-round-close-requires-2 : (t : ℕ) → ty-round-lts.Need-close-requires-2 (
   bump-reads.Learnt,
 ) (ty-round-at t) ty-round.Post
 ty-round-close-requires-2 t c κs =
-    let falls = c .before .before .before .before .before .before .before .before .before .before .before .before .before .before .before .before .before .before .before .before .before .pre .0 in
-    let pre0 = c .before .before .before .before .before .before .before .before .before .before .before .before .before .before .before .before .before .before .before .before .before .pre .1 .0 in
     let pre1 = c .before .before .before .before .before .before .before .before .before .before .before .before .before .before .before .before .before .before .before .before .before .pre .1 .1 in
     let ty-seq = rw (c .before .before .before .before .before .before .seq2 .given .1) at (c .before .before .before .before .before .before .before .before .before .before .before .before .ty-seq .ensures) in
     let ty-seq-ok = ty-seq .ok in
     let bump = c .before .before .before .bump .ensures in
     let bump-ok = ok-bumps bump ty-seq-ok in
-    search asks depth 8
+    (bump-ok .logs, pre1)
 
 ty-round-same-length : (t : ℕ) → ty-round-lts.Need-same-length (
   ty-seq-below t,
@@ -3875,9 +3654,8 @@ ty-row-lab-requires : (t : ℕ) → ty-row-lts.Need-lab-requires (
   ty-must.Post,
 ) (ty-row-at t) ty-row.Post
 ty-row-lab-requires t c κs =
-    let falls = c .before .before .before .before .before .before .before .before .pre .0 in
     let pre0 = c .before .before .before .before .before .before .before .before .pre .1 in
-    search asks depth 8
+    pre0
 
 ty-row-bump-ascription-requires : (t : ℕ) → ty-row-lts.Need-bump-ascription-requires (
   lab-reads.Asked,
@@ -3888,11 +3666,9 @@ ty-row-bump-ascription-requires : (t : ℕ) → ty-row-lts.Need-bump-ascription-
   ty-must.Post,
 ) (ty-row-at t) ty-row.Post
 ty-row-bump-ascription-requires t c κs =
-    let falls = c .before .before .before .before .before .before .before .before .before .before .before .before .before .before .before .pre .0 in
-    let pre0 = c .before .before .before .before .before .before .before .before .before .before .before .before .before .before .before .pre .1 in
     let lab = c .before .before .before .before .before .before .lab .ensures in
     let lab-ok = lab .ok in
-    search asks depth 8
+    lab-ok
 
 ty-row-ty-must-requires : (t : ℕ) → ty-row-lts.Need-ty-must-requires (
   lab-reads.Asked,
@@ -3904,12 +3680,9 @@ ty-row-ty-must-requires : (t : ℕ) → ty-row-lts.Need-ty-must-requires (
 ) (ty-row-at t) ty-row.Post
 ty-row-ty-must-requires t c κs =
     let falls = c .before .before .before .before .before .before .before .before .before .before .before .before .before .before .before .before .before .before .before .before .before .before .pre .0 in
-    let pre0 = c .before .before .before .before .before .before .before .before .before .before .before .before .before .before .before .before .before .before .before .before .before .before .pre .1 in
-    let lab = c .before .before .before .before .before .before .before .before .before .before .before .before .before .lab .ensures in
-    let lab-ok = lab .ok in
     let bump-ascription = c .before .before .before .before .before .before .bump-ascription .ensures in
     let bump-ascription-ok = bump-ascription .ok in
-    search asks depth 8
+    (omega arith, bump-ascription-ok)
 
 ty-row-same-length : (t : ℕ) → ty-row-lts.Need-same-length (
   lab-reads.Asked,
@@ -3976,9 +3749,8 @@ ty-rows-row-turn-requires : (t : ℕ) → ty-rows-lts.Need-row-turn-requires (
 ) (ty-rows-at t) ty-rows.Post ty-rows-Inv-loop ty-rows-μ-loop
 ty-rows-row-turn-requires t c κs =
     let falls = c .before .before .before .before .before .before .before .before .before .pre .0 in
-    let pre0 = c .before .before .before .before .before .before .before .before .before .pre .1 in
     let inv = c .before .before .loop .inv .0 .ok in
-    search asks depth 8
+    (omega arith, inv)
 
 ty-rows-enum-known-turn : (t : ℕ) → ty-rows-lts.Need-enum-known-turn (
   row-turn-below t,
@@ -3998,8 +3770,8 @@ ty-rows-loop-less :
     ty-rows-Inv-loop
     ty-rows-μ-loop
 ty-rows-loop-less t c =
-    let row-turn = runs-in {b = 0} (rw (c .before .turn .given .1) at (c .before .before .before .before .before .before .before .row-turn .ensures)) in
-    loop-falls (end-turn-advances true _ _ _ _ _ _) row-turn
+    let row-turn = rw (c .before .turn .given .1) at (c .before .before .before .before .before .before .before .row-turn .ensures) in
+    loop-falls (end-turn-advances true _ _ _ _ _ _) (runs-in {b = 0} row-turn)
 
 ty-rows-loop-again :
     (t : ℕ) →
@@ -4010,8 +3782,9 @@ ty-rows-loop-again :
     ty-rows-Inv-loop
     ty-rows-μ-loop
 ty-rows-loop-again t c =
-    let row-turn = runs-in (rw (c .before .turn .given .1) at (c .before .before .before .before .before .before .before .row-turn .ensures)) in
-    (loop-goes (end-turn-advances true _ _ _ _ _ _) (c .before .before .before .before .before .before .before .before .before .before .loop .inv .0) row-turn, c .before .before .before .before .before .before .before .row-turn .kept .1 .1 .1 .1 .0 ∙ c .before .before .before .before .before .before .before .before .before .before .loop .inv .1, c .before .before .before .before .before .before .before .row-turn .kept .1 .1 .1 .1 .1 .0 ∙ c .before .before .before .before .before .before .before .before .before .before .loop .inv .2)
+    let inv = c .before .before .before .before .before .before .before .before .before .before .loop .inv .0 in
+    let row-turn = rw (c .before .turn .given .1) at (c .before .before .before .before .before .before .before .row-turn .ensures) in
+    (loop-goes (end-turn-advances true _ _ _ _ _ _) inv (runs-in row-turn), c .before .before .before .before .before .before .before .row-turn .kept .1 .1 .1 .1 .0 ∙ c .before .before .before .before .before .before .before .before .before .before .loop .inv .1, c .before .before .before .before .before .before .before .row-turn .kept .1 .1 .1 .1 .1 .0 ∙ c .before .before .before .before .before .before .before .before .before .before .loop .inv .2)
 
 ty-rows-enum-known-turn-2 : (t : ℕ) → ty-rows-lts.Need-enum-known-turn-2 (
   row-turn-below t,
@@ -4053,8 +3826,9 @@ ty-rows-returns :
     ty-rows-Inv-loop
     ty-rows-μ-loop
 ty-rows-returns t c =
-    let row-turn = runs-in (rw (c .before .turn2 .given .1) at (c .before .before .before .before .before .before .before .row-turn .ensures)) in
-    loop-ends (end-turn-advances true _ _ _ _ _ _) (c .before .before .before .before .before .before .before .before .before .before .loop .inv .0) row-turn
+    let inv = c .before .before .before .before .before .before .before .before .before .before .loop .inv .0 in
+    let row-turn = rw (c .before .turn2 .given .1) at (c .before .before .before .before .before .before .before .row-turn .ensures) in
+    loop-ends (end-turn-advances true _ _ _ _ _ _) inv (runs-in row-turn)
 
 ty-seq-refuse-requires : (t : ℕ) → ty-seq-lts.Need-refuse-requires (
   refuse-reads.Asked,
@@ -4071,10 +3845,7 @@ ty-seq-refuse-requires : (t : ℕ) → ty-seq-lts.Need-refuse-requires (
   close-reads.Learnt,
 ) (ty-seq-at t) ty-seq.Post
 ty-seq-refuse-requires t c κs =
-    let falls = c .before .before .before .before .before .before .before .pre .0 in
-    let pre0 = c .before .before .before .before .before .before .before .pre .1 in
-    let if1 = c .if1 .taken in
-    search asks depth 8
+    tt
 
 ty-seq-returns : (t : ℕ) → ty-seq-lts.Need-returns (
   refuse-reads.Asked,
@@ -4113,10 +3884,7 @@ ty-seq-mark-requires : (t : ℕ) → ty-seq-lts.Need-mark-requires (
   close-reads.Learnt,
 ) (ty-seq-at t) ty-seq.Post
 ty-seq-mark-requires t c κs =
-    let falls = c .before .before .before .before .before .before .before .pre .0 in
-    let pre0 = c .before .before .before .before .before .before .before .pre .1 in
-    let if1 = c .if1 .left in
-    search asks depth 8
+    tt
 
 ty-seq-bump-requires : (t : ℕ) → ty-seq-lts.Need-bump-requires (
   refuse-reads.Asked,
@@ -4133,12 +3901,10 @@ ty-seq-bump-requires : (t : ℕ) → ty-seq-lts.Need-bump-requires (
   close-reads.Learnt,
 ) (ty-seq-at t) ty-seq.Post
 ty-seq-bump-requires t c κs =
-    let falls = c .before .before .before .before .before .before .before .before .before .pre .0 in
     let pre0 = c .before .before .before .before .before .before .before .before .before .pre .1 in
-    let if1 = c .before .before .if1 .left in
     let mark = c .before .mark .ensures in
     let mark-ok = ok-marks mark pre0 in
-    search asks depth 8
+    (mark-ok .reads, mark-ok .logs)
 
 ty-seq-sub-ty-arg : (t : ℕ) → ty-seq-lts.Need-sub-ty-arg (
   refuse-reads.Asked,
@@ -4182,7 +3948,7 @@ ty-seq-ty-arg-requires t c κs =
     let mark-ok = ok-marks mark pre0 in
     let bump = c .before .before .before .before .bump .ensures in
     let bump-ok = ok-bumps bump mark-ok in
-    search asks depth 8
+    (omega arith, bump-ok)
 
 ty-seq-enum-known-arg : (t : ℕ) → ty-seq-lts.Need-enum-known-arg (
   refuse-reads.Asked,
@@ -4240,15 +4006,10 @@ ty-seq-ty-args-requires : (t : ℕ) → ty-seq-lts.Need-ty-args-requires (
 ) (ty-seq-at t) ty-seq.Post
 ty-seq-ty-args-requires t c κs =
     let falls = c .before .before .before .before .before .before .before .before .before .before .before .before .before .before .before .before .before .before .before .before .before .before .before .before .pre .0 in
-    let pre0 = c .before .before .before .before .before .before .before .before .before .before .before .before .before .before .before .before .before .before .before .before .before .before .before .before .pre .1 in
     let if1 = c .before .before .before .before .before .before .before .before .before .before .before .before .before .before .before .before .before .if1 .left in
-    let mark = c .before .before .before .before .before .before .before .before .before .before .before .before .before .before .before .before .mark .ensures in
-    let mark-ok = ok-marks mark pre0 in
-    let bump = c .before .before .before .before .before .before .before .before .before .before .before .before .before .before .bump .ensures in
-    let bump-ok = ok-bumps bump mark-ok in
     let ty-arg = rw (c .before .before .before .arg .given .1) at (c .before .before .before .before .before .before .before .before .before .ty-arg .ensures) in
     let ty-arg-ok = ty-arg .ok in
-    search asks depth 8
+    (omega arith, ty-arg-ok)
 
 ty-seq-close-requires : (t : ℕ) → ty-seq-lts.Need-close-requires (
   refuse-reads.Asked,
@@ -4265,18 +4026,12 @@ ty-seq-close-requires : (t : ℕ) → ty-seq-lts.Need-close-requires (
   close-reads.Learnt,
 ) (ty-seq-at t) ty-seq.Post
 ty-seq-close-requires t c κs =
-    let falls = c .before .before .before .before .before .before .before .before .before .before .before .before .before .before .before .before .before .before .before .before .before .before .before .before .before .before .before .before .before .before .pre .0 in
     let pre0 = c .before .before .before .before .before .before .before .before .before .before .before .before .before .before .before .before .before .before .before .before .before .before .before .before .before .before .before .before .before .before .pre .1 in
-    let if1 = c .before .before .before .before .before .before .before .before .before .before .before .before .before .before .before .before .before .before .before .before .before .before .before .if1 .left in
     let mark = c .before .before .before .before .before .before .before .before .before .before .before .before .before .before .before .before .before .before .before .before .before .before .mark .ensures in
     let mark-ok = ok-marks mark pre0 in
-    let bump = c .before .before .before .before .before .before .before .before .before .before .before .before .before .before .before .before .before .before .before .before .bump .ensures in
-    let bump-ok = ok-bumps bump mark-ok in
-    let ty-arg = rw (c .before .before .before .before .before .before .before .before .before .arg .given .1) at (c .before .before .before .before .before .before .before .before .before .before .before .before .before .before .before .ty-arg .ensures) in
-    let ty-arg-ok = ty-arg .ok in
     let ty-args = c .before .before .before .before .before .ty-args .ensures in
     let ty-args-ok = ty-args .ok in
-    search asks depth 8
+    (ty-args-ok .logs, small-len mark-ok)
 
 ty-seq-enum-known-arg-2 : (t : ℕ) → ty-seq-lts.Need-enum-known-arg-2 (
   refuse-reads.Asked,
@@ -4427,10 +4182,8 @@ ty-step-peek-requires : (t : ℕ) → ty-step-lts.Need-peek-requires (
   ty-con-reads.Learnt,
 ) (ty-step-at t) ty-step.Post
 ty-step-peek-requires t c κs =
-    let falls = c .before .before .before .before .before .before .pre .0 in
     let pre0 = c .before .before .before .before .before .before .pre .1 .0 in
-    let pre1 = c .before .before .before .before .before .before .pre .1 .1 in
-    search asks depth 8
+    pre0 .reads
 
 ty-step-enum-known-k : (t : ℕ) → ty-step-lts.Need-enum-known-k (
   peek-reads.Asked,
@@ -4516,10 +4269,9 @@ ty-step-ty-arrow-requires t c κs =
     let falls = c .before .before .before .before .before .before .before .before .before .before .before .before .before .before .pre .0 in
     let pre0 = c .before .before .before .before .before .before .before .before .before .before .before .before .before .before .pre .1 .0 in
     let pre1 = c .before .before .before .before .before .before .before .before .before .before .before .before .before .before .pre .1 .1 in
-    let peek = rw (c .before .before .before .before .before .k .given .1) at (c .before .before .before .before .before .before .before .peek .ensures) in
     let if1 = c .before .before .before .if1 .taken in
     let if2 = c .before .before .if2 .left in
-    search asks depth 8
+    (omega arith, (pre0, pre1))
 
 ty-step-same-length : (t : ℕ) → ty-step-lts.Need-same-length (
   peek-reads.Asked,
@@ -4603,11 +4355,10 @@ ty-step-ty-tuple-requires t c κs =
     let falls = c .before .before .before .before .before .before .before .before .before .before .before .before .before .before .before .pre .0 in
     let pre0 = c .before .before .before .before .before .before .before .before .before .before .before .before .before .before .before .pre .1 .0 in
     let pre1 = c .before .before .before .before .before .before .before .before .before .before .before .before .before .before .before .pre .1 .1 in
-    let peek = rw (c .before .before .before .before .before .before .k .given .1) at (c .before .before .before .before .before .before .before .before .peek .ensures) in
     let if1 = c .before .before .before .before .if1 .left in
     let if3 = c .before .before .before .if3 .taken in
     let if4 = c .before .before .if4 .left in
-    search asks depth 8
+    (omega arith, (pre0, pre1))
 
 ty-step-same-length-3 : (t : ℕ) → ty-step-lts.Need-same-length-3 (
   peek-reads.Asked,
@@ -4668,14 +4419,9 @@ ty-step-ty-con-requires : (t : ℕ) → ty-step-lts.Need-ty-con-requires (
   ty-con-reads.Learnt,
 ) (ty-step-at t) ty-step.Post
 ty-step-ty-con-requires t c κs =
-    let falls = c .before .before .before .before .before .before .before .before .before .before .before .before .before .before .before .pre .0 in
     let pre0 = c .before .before .before .before .before .before .before .before .before .before .before .before .before .before .before .pre .1 .0 in
     let pre1 = c .before .before .before .before .before .before .before .before .before .before .before .before .before .before .before .pre .1 .1 in
-    let peek = rw (c .before .before .before .before .before .before .k .given .1) at (c .before .before .before .before .before .before .before .before .peek .ensures) in
-    let if1 = c .before .before .before .before .if1 .left in
-    let if3 = c .before .before .before .if3 .left in
-    let if5 = c .before .before .if5 .taken in
-    search asks depth 8
+    (pre0, pre1)
 
 ty-step-same-length-5 : (t : ℕ) → ty-step-lts.Need-same-length-5 (
   peek-reads.Asked,
@@ -4773,10 +4519,9 @@ ty-tail-ty-step-requires : (t : ℕ) → ty-tail-lts.Need-ty-step-requires (
 ) (ty-tail-at t) ty-tail.Post ty-tail-Inv-loop ty-tail-μ-loop
 ty-tail-ty-step-requires t c κs =
     let falls = c .before .before .before .before .before .before .before .before .before .pre .0 in
-    let pre0 = c .before .before .before .before .before .before .before .before .before .pre .1 .0 in
     let pre1 = c .before .before .before .before .before .before .before .before .before .pre .1 .1 in
     let inv = c .before .before .loop .inv .0 .ok in
-    search asks depth 8
+    (omega arith, (inv, pre1))
 
 ty-tail-enum-known-step : (t : ℕ) → ty-tail-lts.Need-enum-known-step (
   ty-step-below t,
@@ -4809,8 +4554,9 @@ ty-tail-loop-again :
     ty-tail-Inv-loop
     ty-tail-μ-loop
 ty-tail-loop-again t c =
+    let inv = c .before .before .before .before .before .before .before .before .before .before .loop .inv .0 in
     let ty-step = rw (c .before .step .given .1) at (c .before .before .before .before .before .before .before .ty-step .ensures) in
-    (loop-goes (ty-step-advances _ _ _) (c .before .before .before .before .before .before .before .before .before .before .loop .inv .0) ty-step, c .before .before .before .before .before .before .before .ty-step .kept .1 .1 .1 .1 .0 ∙ c .before .before .before .before .before .before .before .before .before .before .loop .inv .1, c .before .before .before .before .before .before .before .ty-step .kept .1 .1 .1 .1 .1 .0 ∙ c .before .before .before .before .before .before .before .before .before .before .loop .inv .2)
+    (loop-goes (ty-step-advances _ _ _) inv ty-step, c .before .before .before .before .before .before .before .ty-step .kept .1 .1 .1 .1 .0 ∙ c .before .before .before .before .before .before .before .before .before .before .loop .inv .1, c .before .before .before .before .before .before .before .ty-step .kept .1 .1 .1 .1 .1 .0 ∙ c .before .before .before .before .before .before .before .before .before .before .loop .inv .2)
 
 ty-tail-enum-known-step-2 : (t : ℕ) → ty-tail-lts.Need-enum-known-step-2 (
   ty-step-below t,
@@ -4853,8 +4599,9 @@ ty-tail-returns :
     ty-tail-Inv-loop
     ty-tail-μ-loop
 ty-tail-returns t c =
+    let inv = c .before .before .before .before .before .before .before .before .before .before .loop .inv .0 in
     let ty-step = rw (c .before .step2 .given .1) at (c .before .before .before .before .before .before .before .ty-step .ensures) in
-    loop-ends (ty-step-advances _ _ _) (c .before .before .before .before .before .before .before .before .before .before .loop .inv .0) ty-step
+    loop-ends (ty-step-advances _ _ _) inv ty-step
 
 ty-tuple-refuse-requires : (t : ℕ) → ty-tuple-lts.Need-refuse-requires (
   refuse-reads.Asked,
@@ -4867,11 +4614,7 @@ ty-tuple-refuse-requires : (t : ℕ) → ty-tuple-lts.Need-refuse-requires (
   close-reads.Learnt,
 ) (ty-tuple-at t) ty-tuple.Post
 ty-tuple-refuse-requires t c κs =
-    let falls = c .before .before .before .before .before .before .before .pre .0 in
-    let pre0 = c .before .before .before .before .before .before .before .pre .1 .0 in
-    let pre1 = c .before .before .before .before .before .before .before .pre .1 .1 in
-    let if1 = c .if1 .taken in
-    search asks depth 8
+    tt
 
 ty-tuple-returns : (t : ℕ) → ty-tuple-lts.Need-returns (
   refuse-reads.Asked,
@@ -4920,11 +4663,7 @@ ty-tuple-mark-requires : (t : ℕ) → ty-tuple-lts.Need-mark-requires (
   close-reads.Learnt,
 ) (ty-tuple-at t) ty-tuple.Post
 ty-tuple-mark-requires t c κs =
-    let falls = c .before .before .before .before .before .before .before .before .before .pre .0 in
-    let pre0 = c .before .before .before .before .before .before .before .before .before .pre .1 .0 in
-    let pre1 = c .before .before .before .before .before .before .before .before .before .pre .1 .1 in
-    let if1 = c .before .before .if1 .left in
-    search asks depth 8
+    tt
 
 ty-tuple-star-tail-requires : (t : ℕ) → ty-tuple-lts.Need-star-tail-requires (
   refuse-reads.Asked,
@@ -4943,7 +4682,7 @@ ty-tuple-star-tail-requires t c κs =
     let if1 = c .before .before .before .if1 .left in
     let mark = c .mark .ensures in
     let mark-ok = ok-marks mark pre0 in
-    search asks depth 8
+    (omega arith, mark-ok)
 
 ty-tuple-close-requires : (t : ℕ) → ty-tuple-lts.Need-close-requires (
   refuse-reads.Asked,
@@ -4956,15 +4695,10 @@ ty-tuple-close-requires : (t : ℕ) → ty-tuple-lts.Need-close-requires (
   close-reads.Learnt,
 ) (ty-tuple-at t) ty-tuple.Post
 ty-tuple-close-requires t c κs =
-    let falls = c .before .before .before .before .before .before .before .before .before .before .before .before .before .before .before .before .pre .0 in
-    let pre0 = c .before .before .before .before .before .before .before .before .before .before .before .before .before .before .before .before .pre .1 .0 in
     let pre1 = c .before .before .before .before .before .before .before .before .before .before .before .before .before .before .before .before .pre .1 .1 in
-    let if1 = c .before .before .before .before .before .before .before .before .before .if1 .left in
-    let mark = c .before .before .before .before .before .before .mark .ensures in
-    let mark-ok = ok-marks mark pre0 in
     let star-tail = c .before .before .before .before .before .star-tail .ensures in
     let star-tail-ok = star-tail .ok in
-    search asks depth 8
+    (star-tail-ok .logs, pre1)
 
 ty-tuple-same-length : (t : ℕ) → ty-tuple-lts.Need-same-length (
   refuse-reads.Asked,

@@ -1,6 +1,6 @@
 -- by tools/prove
 use Rattle.grammar.specs.Ty as types
-use Rattle.parser.specs.Runs.{asks, runs-in, kind-at, kind-off, ok-bumps, ok-marks}
+use Rattle.parser.specs.Runs.{runs-in, kind-at, kind-off, ok-bumps, ok-marks, small-len}
 use Rattle.parser.specs.Plans.{plan, choose, chosen, by-steps, s-kind, s-true, s-false, s-bump, s-close, s-mark, s-deep, s-by, s-end}
 use mathlib.Core.Path.{_≡_, refl, _∙_}
 use lib.ListN.{length}
@@ -19,15 +19,11 @@ use Rattle.ty.proofs.ty_must.Reads as ty-must-reads
 at-requires : tie.Need-at-requires
 at-requires c κs =
     let pre0 = c .before .before .before .before .before .before .pre in
-    search asks depth 8
+    pre0 .reads
 
 refuse-requires : tie.Need-refuse-requires
 refuse-requires c κs =
-    let pre0 = c .before .before .before .before .before .before .before .before .before .pre in
-    let at = c .before .before .at .ensures in
-    let if1 = c .before .if1 .taken in
-    let if2 = c .if2 .taken in
-    search asks depth 8
+    tt
 
 returns : tie.Need-returns
 unfolding types.ofTy plan choose chosen
@@ -41,21 +37,14 @@ returns c =
 
 mark-requires : tie.Need-mark-requires
 mark-requires c κs =
-    let pre0 = c .before .before .before .before .before .before .before .before .before .pre in
-    let at = c .before .before .at .ensures in
-    let if1 = c .before .if1 .taken in
-    let if2 = c .if2 .left in
-    search asks depth 8
+    tt
 
 bump-requires : tie.Need-bump-requires
 bump-requires c κs =
     let pre0 = c .before .before .before .before .before .before .before .before .before .before .before .pre in
-    let at = c .before .before .before .before .at .ensures in
-    let if1 = c .before .before .before .if1 .taken in
-    let if2 = c .before .before .if2 .left in
     let mark = c .before .mark .ensures in
     let mark-ok = ok-marks mark pre0 in
-    search asks depth 8
+    (mark-ok .reads, mark-ok .logs)
 
 sub-ty-must : tie.Need-sub-ty-must
 sub-ty-must c =
@@ -67,28 +56,20 @@ sub-ty-must c =
 ty-must-requires : tie.Need-ty-must-requires
 ty-must-requires c κs =
     let pre0 = c .before .before .before .before .before .before .before .before .before .before .before .before .before .before .before .before .pre in
-    let at = c .before .before .before .before .before .before .before .before .before .at .ensures in
-    let if1 = c .before .before .before .before .before .before .before .before .if1 .taken in
-    let if2 = c .before .before .before .before .before .before .before .if2 .left in
     let mark = c .before .before .before .before .before .before .mark .ensures in
     let mark-ok = ok-marks mark pre0 in
     let bump = c .before .before .before .before .bump .ensures in
     let bump-ok = ok-bumps bump mark-ok in
-    search asks depth 8
+    bump-ok
 
 close-requires : tie.Need-close-requires
 close-requires c κs =
     let pre0 = c .before .before .before .before .before .before .before .before .before .before .before .before .before .before .before .before .before .before .before .before .before .before .pre in
-    let at = c .before .before .before .before .before .before .before .before .before .before .before .before .before .before .before .at .ensures in
-    let if1 = c .before .before .before .before .before .before .before .before .before .before .before .before .before .before .if1 .taken in
-    let if2 = c .before .before .before .before .before .before .before .before .before .before .before .before .before .if2 .left in
     let mark = c .before .before .before .before .before .before .before .before .before .before .before .before .mark .ensures in
     let mark-ok = ok-marks mark pre0 in
-    let bump = c .before .before .before .before .before .before .before .before .before .before .bump .ensures in
-    let bump-ok = ok-bumps bump mark-ok in
     let ty-must = c .before .before .before .before .before .ty-must .ensures in
     let ty-must-ok = ty-must .ok in
-    search asks depth 8
+    (ty-must-ok .logs, small-len mark-ok)
 
 same-length : tie.Need-same-length
 same-length c =

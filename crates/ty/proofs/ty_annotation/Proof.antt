@@ -1,6 +1,6 @@
 -- by tools/prove
 use Rattle.grammar.specs.Ty as types
-use Rattle.parser.specs.Runs.{asks, runs-in, test-true, test-false, ok-bumps, ok-marks}
+use Rattle.parser.specs.Runs.{runs-in, test-true, test-false, ok-bumps, ok-marks, small-len}
 use Rattle.parser.specs.Plans.{plan, choose, chosen, by-steps, s-look, s-true, s-false, s-bump, s-close, s-mark, s-deep, s-by, s-end}
 use mathlib.Core.Path.{_≡_, refl, _∙_}
 use lib.ListN.{length}
@@ -20,7 +20,7 @@ use Rattle.ty.proofs.ty_must.Reads as ty-must-reads
 peek-requires : tie.Need-peek-requires
 peek-requires c κs =
     let pre0 = c .before .before .before .before .before .before .pre in
-    search asks depth 8
+    pre0 .reads
 
 enum-known-k : tie.Need-enum-known-k
 enum-known-k c =
@@ -41,18 +41,11 @@ returns c =
 
 ascription-requires : tie.Need-ascription-requires
 ascription-requires c κs =
-    let pre0 = c .before .before .before .before .before .before .before .before .before .before .pre in
-    let peek = rw (c .before .k .given .1) at (c .before .before .before .peek .ensures) in
-    search asks depth 8
+    tt
 
 refuse-requires : tie.Need-refuse-requires
 refuse-requires c κs =
-    let pre0 = c .before .before .before .before .before .before .before .before .before .before .before .before .before .pre in
-    let peek = rw (c .before .before .before .before .k .given .1) at (c .before .before .before .before .before .before .peek .ensures) in
-    let ascription = c .before .before .ascription .ensures in
-    let if1 = c .before .if1 .taken in
-    let if2 = c .if2 .taken in
-    search asks depth 8
+    tt
 
 returns-2 : tie.Need-returns-2
 unfolding types.tyAnnotation plan choose chosen
@@ -67,23 +60,14 @@ returns-2 c =
 
 mark-requires : tie.Need-mark-requires
 mark-requires c κs =
-    let pre0 = c .before .before .before .before .before .before .before .before .before .before .before .before .before .pre in
-    let peek = rw (c .before .before .before .before .k .given .1) at (c .before .before .before .before .before .before .peek .ensures) in
-    let ascription = c .before .before .ascription .ensures in
-    let if1 = c .before .if1 .taken in
-    let if2 = c .if2 .left in
-    search asks depth 8
+    tt
 
 bump-requires : tie.Need-bump-requires
 bump-requires c κs =
     let pre0 = c .before .before .before .before .before .before .before .before .before .before .before .before .before .before .before .pre in
-    let peek = rw (c .before .before .before .before .before .before .k .given .1) at (c .before .before .before .before .before .before .before .before .peek .ensures) in
-    let ascription = c .before .before .before .before .ascription .ensures in
-    let if1 = c .before .before .before .if1 .taken in
-    let if2 = c .before .before .if2 .left in
     let mark = c .before .mark .ensures in
     let mark-ok = ok-marks mark pre0 in
-    search asks depth 8
+    (mark-ok .reads, mark-ok .logs)
 
 sub-ty-must : tie.Need-sub-ty-must
 sub-ty-must c =
@@ -95,30 +79,20 @@ sub-ty-must c =
 ty-must-requires : tie.Need-ty-must-requires
 ty-must-requires c κs =
     let pre0 = c .before .before .before .before .before .before .before .before .before .before .before .before .before .before .before .before .before .before .before .before .pre in
-    let peek = rw (c .before .before .before .before .before .before .before .before .before .before .before .k .given .1) at (c .before .before .before .before .before .before .before .before .before .before .before .before .before .peek .ensures) in
-    let ascription = c .before .before .before .before .before .before .before .before .before .ascription .ensures in
-    let if1 = c .before .before .before .before .before .before .before .before .if1 .taken in
-    let if2 = c .before .before .before .before .before .before .before .if2 .left in
     let mark = c .before .before .before .before .before .before .mark .ensures in
     let mark-ok = ok-marks mark pre0 in
     let bump = c .before .before .before .before .bump .ensures in
     let bump-ok = ok-bumps bump mark-ok in
-    search asks depth 8
+    bump-ok
 
 close-requires : tie.Need-close-requires
 close-requires c κs =
     let pre0 = c .before .before .before .before .before .before .before .before .before .before .before .before .before .before .before .before .before .before .before .before .before .before .before .before .before .before .pre in
-    let peek = rw (c .before .before .before .before .before .before .before .before .before .before .before .before .before .before .before .before .before .k .given .1) at (c .before .before .before .before .before .before .before .before .before .before .before .before .before .before .before .before .before .before .before .peek .ensures) in
-    let ascription = c .before .before .before .before .before .before .before .before .before .before .before .before .before .before .before .ascription .ensures in
-    let if1 = c .before .before .before .before .before .before .before .before .before .before .before .before .before .before .if1 .taken in
-    let if2 = c .before .before .before .before .before .before .before .before .before .before .before .before .before .if2 .left in
     let mark = c .before .before .before .before .before .before .before .before .before .before .before .before .mark .ensures in
     let mark-ok = ok-marks mark pre0 in
-    let bump = c .before .before .before .before .before .before .before .before .before .before .bump .ensures in
-    let bump-ok = ok-bumps bump mark-ok in
     let ty-must = c .before .before .before .before .before .ty-must .ensures in
     let ty-must-ok = ty-must .ok in
-    search asks depth 8
+    (ty-must-ok .logs, small-len mark-ok)
 
 same-length : tie.Need-same-length
 same-length c =

@@ -1,6 +1,6 @@
 -- by tools/prove
 use Rattle.grammar.specs.Ty as types
-use Rattle.parser.specs.Runs.{asks, runs-in, ok-marks, ok-state}
+use Rattle.parser.specs.Runs.{runs-in, ok-marks, ok-state}
 use Rattle.parser.specs.Plans.{plan, choose, chosen, in-steps, s-close, s-mark, s-deep, s-by, settled, s-end}
 use mathlib.Core.Path.{_≡_, refl, _∙_}
 use lib.ListN.{length}
@@ -17,10 +17,7 @@ use Rattle.parser.proofs.util.path_must.Reads as path-must-reads
 
 refuse-requires : tie.Need-refuse-requires
 refuse-requires c κs =
-    let pre0 = c .before .before .before .before .before .before .before .pre .0 in
-    let pre1 = c .before .before .before .before .before .before .before .pre .1 in
-    let if1 = c .if1 .taken in
-    search asks depth 8
+    tt
 
 returns : tie.Need-returns
 unfolding types.tyCon plan choose chosen
@@ -40,43 +37,27 @@ sub-path-must c =
 
 mark-requires : tie.Need-mark-requires
 mark-requires c κs =
-    let pre0 = c .before .before .before .before .before .before .before .before .before .pre .0 in
-    let pre1 = c .before .before .before .before .before .before .before .before .before .pre .1 in
-    let if1 = c .before .before .if1 .left in
-    search asks depth 8
+    tt
 
 path-must-requires : tie.Need-path-must-requires
 path-must-requires c κs =
     let pre0 = c .before .before .before .before .before .before .before .before .before .before .pre .0 in
-    let pre1 = c .before .before .before .before .before .before .before .before .before .before .pre .1 in
-    let if1 = c .before .before .before .if1 .left in
     let mark = c .mark .ensures in
     let mark-ok = ok-marks mark pre0 in
-    search asks depth 8
+    mark-ok
 
 state-requires : tie.Need-state-requires
 state-requires c κs =
-    let pre0 = c .before .before .before .before .before .before .before .before .before .before .before .before .before .before .before .pre .0 in
-    let pre1 = c .before .before .before .before .before .before .before .before .before .before .before .before .before .before .before .pre .1 in
-    let if1 = c .before .before .before .before .before .before .before .before .if1 .left in
-    let mark = c .before .before .before .before .before .mark .ensures in
-    let mark-ok = ok-marks mark pre0 in
-    let path-must = c .before .before .before .before .path-must .ensures in
-    let path-must-ok = path-must .ok in
-    search asks depth 8
+    tt
 
 close-requires : tie.Need-close-requires
 close-requires c κs =
-    let pre0 = c .before .before .before .before .before .before .before .before .before .before .before .before .before .before .before .before .before .pre .0 in
     let pre1 = c .before .before .before .before .before .before .before .before .before .before .before .before .before .before .before .before .before .pre .1 in
-    let if1 = c .before .before .before .before .before .before .before .before .before .before .if1 .left in
-    let mark = c .before .before .before .before .before .before .before .mark .ensures in
-    let mark-ok = ok-marks mark pre0 in
     let path-must = c .before .before .before .before .before .before .path-must .ensures in
     let path-must-ok = path-must .ok in
     let state = c .before .state .ensures in
     let state-ok = ok-state state path-must-ok in
-    search asks depth 8
+    (state-ok .logs, pre1)
 
 same-length : tie.Need-same-length
 same-length c =

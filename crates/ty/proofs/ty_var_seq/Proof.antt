@@ -1,6 +1,6 @@
 -- by tools/prove
 use Rattle.grammar.specs.Ty as types
-use Rattle.parser.specs.Runs.{asks, ok-marks}
+use Rattle.parser.specs.Runs.{ok-marks, small-len}
 use Rattle.parser.specs.Plans.{plan, choose, chosen, by-steps, s-mark, s-deep, s-by, s-end}
 use lib.ListN.{length}
 use borrow.Author.Needs.{needs}
@@ -14,9 +14,7 @@ use Rattle.ty.proofs.ty_vars.Reads as ty-vars-reads
 
 refuse-requires : tie.Need-refuse-requires
 refuse-requires c κs =
-    let pre0 = c .before .before .before .before .before .before .before .pre in
-    let if1 = c .if1 .taken in
-    search asks depth 8
+    tt
 
 returns : tie.Need-returns
 unfolding types.tyVarSeq plan choose chosen
@@ -28,9 +26,7 @@ returns c =
 
 mark-requires : tie.Need-mark-requires
 mark-requires c κs =
-    let pre0 = c .before .before .before .before .before .before .before .pre in
-    let if1 = c .if1 .left in
-    search asks depth 8
+    tt
 
 sub-ty-vars : tie.Need-sub-ty-vars
 sub-ty-vars c =
@@ -41,10 +37,9 @@ sub-ty-vars c =
 ty-vars-requires : tie.Need-ty-vars-requires
 ty-vars-requires c κs =
     let pre0 = c .before .before .before .before .before .before .before .before .before .before .pre in
-    let if1 = c .before .before .before .if1 .left in
     let mark = c .before .before .mark .ensures in
     let mark-ok = ok-marks mark pre0 in
-    search asks depth 8
+    (mark-ok, small-len mark-ok)
 
 same-length : tie.Need-same-length
 same-length c =

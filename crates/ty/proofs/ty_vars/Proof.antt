@@ -1,6 +1,6 @@
 -- by tools/prove
 use Rattle.grammar.specs.Ty as types
-use Rattle.parser.specs.Runs.{asks, kind-is, kind-not}
+use Rattle.parser.specs.Runs.{kind-is, kind-not}
 use Rattle.parser.specs.Plans.{plan, choose, chosen, in-steps, s-look, s-true, s-false, s-by, s-end}
 use lib.ListN.{length}
 use borrow.Author.Needs.{needs}
@@ -15,8 +15,7 @@ use Rattle.ty.proofs.var_one.Reads as var-one-reads
 peek-requires : tie.Need-peek-requires
 peek-requires c κs =
     let pre0 = c .before .before .before .before .before .before .pre .0 in
-    let pre1 = c .before .before .before .before .before .before .pre .1 in
-    search asks depth 8
+    pre0 .reads
 
 enum-known-k : tie.Need-enum-known-k
 enum-known-k c =
@@ -42,9 +41,7 @@ var-one-requires : tie.Need-var-one-requires
 var-one-requires c κs =
     let pre0 = c .before .before .before .before .before .before .before .before .before .before .before .before .before .pre .0 in
     let pre1 = c .before .before .before .before .before .before .before .before .before .before .before .before .before .pre .1 in
-    let peek = rw (c .before .before .before .before .k .given .1) at (c .before .before .before .before .before .before .peek .ensures) in
-    let if1 = c .before .before .if1 .taken in
-    search asks depth 8
+    (pre0, pre1)
 
 same-length : tie.Need-same-length
 same-length c =
@@ -68,10 +65,7 @@ var-many-requires : tie.Need-var-many-requires
 var-many-requires c κs =
     let pre0 = c .before .before .before .before .before .before .before .before .before .before .before .before .before .before .pre .0 in
     let pre1 = c .before .before .before .before .before .before .before .before .before .before .before .before .before .before .pre .1 in
-    let peek = rw (c .before .before .before .before .before .k .given .1) at (c .before .before .before .before .before .before .before .peek .ensures) in
-    let if1 = c .before .before .before .if1 .left in
-    let if2 = c .before .before .if2 .taken in
-    search asks depth 8
+    (pre0, pre1)
 
 same-length-3 : tie.Need-same-length-3
 same-length-3 c =

@@ -3,7 +3,7 @@ use Rattle.grammar.specs.Util as util
 use Rattle.grammar.specs.SyntaxKind as SK
 use Rattle.laws.specs.Progress.{end-turn-advances}
 use Rattle.parser.specs.View.{mem}
-use Rattle.parser.specs.Runs.{asks, runs-in, Loops, turns, loop-starts, loop-goes, loop-falls, loop-ends}
+use Rattle.parser.specs.Runs.{runs-in, Loops, turns, loop-starts, loop-goes, loop-falls, loop-ends}
 use borrow.Author.Needs.{needs}
 use mathlib.Core.Path.{_≡_, refl, _∙_}
 use lib.ListN.{length}
@@ -29,10 +29,8 @@ loop-holds c =
 
 var-turn-requires : tie.Need-var-turn-requires Inv-loop μ-loop
 var-turn-requires c κs =
-    let pre0 = c .before .before .before .before .before .before .before .before .before .pre .0 in
-    let pre1 = c .before .before .before .before .before .before .before .before .before .pre .1 in
     let inv = c .before .before .loop .inv .0 .ok in
-    search asks depth 8
+    inv
 
 enum-known-turn : tie.Need-enum-known-turn Inv-loop μ-loop
 enum-known-turn c =
@@ -42,13 +40,14 @@ enum-known-turn c =
 
 loop-less : tie.Need-loop-less Inv-loop μ-loop
 loop-less c =
-    let var-turn = runs-in {b = 0} (rw (c .before .turn .given .1) at (c .before .before .before .before .before .before .before .var-turn .ensures)) in
-    loop-falls (end-turn-advances true _ _ _ _ _ _) var-turn
+    let var-turn = rw (c .before .turn .given .1) at (c .before .before .before .before .before .before .before .var-turn .ensures) in
+    loop-falls (end-turn-advances true _ _ _ _ _ _) (runs-in {b = 0} var-turn)
 
 loop-again : tie.Need-loop-again Inv-loop μ-loop
 loop-again c =
-    let var-turn = runs-in (rw (c .before .turn .given .1) at (c .before .before .before .before .before .before .before .var-turn .ensures)) in
-    (loop-goes (end-turn-advances true _ _ _ _ _ _) (c .before .before .before .before .before .before .before .before .before .before .loop .inv .0) var-turn, c .before .before .before .before .before .before .before .var-turn .kept .1 .1 .1 .1 .0 ∙ c .before .before .before .before .before .before .before .before .before .before .loop .inv .1, c .before .before .before .before .before .before .before .var-turn .kept .1 .1 .1 .1 .1 .0 ∙ c .before .before .before .before .before .before .before .before .before .before .loop .inv .2)
+    let inv = c .before .before .before .before .before .before .before .before .before .before .loop .inv .0 in
+    let var-turn = rw (c .before .turn .given .1) at (c .before .before .before .before .before .before .before .var-turn .ensures) in
+    (loop-goes (end-turn-advances true _ _ _ _ _ _) inv (runs-in var-turn), c .before .before .before .before .before .before .before .var-turn .kept .1 .1 .1 .1 .0 ∙ c .before .before .before .before .before .before .before .before .before .before .loop .inv .1, c .before .before .before .before .before .before .before .var-turn .kept .1 .1 .1 .1 .1 .0 ∙ c .before .before .before .before .before .before .before .before .before .before .loop .inv .2)
 
 enum-known-turn-2 : tie.Need-enum-known-turn-2 Inv-loop μ-loop
 enum-known-turn-2 c =
@@ -66,8 +65,9 @@ same-length-2 c =
 
 returns : tie.Need-returns Inv-loop μ-loop
 returns c =
-    let var-turn = runs-in (rw (c .before .turn2 .given .1) at (c .before .before .before .before .before .before .before .var-turn .ensures)) in
-    loop-ends (end-turn-advances true _ _ _ _ _ _) (c .before .before .before .before .before .before .before .before .before .before .loop .inv .0) var-turn
+    let inv = c .before .before .before .before .before .before .before .before .before .before .loop .inv .0 in
+    let var-turn = rw (c .before .turn2 .given .1) at (c .before .before .before .before .before .before .before .var-turn .ensures) in
+    loop-ends (end-turn-advances true _ _ _ _ _ _) inv (runs-in var-turn)
 
 pub var-args-spec : {M : Type 1} → statement M
 var-args-spec =

@@ -1,7 +1,8 @@
 -- by tools/prove
 use Rattle.grammar.specs.Util as util
-use Rattle.parser.specs.Runs.{asks, runs-always, kind-at, kind-off, ok-bumps, ok-marks, ok-state}
+use Rattle.parser.specs.Runs.{runs-always, kind-at, kind-off, ok-bumps, ok-marks, ok-state, small-len}
 use Rattle.parser.specs.Plans.{plan, choose, chosen, by-steps, s-kind, s-true, s-false, s-bump, s-close, s-mark, s-deep, s-by, settled, s-end}
+use native.Mathlib.Omega.{arith}
 use mathlib.Core.Path.{_≡_, refl, _∙_}
 use lib.ListN.{length}
 use borrow.Author.Needs.{needs}
@@ -19,9 +20,7 @@ use Rattle.parser.proofs.util.eat.Reads as eat-reads
 
 refuse-requires : tie.Need-refuse-requires
 refuse-requires c κs =
-    let pre0 = c .before .before .before .before .before .before .before .pre in
-    let if1 = c .if1 .taken in
-    search asks depth 8
+    tt
 
 returns : tie.Need-returns
 unfolding util.endItem plan choose chosen
@@ -33,9 +32,7 @@ returns c =
 
 mark-requires : tie.Need-mark-requires
 mark-requires c κs =
-    let pre0 = c .before .before .before .before .before .before .before .pre in
-    let if1 = c .if1 .left in
-    search asks depth 8
+    tt
 
 eat-requires : tie.Need-eat-requires
 eat-requires c κs =
@@ -43,73 +40,51 @@ eat-requires c κs =
     let if1 = c .before .before .before .if1 .left in
     let mark = c .before .before .mark .ensures in
     let mark-ok = ok-marks mark pre0 in
-    search asks depth 8
+    (mark-ok, omega arith)
 
 state-requires : tie.Need-state-requires
 state-requires c κs =
-    let pre0 = c .before .before .before .before .before .before .before .before .before .before .before .before .before .before .before .pre in
-    let if1 = c .before .before .before .before .before .before .before .before .if1 .left in
-    let mark = c .before .before .before .before .before .before .before .mark .ensures in
-    let mark-ok = ok-marks mark pre0 in
-    let eat = c .before .before .before .before .eat .ensures in
-    let eat-ok = eat .ok in
-    search asks depth 8
+    tt
 
 at-requires : tie.Need-at-requires
 at-requires c κs =
-    let pre0 = c .before .before .before .before .before .before .before .before .before .before .before .before .before .before .before .before .pre in
-    let if1 = c .before .before .before .before .before .before .before .before .before .if1 .left in
-    let mark = c .before .before .before .before .before .before .before .before .mark .ensures in
-    let mark-ok = ok-marks mark pre0 in
     let eat = c .before .before .before .before .before .eat .ensures in
     let eat-ok = eat .ok in
     let state = c .state .ensures in
     let state-ok = ok-state state eat-ok in
-    search asks depth 8
+    state-ok .reads
 
 bump-requires : tie.Need-bump-requires
 bump-requires c κs =
-    let pre0 = c .before .before .before .before .before .before .before .before .before .before .before .before .before .before .before .before .before .before .before .pre in
-    let if1 = c .before .before .before .before .before .before .before .before .before .before .before .before .if1 .left in
-    let mark = c .before .before .before .before .before .before .before .before .before .before .before .mark .ensures in
-    let mark-ok = ok-marks mark pre0 in
     let eat = c .before .before .before .before .before .before .before .before .eat .ensures in
     let eat-ok = eat .ok in
     let state = c .before .before .before .state .ensures in
     let state-ok = ok-state state eat-ok in
-    let at = c .before .before .at .ensures in
-    let if2 = c .before .if2 .taken in
-    search asks depth 8
+    (state-ok .reads, state-ok .logs)
 
 close-requires : tie.Need-close-requires
 close-requires c κs =
     let pre0 = c .before .before .before .before .before .before .before .before .before .before .before .before .before .before .before .before .before .before .before .before .before .before .before .pre in
-    let if1 = c .before .before .before .before .before .before .before .before .before .before .before .before .before .before .before .before .if1 .left in
     let mark = c .before .before .before .before .before .before .before .before .before .before .before .before .before .before .before .mark .ensures in
     let mark-ok = ok-marks mark pre0 in
     let eat = c .before .before .before .before .before .before .before .before .before .before .before .before .eat .ensures in
     let eat-ok = eat .ok in
     let state = c .before .before .before .before .before .before .before .state .ensures in
     let state-ok = ok-state state eat-ok in
-    let at = c .before .before .before .before .before .before .at .ensures in
-    let if2 = c .before .before .before .before .before .if2 .taken in
     let bump = c .before .before .before .bump .ensures in
     let bump-ok = ok-bumps bump state-ok in
-    search asks depth 8
+    (bump-ok .logs, small-len mark-ok)
 
 close-requires-2 : tie.Need-close-requires-2
 close-requires-2 c κs =
     let pre0 = c .before .before .before .before .before .before .before .before .before .before .before .before .before .before .before .before .before .before .before .pre in
-    let if1 = c .before .before .before .before .before .before .before .before .before .before .before .before .if1 .left in
     let mark = c .before .before .before .before .before .before .before .before .before .before .before .mark .ensures in
     let mark-ok = ok-marks mark pre0 in
     let eat = c .before .before .before .before .before .before .before .before .eat .ensures in
     let eat-ok = eat .ok in
     let state = c .before .before .before .state .ensures in
     let state-ok = ok-state state eat-ok in
-    let at = c .before .before .at .ensures in
-    let if2 = c .before .if2 .left in
-    search asks depth 8
+    (state-ok .logs, small-len mark-ok)
 
 same-length : tie.Need-same-length
 same-length c =

@@ -1,7 +1,7 @@
 -- by tools/prove
 use Rattle.grammar.specs.Util as util
 use Rattle.grammar.specs.Ty as types
-use Rattle.parser.specs.Runs.{asks, kind-at, kind-off, ok-bumps}
+use Rattle.parser.specs.Runs.{kind-at, kind-off, ok-bumps}
 use Rattle.parser.specs.Plans.{plan, choose, chosen, in-steps, s-kind, s-true, s-false, s-bump, s-close, s-run, s-end}
 use mathlib.Core.Path.{_≡_, refl, _∙_}
 use lib.ListN.{length}
@@ -18,38 +18,27 @@ use Rattle.ty.proofs.var_args.Reads as var-args-reads
 at-n-requires : tie.Need-at-n-requires
 at-n-requires c κs =
     let pre0 = c .before .before .before .before .before .before .pre .0 in
-    let pre1 = c .before .before .before .before .before .before .pre .1 in
-    search asks depth 8
+    pre0 .reads
 
 bump-requires : tie.Need-bump-requires
 bump-requires c κs =
     let pre0 = c .before .before .before .before .before .before .before .before .before .pre .0 in
-    let pre1 = c .before .before .before .before .before .before .before .before .before .pre .1 in
-    let at-n = c .before .before .at-n .ensures in
-    let if1 = c .before .if1 .taken in
-    search asks depth 8
+    (pre0 .reads, pre0 .logs)
 
 var-args-requires : tie.Need-var-args-requires
 var-args-requires c κs =
     let pre0 = c .before .before .before .before .before .before .before .before .before .before .before .before .before .before .pre .0 in
     let pre1 = c .before .before .before .before .before .before .before .before .before .before .before .before .before .before .pre .1 in
-    let at-n = c .before .before .before .before .before .before .before .at-n .ensures in
-    let if1 = c .before .before .before .before .before .before .if1 .taken in
     let bump = c .before .before .before .before .bump .ensures in
     let bump-ok = ok-bumps bump pre0 in
-    search asks depth 8
+    (bump-ok, pre1)
 
 close-requires : tie.Need-close-requires
 close-requires c κs =
-    let pre0 = c .before .before .before .before .before .before .before .before .before .before .before .before .before .before .before .before .before .before .before .before .pre .0 in
     let pre1 = c .before .before .before .before .before .before .before .before .before .before .before .before .before .before .before .before .before .before .before .before .pre .1 in
-    let at-n = c .before .before .before .before .before .before .before .before .before .before .before .before .before .at-n .ensures in
-    let if1 = c .before .before .before .before .before .before .before .before .before .before .before .before .if1 .taken in
-    let bump = c .before .before .before .before .before .before .before .before .before .before .bump .ensures in
-    let bump-ok = ok-bumps bump pre0 in
     let var-args = c .before .before .before .before .before .var-args .ensures in
     let var-args-ok = var-args .ok in
-    search asks depth 8
+    (var-args-ok .logs, pre1)
 
 same-length : tie.Need-same-length
 same-length c =

@@ -16,19 +16,15 @@ use Rattle.parser.proofs.close.Reads as close-reads
 
 refuse-requires : tie.Need-refuse-requires
 refuse-requires c κs =
-    let pre0 = c .before .before .before .before .before .before .before .pre .0 in
-    let pre1 = c .before .before .before .before .before .before .before .pre .1 in
-    let if1 = c .if1 .taken in
-    search asks depth 8
+    tt
 
 close-requires : tie.Need-close-requires
 close-requires c κs =
     let pre0 = c .before .before .before .before .before .before .before .before .before .pre .0 in
     let pre1 = c .before .before .before .before .before .before .before .before .before .pre .1 in
-    let if1 = c .before .before .if1 .taken in
     let refuse = c .before .refuse .ensures in
     let refuse-ok = ok-refused _ refuse pre0 in
-    search asks depth 8
+    (refuse-ok .logs, pre1)
 
 same-length : tie.Need-same-length
 same-length c =
@@ -46,19 +42,14 @@ returns c =
 
 mark-requires : tie.Need-mark-requires
 mark-requires c κs =
-    let pre0 = c .before .before .before .before .before .before .before .pre .0 in
-    let pre1 = c .before .before .before .before .before .before .before .pre .1 in
-    let if1 = c .if1 .left in
-    search asks depth 8
+    tt
 
 bump-requires : tie.Need-bump-requires
 bump-requires c κs =
     let pre0 = c .before .before .before .before .before .before .before .before .before .pre .0 in
-    let pre1 = c .before .before .before .before .before .before .before .before .before .pre .1 in
-    let if1 = c .before .before .if1 .left in
     let mark = c .before .mark .ensures in
     let mark-ok = ok-marks mark pre0 in
-    search asks depth 8
+    (mark-ok .reads, mark-ok .logs)
 
 close-requires-2 : tie.Need-close-requires-2
 close-requires-2 c κs =
@@ -75,14 +66,13 @@ close-requires-3 : tie.Need-close-requires-3
 close-requires-3 c κs =
     let pre0 = c .before .before .before .before .before .before .before .before .before .before .before .before .before .before .before .before .before .pre .0 in
     let pre1 = c .before .before .before .before .before .before .before .before .before .before .before .before .before .before .before .before .before .pre .1 in
-    let if1 = c .before .before .before .before .before .before .before .before .before .before .if1 .left in
     let mark = c .before .before .before .before .before .before .before .before .before .mark .ensures in
     let mark-ok = ok-marks mark pre0 in
     let bump = c .before .before .before .before .before .before .before .bump .ensures in
     let bump-ok = ok-bumps bump mark-ok in
     let close2 = c .before .before .before .close2 .ensures in
     let close2-ok = ok-adds close2 bump-ok in
-    search asks depth 8
+    (close2-ok .logs, pre1)
 
 same-length-2 : tie.Need-same-length-2
 same-length-2 c =

@@ -1,7 +1,8 @@
 -- by tools/prove
 use Rattle.grammar.specs.Util as util
-use Rattle.parser.specs.Runs.{asks, runs-in, runs-always, kind-at, kind-off}
+use Rattle.parser.specs.Runs.{runs-in, runs-always, kind-at, kind-off}
 use Rattle.parser.specs.Plans.{plan, choose, chosen, by-steps, s-kind, s-true, s-false, s-bump, s-by, settled, s-end}
+use native.Mathlib.Omega.{arith}
 use mathlib.Core.Path.{_≡_, refl, _∙_}
 use lib.ListN.{length}
 use borrow.Author.Needs.{needs}
@@ -18,14 +19,12 @@ use Rattle.ty.proofs.var_item.Reads as var-item-reads
 at-requires : tie.Need-at-requires
 at-requires c κs =
     let pre0 = c .before .before .before .before .before .before .pre in
-    search asks depth 8
+    pre0 .reads
 
 bump-requires : tie.Need-bump-requires
 bump-requires c κs =
     let pre0 = c .before .before .before .before .before .before .before .before .before .pre in
-    let at = c .before .before .at .ensures in
-    let if1 = c .before .if1 .taken in
-    search asks depth 8
+    (pre0 .reads, pre0 .logs)
 
 same-length : tie.Need-same-length
 same-length c =
@@ -43,9 +42,7 @@ returns c =
 var-item-requires : tie.Need-var-item-requires
 var-item-requires c κs =
     let pre0 = c .before .before .before .before .before .before .before .before .before .before .pre in
-    let at = c .before .before .before .at .ensures in
-    let if1 = c .before .before .if1 .left in
-    search asks depth 8
+    pre0
 
 enum-known-item : tie.Need-enum-known-item
 enum-known-item c =
@@ -61,23 +58,15 @@ enum-known-item-2 c =
 
 eat-requires : tie.Need-eat-requires
 eat-requires c κs =
-    let pre0 = c .before .before .before .before .before .before .before .before .before .before .before .before .before .before .before .before .before .before .before .before .pre in
     let at = c .before .before .before .before .before .before .before .before .before .before .before .before .before .at .ensures in
     let if1 = c .before .before .before .before .before .before .before .before .before .before .before .before .if1 .left in
     let var-item = rw (c .before .before .before .item2 .given .1) at (c .before .before .before .before .before .before .before .before .before .var-item .ensures) in
     let var-item-ok = var-item .ok in
-    search asks depth 8
+    (var-item-ok, omega arith)
 
 state-requires : tie.Need-state-requires
 state-requires c κs =
-    let pre0 = c .before .before .before .before .before .before .before .before .before .before .before .before .before .before .before .before .before .before .before .before .before .before .before .before .before .pre in
-    let at = c .before .before .before .before .before .before .before .before .before .before .before .before .before .before .before .before .before .before .at .ensures in
-    let if1 = c .before .before .before .before .before .before .before .before .before .before .before .before .before .before .before .before .before .if1 .left in
-    let var-item = rw (c .before .before .before .before .before .before .before .before .item2 .given .1) at (c .before .before .before .before .before .before .before .before .before .before .before .before .before .before .var-item .ensures) in
-    let var-item-ok = var-item .ok in
-    let eat = c .before .before .before .before .eat .ensures in
-    let eat-ok = eat .ok in
-    search asks depth 8
+    tt
 
 same-length-2 : tie.Need-same-length-2
 same-length-2 c =

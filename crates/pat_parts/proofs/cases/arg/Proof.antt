@@ -1,5 +1,5 @@
 -- by tools/prove
-use Rattle.parser.specs.Runs.{asks, kind-is, kind-not, test-true, test-false}
+use Rattle.parser.specs.Runs.{kind-is, kind-not, test-true, test-false}
 use Rattle.parser.specs.Kinds.{kind-same, or-left, or-right, or-off, or-last}
 use mathlib.Core.Path.{sym}
 use borrow.Author.Needs.{needs}
@@ -11,7 +11,7 @@ use Rattle.pat_parts.proofs.cases.s_con.Reads as s-con-reads
 
 s-con-requires : tie.Need-s-con-requires
 s-con-requires c κs =
-    search asks depth 8
+    tt
 
 returns : tie.Need-returns
 returns c =

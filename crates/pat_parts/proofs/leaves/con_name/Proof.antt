@@ -1,6 +1,6 @@
 -- by tools/prove
 use Rattle.grammar.specs.Pat as pat
-use Rattle.parser.specs.Runs.{asks, runs-in, kind-at, kind-off}
+use Rattle.parser.specs.Runs.{runs-in, kind-at, kind-off}
 use Rattle.parser.specs.Plans.{plan, choose, chosen, by-steps, s-kind, s-true, s-false, s-by, s-end}
 use lib.ListN.{length}
 use borrow.Author.Needs.{needs}
@@ -15,21 +15,17 @@ use Rattle.pat_parts.proofs.leaves.con_path.Reads as con-path-reads
 at-requires : tie.Need-at-requires
 at-requires c κs =
     let pre0 = c .before .before .before .before .before .before .pre in
-    search asks depth 8
+    pre0 .reads
 
 path-infix-requires : tie.Need-path-infix-requires
 path-infix-requires c κs =
     let pre0 = c .before .before .before .before .before .before .before .before .before .before .pre in
-    let at = c .before .before .before .at .ensures in
-    let if1 = c .before .before .if1 .taken in
-    search asks depth 8
+    pre0
 
 con-path-requires : tie.Need-con-path-requires
 con-path-requires c κs =
     let pre0 = c .before .before .before .before .before .before .before .before .before .before .pre in
-    let at = c .before .before .before .at .ensures in
-    let if1 = c .before .before .if1 .left in
-    search asks depth 8
+    pre0
 
 same-length : tie.Need-same-length
 same-length c =

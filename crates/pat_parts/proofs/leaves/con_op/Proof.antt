@@ -1,6 +1,6 @@
 -- by tools/prove
 use Rattle.grammar.specs.Pat as pat
-use Rattle.parser.specs.Runs.{asks, runs-always}
+use Rattle.parser.specs.Runs.{runs-always}
 use Rattle.parser.specs.Plans.{plan, choose, chosen, in-steps, s-close, s-by, s-end}
 use mathlib.Core.Path.{_≡_, refl, _∙_}
 use lib.ListN.{length}
@@ -16,8 +16,7 @@ use Rattle.pat_parts.proofs.leaves.should_break_pat.Reads as should-bre
 should-break-pat-requires : tie.Need-should-break-pat-requires
 should-break-pat-requires c κs =
     let pre0 = c .before .before .before .before .before .before .before .before .pre .0 in
-    let pre1 = c .before .before .before .before .before .before .before .before .pre .1 in
-    search asks depth 8
+    pre0
 
 enum-known-ends : tie.Need-enum-known-ends
 enum-known-ends c =
@@ -27,11 +26,10 @@ enum-known-ends c =
 
 close-requires : tie.Need-close-requires
 close-requires c κs =
-    let pre0 = c .before .before .before .before .before .before .before .before .before .before .before .before .before .before .before .before .before .pre .0 in
     let pre1 = c .before .before .before .before .before .before .before .before .before .before .before .before .before .before .before .before .before .pre .1 in
     let should-break-pat = rw (c .before .before .ends .given .1) at (c .before .before .before .before .before .before .before .before .should-break-pat .ensures) in
     let should-break-pat-ok = should-break-pat true .ok in
-    search asks depth 8
+    (should-break-pat-ok .logs, pre1)
 
 enum-known-ends-2 : tie.Need-enum-known-ends-2
 enum-known-ends-2 c =
@@ -41,11 +39,10 @@ enum-known-ends-2 c =
 
 close-requires-2 : tie.Need-close-requires-2
 close-requires-2 c κs =
-    let pre0 = c .before .before .before .before .before .before .before .before .before .before .before .before .before .before .before .before .before .pre .0 in
     let pre1 = c .before .before .before .before .before .before .before .before .before .before .before .before .before .before .before .before .before .pre .1 in
     let should-break-pat = rw (c .before .before .ends2 .given .1) at (c .before .before .before .before .before .before .before .before .should-break-pat .ensures) in
     let should-break-pat-ok = should-break-pat true .ok in
-    search asks depth 8
+    (should-break-pat-ok .logs, pre1)
 
 same-length : tie.Need-same-length
 same-length c =

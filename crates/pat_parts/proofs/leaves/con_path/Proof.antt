@@ -1,6 +1,6 @@
 -- by tools/prove
 use Rattle.grammar.specs.Pat as pat
-use Rattle.parser.specs.Runs.{asks, runs-in, test-true, test-false}
+use Rattle.parser.specs.Runs.{runs-in, test-true, test-false}
 use Rattle.parser.specs.Plans.{plan, choose, chosen, by-steps, s-true, s-false, s-by, s-end}
 use lib.ListN.{length}
 use borrow.Author.Needs.{needs}
@@ -14,22 +14,17 @@ use Rattle.pat_parts.proofs.cases.reports.Reads as reports-reads
 
 reports-requires : tie.Need-reports-requires
 reports-requires c κs =
-    let pre0 = c .before .before .before .before .before .before .pre in
-    search asks depth 8
+    tt
 
 path-no-infix-requires : tie.Need-path-no-infix-requires
 path-no-infix-requires c κs =
     let pre0 = c .before .before .before .before .before .before .before .before .before .before .pre in
-    let reports = c .before .before .before .reports .ensures in
-    let if1 = c .before .before .if1 .taken in
-    search asks depth 8
+    pre0
 
 path-requires : tie.Need-path-requires
 path-requires c κs =
     let pre0 = c .before .before .before .before .before .before .before .before .before .before .pre in
-    let reports = c .before .before .before .reports .ensures in
-    let if1 = c .before .before .if1 .left in
-    search asks depth 8
+    pre0
 
 same-length : tie.Need-same-length
 same-length c =

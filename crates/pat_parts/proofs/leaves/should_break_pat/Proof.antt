@@ -1,6 +1,6 @@
 -- by tools/prove
 use Rattle.grammar.specs.Pat as pat
-use Rattle.parser.specs.Runs.{asks, runs-always}
+use Rattle.parser.specs.Runs.{runs-always}
 use Rattle.parser.specs.Plans.{plan, choose, chosen, always, s-by, s-end}
 use lib.ListN.{length}
 use borrow.Author.Needs.{needs}
@@ -28,7 +28,7 @@ enum-known-min c =
 should-break-requires : tie.Need-should-break-requires
 should-break-requires c κs =
     let pre0 = c .before .before .before .before .before .before .before .before .before .before .before .pre in
-    search asks depth 8
+    pre0
 
 returns : tie.Need-returns
 unfolding pat.shouldBreakPat plan choose chosen

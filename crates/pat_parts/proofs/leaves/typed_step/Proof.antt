@@ -1,6 +1,6 @@
 -- by tools/prove
 use Rattle.grammar.specs.Pat as pat
-use Rattle.parser.specs.Runs.{asks, runs-in, test-true, test-false, ok-bumps, ok-marks}
+use Rattle.parser.specs.Runs.{runs-in, test-true, test-false, ok-bumps, ok-marks}
 use Rattle.parser.specs.Plans.{plan, choose, chosen, in-steps, s-true, s-false, s-bump, s-close, s-mark, s-deep, s-by, s-end}
 use mathlib.Core.Path.{_≡_, refl, _∙_}
 use lib.ListN.{length}
@@ -18,9 +18,7 @@ use Rattle.ty.proofs.ty_must.Reads as ty-must-reads
 
 is-infix-requires : tie.Need-is-infix-requires
 is-infix-requires c κs =
-    let pre0 = c .before .before .before .before .before .before .pre .0 in
-    let pre1 = c .before .before .before .before .before .before .pre .1 in
-    search asks depth 8
+    tt
 
 returns : tie.Need-returns
 unfolding pat.typedStep plan choose chosen
@@ -33,12 +31,7 @@ returns c =
 
 refuse-requires : tie.Need-refuse-requires
 refuse-requires c κs =
-    let pre0 = c .before .before .before .before .before .before .before .before .before .pre .0 in
-    let pre1 = c .before .before .before .before .before .before .before .before .before .pre .1 in
-    let is-infix = c .before .before .is-infix .ensures in
-    let if1 = c .before .if1 .left in
-    let if2 = c .if2 .taken in
-    search asks depth 8
+    tt
 
 returns-2 : tie.Need-returns-2
 unfolding pat.typedStep plan choose chosen
@@ -53,23 +46,14 @@ returns-2 c =
 
 mark-requires : tie.Need-mark-requires
 mark-requires c κs =
-    let pre0 = c .before .before .before .before .before .before .before .before .before .before .pre .0 in
-    let pre1 = c .before .before .before .before .before .before .before .before .before .before .pre .1 in
-    let is-infix = c .before .before .before .is-infix .ensures in
-    let if1 = c .before .before .if1 .left in
-    let if2 = c .before .if2 .left in
-    search asks depth 8
+    tt
 
 bump-requires : tie.Need-bump-requires
 bump-requires c κs =
     let pre0 = c .before .before .before .before .before .before .before .before .before .before .before .pre .0 in
-    let pre1 = c .before .before .before .before .before .before .before .before .before .before .before .pre .1 in
-    let is-infix = c .before .before .before .before .is-infix .ensures in
-    let if1 = c .before .before .before .if1 .left in
-    let if2 = c .before .before .if2 .left in
     let mark = c .mark .ensures in
     let mark-ok = ok-marks mark pre0 in
-    search asks depth 8
+    (mark-ok .reads, mark-ok .logs)
 
 sub-ty-must : tie.Need-sub-ty-must
 sub-ty-must c =
@@ -82,30 +66,18 @@ sub-ty-must c =
 ty-must-requires : tie.Need-ty-must-requires
 ty-must-requires c κs =
     let pre0 = c .before .before .before .before .before .before .before .before .before .before .before .before .before .before .before .before .pre .0 in
-    let pre1 = c .before .before .before .before .before .before .before .before .before .before .before .before .before .before .before .before .pre .1 in
-    let is-infix = c .before .before .before .before .before .before .before .before .before .is-infix .ensures in
-    let if1 = c .before .before .before .before .before .before .before .before .if1 .left in
-    let if2 = c .before .before .before .before .before .before .before .if2 .left in
     let mark = c .before .before .before .before .before .mark .ensures in
     let mark-ok = ok-marks mark pre0 in
     let bump = c .before .before .before .before .bump .ensures in
     let bump-ok = ok-bumps bump mark-ok in
-    search asks depth 8
+    bump-ok
 
 close-requires : tie.Need-close-requires
 close-requires c κs =
-    let pre0 = c .before .before .before .before .before .before .before .before .before .before .before .before .before .before .before .before .before .before .before .before .before .before .pre .0 in
     let pre1 = c .before .before .before .before .before .before .before .before .before .before .before .before .before .before .before .before .before .before .before .before .before .before .pre .1 in
-    let is-infix = c .before .before .before .before .before .before .before .before .before .before .before .before .before .before .before .is-infix .ensures in
-    let if1 = c .before .before .before .before .before .before .before .before .before .before .before .before .before .before .if1 .left in
-    let if2 = c .before .before .before .before .before .before .before .before .before .before .before .before .before .if2 .left in
-    let mark = c .before .before .before .before .before .before .before .before .before .before .before .mark .ensures in
-    let mark-ok = ok-marks mark pre0 in
-    let bump = c .before .before .before .before .before .before .before .before .before .before .bump .ensures in
-    let bump-ok = ok-bumps bump mark-ok in
     let ty-must = c .before .before .before .before .before .ty-must .ensures in
     let ty-must-ok = ty-must .ok in
-    search asks depth 8
+    (ty-must-ok .logs, pre1)
 
 same-length : tie.Need-same-length
 same-length c =

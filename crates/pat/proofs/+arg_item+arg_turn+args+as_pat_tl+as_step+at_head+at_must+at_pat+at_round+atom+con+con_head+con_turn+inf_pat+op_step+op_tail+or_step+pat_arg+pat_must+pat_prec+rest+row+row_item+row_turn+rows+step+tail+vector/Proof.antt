@@ -6,10 +6,11 @@ use Rattle.grammar.specs.Root as root
 use Rattle.grammar.specs.SyntaxKind as SK
 use Rattle.laws.specs.Progress.{end-turn-advances, pat-step-advances}
 use Rattle.parser.specs.View.{mem, errOf}
-use Rattle.parser.specs.Runs.{asks, runs-in, runs-always, kind-at, kind-off, kind-is, kind-not, test-true, test-false, ok-bumps, ok-tells, ok-marks, ok-state, small-index, Loops, turns, loop-starts, loop-goes, loop-falls, loop-ends}
+use Rattle.parser.specs.Runs.{runs-in, runs-always, kind-at, kind-off, kind-is, kind-not, test-true, test-false, ok-bumps, ok-tells, ok-marks, ok-state, small-len, small-index, Loops, turns, loop-starts, loop-goes, loop-falls, loop-ends}
 use Rattle.parser.specs.Plans.{plan, choose, chosen, in-steps, by-steps, s-rule, s-look, s-index, s-kind, s-fixed, s-true, s-false, s-bump, s-close, s-report, s-mark, s-deep, s-by, s-run, settled, s-end}
 use Rattle.pat_parts.specs.Prec.{precOf}
 use borrow.Author.Needs.{needs}
+use native.Mathlib.Omega.{arith}
 use mathlib.Core.Path.{_≡_, refl, _∙_}
 use lib.ListN.{length}
 use Prim.Native.Nat.{_+_, _-_, _*_}
@@ -19,88 +20,88 @@ use borrow.Fn.Kinds.{In}
 use borrow.Fn.PlainCycle.{Measures, is, falls, and}
 use Rattle.pat.proofs.arg_item.Reads as arg-item
 use Rattle.pat.proofs.arg_item.Kinds as arg-item-kinds
-use Rattle.pat.proofs.+arg_item+arg_turn+as_pat_tl+as_step+at_head+at_pat+at_pat_l_round+at_pat_must+at_rest+atom_pat+con_head+con_pat+con_turn+infix_pat+op_step+op_tail+or_step+pat_arg+pat_args+pat_must+pat_prec+pat_row+pat_rows+pat_step+pat_tail+row_item+row_turn+vector.Lts-arg_item as arg-item-lts
+use Rattle.pat.proofs.+arg_item+arg_turn+args+as_pat_tl+as_step+at_head+at_must+at_pat+at_round+atom+con+con_head+con_turn+inf_pat+op_step+op_tail+or_step+pat_arg+pat_must+pat_prec+rest+row+row_item+row_turn+rows+step+tail+vector.Lts-arg_item as arg-item-lts
 use Rattle.pat.proofs.arg_turn.Reads as arg-turn
 use Rattle.pat.proofs.arg_turn.Kinds as arg-turn-kinds
-use Rattle.pat.proofs.+arg_item+arg_turn+as_pat_tl+as_step+at_head+at_pat+at_pat_l_round+at_pat_must+at_rest+atom_pat+con_head+con_pat+con_turn+infix_pat+op_step+op_tail+or_step+pat_arg+pat_args+pat_must+pat_prec+pat_row+pat_rows+pat_step+pat_tail+row_item+row_turn+vector.Lts-arg_turn as arg-turn-lts
+use Rattle.pat.proofs.+arg_item+arg_turn+args+as_pat_tl+as_step+at_head+at_must+at_pat+at_round+atom+con+con_head+con_turn+inf_pat+op_step+op_tail+or_step+pat_arg+pat_must+pat_prec+rest+row+row_item+row_turn+rows+step+tail+vector.Lts-arg_turn as arg-turn-lts
+use Rattle.pat.proofs.args.Reads as args
+use Rattle.pat.proofs.args.Kinds as args-kinds
+use Rattle.pat.proofs.+arg_item+arg_turn+args+as_pat_tl+as_step+at_head+at_must+at_pat+at_round+atom+con+con_head+con_turn+inf_pat+op_step+op_tail+or_step+pat_arg+pat_must+pat_prec+rest+row+row_item+row_turn+rows+step+tail+vector.Lts-args as args-lts
 use Rattle.pat.proofs.as_pat_tl.Reads as as-pat-tl
 use Rattle.pat.proofs.as_pat_tl.Kinds as as-pat-tl-kinds
-use Rattle.pat.proofs.+arg_item+arg_turn+as_pat_tl+as_step+at_head+at_pat+at_pat_l_round+at_pat_must+at_rest+atom_pat+con_head+con_pat+con_turn+infix_pat+op_step+op_tail+or_step+pat_arg+pat_args+pat_must+pat_prec+pat_row+pat_rows+pat_step+pat_tail+row_item+row_turn+vector.Lts-as_pat_tl as as-pat-tl-lts
+use Rattle.pat.proofs.+arg_item+arg_turn+args+as_pat_tl+as_step+at_head+at_must+at_pat+at_round+atom+con+con_head+con_turn+inf_pat+op_step+op_tail+or_step+pat_arg+pat_must+pat_prec+rest+row+row_item+row_turn+rows+step+tail+vector.Lts-as_pat_tl as as-pat-tl-lts
 use Rattle.pat.proofs.as_step.Reads as as-step
 use Rattle.pat.proofs.as_step.Kinds as as-step-kinds
-use Rattle.pat.proofs.+arg_item+arg_turn+as_pat_tl+as_step+at_head+at_pat+at_pat_l_round+at_pat_must+at_rest+atom_pat+con_head+con_pat+con_turn+infix_pat+op_step+op_tail+or_step+pat_arg+pat_args+pat_must+pat_prec+pat_row+pat_rows+pat_step+pat_tail+row_item+row_turn+vector.Lts-as_step as as-step-lts
+use Rattle.pat.proofs.+arg_item+arg_turn+args+as_pat_tl+as_step+at_head+at_must+at_pat+at_round+atom+con+con_head+con_turn+inf_pat+op_step+op_tail+or_step+pat_arg+pat_must+pat_prec+rest+row+row_item+row_turn+rows+step+tail+vector.Lts-as_step as as-step-lts
 use Rattle.pat.proofs.at_head.Reads as at-head
 use Rattle.pat.proofs.at_head.Kinds as at-head-kinds
-use Rattle.pat.proofs.+arg_item+arg_turn+as_pat_tl+as_step+at_head+at_pat+at_pat_l_round+at_pat_must+at_rest+atom_pat+con_head+con_pat+con_turn+infix_pat+op_step+op_tail+or_step+pat_arg+pat_args+pat_must+pat_prec+pat_row+pat_rows+pat_step+pat_tail+row_item+row_turn+vector.Lts-at_head as at-head-lts
+use Rattle.pat.proofs.+arg_item+arg_turn+args+as_pat_tl+as_step+at_head+at_must+at_pat+at_round+atom+con+con_head+con_turn+inf_pat+op_step+op_tail+or_step+pat_arg+pat_must+pat_prec+rest+row+row_item+row_turn+rows+step+tail+vector.Lts-at_head as at-head-lts
+use Rattle.pat.proofs.at_must.Reads as at-must
+use Rattle.pat.proofs.at_must.Kinds as at-must-kinds
+use Rattle.pat.proofs.+arg_item+arg_turn+args+as_pat_tl+as_step+at_head+at_must+at_pat+at_round+atom+con+con_head+con_turn+inf_pat+op_step+op_tail+or_step+pat_arg+pat_must+pat_prec+rest+row+row_item+row_turn+rows+step+tail+vector.Lts-at_must as at-must-lts
 use Rattle.pat.proofs.at_pat.Reads as at-pat
 use Rattle.pat.proofs.at_pat.Kinds as at-pat-kinds
-use Rattle.pat.proofs.+arg_item+arg_turn+as_pat_tl+as_step+at_head+at_pat+at_pat_l_round+at_pat_must+at_rest+atom_pat+con_head+con_pat+con_turn+infix_pat+op_step+op_tail+or_step+pat_arg+pat_args+pat_must+pat_prec+pat_row+pat_rows+pat_step+pat_tail+row_item+row_turn+vector.Lts-at_pat as at-pat-lts
-use Rattle.pat.proofs.at_pat_l_round.Reads as at-pat-l-round
-use Rattle.pat.proofs.at_pat_l_round.Kinds as at-pat-l-round-kinds
-use Rattle.pat.proofs.+arg_item+arg_turn+as_pat_tl+as_step+at_head+at_pat+at_pat_l_round+at_pat_must+at_rest+atom_pat+con_head+con_pat+con_turn+infix_pat+op_step+op_tail+or_step+pat_arg+pat_args+pat_must+pat_prec+pat_row+pat_rows+pat_step+pat_tail+row_item+row_turn+vector.Lts-at_pat_l_round as at-pat-l-round-lts
-use Rattle.pat.proofs.at_pat_must.Reads as at-pat-must
-use Rattle.pat.proofs.at_pat_must.Kinds as at-pat-must-kinds
-use Rattle.pat.proofs.+arg_item+arg_turn+as_pat_tl+as_step+at_head+at_pat+at_pat_l_round+at_pat_must+at_rest+atom_pat+con_head+con_pat+con_turn+infix_pat+op_step+op_tail+or_step+pat_arg+pat_args+pat_must+pat_prec+pat_row+pat_rows+pat_step+pat_tail+row_item+row_turn+vector.Lts-at_pat_must as at-pat-must-lts
-use Rattle.pat.proofs.at_rest.Reads as at-rest
-use Rattle.pat.proofs.at_rest.Kinds as at-rest-kinds
-use Rattle.pat.proofs.+arg_item+arg_turn+as_pat_tl+as_step+at_head+at_pat+at_pat_l_round+at_pat_must+at_rest+atom_pat+con_head+con_pat+con_turn+infix_pat+op_step+op_tail+or_step+pat_arg+pat_args+pat_must+pat_prec+pat_row+pat_rows+pat_step+pat_tail+row_item+row_turn+vector.Lts-at_rest as at-rest-lts
-use Rattle.pat.proofs.atom_pat.Reads as atom-pat
-use Rattle.pat.proofs.atom_pat.Kinds as atom-pat-kinds
-use Rattle.pat.proofs.+arg_item+arg_turn+as_pat_tl+as_step+at_head+at_pat+at_pat_l_round+at_pat_must+at_rest+atom_pat+con_head+con_pat+con_turn+infix_pat+op_step+op_tail+or_step+pat_arg+pat_args+pat_must+pat_prec+pat_row+pat_rows+pat_step+pat_tail+row_item+row_turn+vector.Lts-atom_pat as atom-pat-lts
+use Rattle.pat.proofs.+arg_item+arg_turn+args+as_pat_tl+as_step+at_head+at_must+at_pat+at_round+atom+con+con_head+con_turn+inf_pat+op_step+op_tail+or_step+pat_arg+pat_must+pat_prec+rest+row+row_item+row_turn+rows+step+tail+vector.Lts-at_pat as at-pat-lts
+use Rattle.pat.proofs.at_round.Reads as at-round
+use Rattle.pat.proofs.at_round.Kinds as at-round-kinds
+use Rattle.pat.proofs.+arg_item+arg_turn+args+as_pat_tl+as_step+at_head+at_must+at_pat+at_round+atom+con+con_head+con_turn+inf_pat+op_step+op_tail+or_step+pat_arg+pat_must+pat_prec+rest+row+row_item+row_turn+rows+step+tail+vector.Lts-at_round as at-round-lts
+use Rattle.pat.proofs.atom.Reads as atom
+use Rattle.pat.proofs.atom.Kinds as atom-kinds
+use Rattle.pat.proofs.+arg_item+arg_turn+args+as_pat_tl+as_step+at_head+at_must+at_pat+at_round+atom+con+con_head+con_turn+inf_pat+op_step+op_tail+or_step+pat_arg+pat_must+pat_prec+rest+row+row_item+row_turn+rows+step+tail+vector.Lts-atom as atom-lts
+use Rattle.pat.proofs.con.Reads as con
+use Rattle.pat.proofs.con.Kinds as con-kinds
+use Rattle.pat.proofs.+arg_item+arg_turn+args+as_pat_tl+as_step+at_head+at_must+at_pat+at_round+atom+con+con_head+con_turn+inf_pat+op_step+op_tail+or_step+pat_arg+pat_must+pat_prec+rest+row+row_item+row_turn+rows+step+tail+vector.Lts-con as con-lts
 use Rattle.pat.proofs.con_head.Reads as con-head
 use Rattle.pat.proofs.con_head.Kinds as con-head-kinds
-use Rattle.pat.proofs.+arg_item+arg_turn+as_pat_tl+as_step+at_head+at_pat+at_pat_l_round+at_pat_must+at_rest+atom_pat+con_head+con_pat+con_turn+infix_pat+op_step+op_tail+or_step+pat_arg+pat_args+pat_must+pat_prec+pat_row+pat_rows+pat_step+pat_tail+row_item+row_turn+vector.Lts-con_head as con-head-lts
-use Rattle.pat.proofs.con_pat.Reads as con-pat
-use Rattle.pat.proofs.con_pat.Kinds as con-pat-kinds
-use Rattle.pat.proofs.+arg_item+arg_turn+as_pat_tl+as_step+at_head+at_pat+at_pat_l_round+at_pat_must+at_rest+atom_pat+con_head+con_pat+con_turn+infix_pat+op_step+op_tail+or_step+pat_arg+pat_args+pat_must+pat_prec+pat_row+pat_rows+pat_step+pat_tail+row_item+row_turn+vector.Lts-con_pat as con-pat-lts
+use Rattle.pat.proofs.+arg_item+arg_turn+args+as_pat_tl+as_step+at_head+at_must+at_pat+at_round+atom+con+con_head+con_turn+inf_pat+op_step+op_tail+or_step+pat_arg+pat_must+pat_prec+rest+row+row_item+row_turn+rows+step+tail+vector.Lts-con_head as con-head-lts
 use Rattle.pat.proofs.con_turn.Reads as con-turn
 use Rattle.pat.proofs.con_turn.Kinds as con-turn-kinds
-use Rattle.pat.proofs.+arg_item+arg_turn+as_pat_tl+as_step+at_head+at_pat+at_pat_l_round+at_pat_must+at_rest+atom_pat+con_head+con_pat+con_turn+infix_pat+op_step+op_tail+or_step+pat_arg+pat_args+pat_must+pat_prec+pat_row+pat_rows+pat_step+pat_tail+row_item+row_turn+vector.Lts-con_turn as con-turn-lts
-use Rattle.pat.proofs.infix_pat.Reads as infix-pat
-use Rattle.pat.proofs.infix_pat.Kinds as infix-pat-kinds
-use Rattle.pat.proofs.+arg_item+arg_turn+as_pat_tl+as_step+at_head+at_pat+at_pat_l_round+at_pat_must+at_rest+atom_pat+con_head+con_pat+con_turn+infix_pat+op_step+op_tail+or_step+pat_arg+pat_args+pat_must+pat_prec+pat_row+pat_rows+pat_step+pat_tail+row_item+row_turn+vector.Lts-infix_pat as infix-pat-lts
+use Rattle.pat.proofs.+arg_item+arg_turn+args+as_pat_tl+as_step+at_head+at_must+at_pat+at_round+atom+con+con_head+con_turn+inf_pat+op_step+op_tail+or_step+pat_arg+pat_must+pat_prec+rest+row+row_item+row_turn+rows+step+tail+vector.Lts-con_turn as con-turn-lts
+use Rattle.pat.proofs.inf_pat.Reads as inf-pat
+use Rattle.pat.proofs.inf_pat.Kinds as inf-pat-kinds
+use Rattle.pat.proofs.+arg_item+arg_turn+args+as_pat_tl+as_step+at_head+at_must+at_pat+at_round+atom+con+con_head+con_turn+inf_pat+op_step+op_tail+or_step+pat_arg+pat_must+pat_prec+rest+row+row_item+row_turn+rows+step+tail+vector.Lts-inf_pat as inf-pat-lts
 use Rattle.pat.proofs.op_step.Reads as op-step
 use Rattle.pat.proofs.op_step.Kinds as op-step-kinds
-use Rattle.pat.proofs.+arg_item+arg_turn+as_pat_tl+as_step+at_head+at_pat+at_pat_l_round+at_pat_must+at_rest+atom_pat+con_head+con_pat+con_turn+infix_pat+op_step+op_tail+or_step+pat_arg+pat_args+pat_must+pat_prec+pat_row+pat_rows+pat_step+pat_tail+row_item+row_turn+vector.Lts-op_step as op-step-lts
+use Rattle.pat.proofs.+arg_item+arg_turn+args+as_pat_tl+as_step+at_head+at_must+at_pat+at_round+atom+con+con_head+con_turn+inf_pat+op_step+op_tail+or_step+pat_arg+pat_must+pat_prec+rest+row+row_item+row_turn+rows+step+tail+vector.Lts-op_step as op-step-lts
 use Rattle.pat.proofs.op_tail.Reads as op-tail
 use Rattle.pat.proofs.op_tail.Kinds as op-tail-kinds
-use Rattle.pat.proofs.+arg_item+arg_turn+as_pat_tl+as_step+at_head+at_pat+at_pat_l_round+at_pat_must+at_rest+atom_pat+con_head+con_pat+con_turn+infix_pat+op_step+op_tail+or_step+pat_arg+pat_args+pat_must+pat_prec+pat_row+pat_rows+pat_step+pat_tail+row_item+row_turn+vector.Lts-op_tail as op-tail-lts
+use Rattle.pat.proofs.+arg_item+arg_turn+args+as_pat_tl+as_step+at_head+at_must+at_pat+at_round+atom+con+con_head+con_turn+inf_pat+op_step+op_tail+or_step+pat_arg+pat_must+pat_prec+rest+row+row_item+row_turn+rows+step+tail+vector.Lts-op_tail as op-tail-lts
 use Rattle.pat.proofs.or_step.Reads as or-step
 use Rattle.pat.proofs.or_step.Kinds as or-step-kinds
-use Rattle.pat.proofs.+arg_item+arg_turn+as_pat_tl+as_step+at_head+at_pat+at_pat_l_round+at_pat_must+at_rest+atom_pat+con_head+con_pat+con_turn+infix_pat+op_step+op_tail+or_step+pat_arg+pat_args+pat_must+pat_prec+pat_row+pat_rows+pat_step+pat_tail+row_item+row_turn+vector.Lts-or_step as or-step-lts
+use Rattle.pat.proofs.+arg_item+arg_turn+args+as_pat_tl+as_step+at_head+at_must+at_pat+at_round+atom+con+con_head+con_turn+inf_pat+op_step+op_tail+or_step+pat_arg+pat_must+pat_prec+rest+row+row_item+row_turn+rows+step+tail+vector.Lts-or_step as or-step-lts
 use Rattle.pat.proofs.pat_arg.Reads as pat-arg
 use Rattle.pat.proofs.pat_arg.Kinds as pat-arg-kinds
-use Rattle.pat.proofs.+arg_item+arg_turn+as_pat_tl+as_step+at_head+at_pat+at_pat_l_round+at_pat_must+at_rest+atom_pat+con_head+con_pat+con_turn+infix_pat+op_step+op_tail+or_step+pat_arg+pat_args+pat_must+pat_prec+pat_row+pat_rows+pat_step+pat_tail+row_item+row_turn+vector.Lts-pat_arg as pat-arg-lts
-use Rattle.pat.proofs.pat_args.Reads as pat-args
-use Rattle.pat.proofs.pat_args.Kinds as pat-args-kinds
-use Rattle.pat.proofs.+arg_item+arg_turn+as_pat_tl+as_step+at_head+at_pat+at_pat_l_round+at_pat_must+at_rest+atom_pat+con_head+con_pat+con_turn+infix_pat+op_step+op_tail+or_step+pat_arg+pat_args+pat_must+pat_prec+pat_row+pat_rows+pat_step+pat_tail+row_item+row_turn+vector.Lts-pat_args as pat-args-lts
+use Rattle.pat.proofs.+arg_item+arg_turn+args+as_pat_tl+as_step+at_head+at_must+at_pat+at_round+atom+con+con_head+con_turn+inf_pat+op_step+op_tail+or_step+pat_arg+pat_must+pat_prec+rest+row+row_item+row_turn+rows+step+tail+vector.Lts-pat_arg as pat-arg-lts
 use Rattle.pat.proofs.pat_must.Reads as pat-must
 use Rattle.pat.proofs.pat_must.Kinds as pat-must-kinds
-use Rattle.pat.proofs.+arg_item+arg_turn+as_pat_tl+as_step+at_head+at_pat+at_pat_l_round+at_pat_must+at_rest+atom_pat+con_head+con_pat+con_turn+infix_pat+op_step+op_tail+or_step+pat_arg+pat_args+pat_must+pat_prec+pat_row+pat_rows+pat_step+pat_tail+row_item+row_turn+vector.Lts-pat_must as pat-must-lts
+use Rattle.pat.proofs.+arg_item+arg_turn+args+as_pat_tl+as_step+at_head+at_must+at_pat+at_round+atom+con+con_head+con_turn+inf_pat+op_step+op_tail+or_step+pat_arg+pat_must+pat_prec+rest+row+row_item+row_turn+rows+step+tail+vector.Lts-pat_must as pat-must-lts
 use Rattle.pat.proofs.pat_prec.Reads as pat-prec
 use Rattle.pat.proofs.pat_prec.Kinds as pat-prec-kinds
-use Rattle.pat.proofs.+arg_item+arg_turn+as_pat_tl+as_step+at_head+at_pat+at_pat_l_round+at_pat_must+at_rest+atom_pat+con_head+con_pat+con_turn+infix_pat+op_step+op_tail+or_step+pat_arg+pat_args+pat_must+pat_prec+pat_row+pat_rows+pat_step+pat_tail+row_item+row_turn+vector.Lts-pat_prec as pat-prec-lts
-use Rattle.pat.proofs.pat_row.Reads as pat-row
-use Rattle.pat.proofs.pat_row.Kinds as pat-row-kinds
-use Rattle.pat.proofs.+arg_item+arg_turn+as_pat_tl+as_step+at_head+at_pat+at_pat_l_round+at_pat_must+at_rest+atom_pat+con_head+con_pat+con_turn+infix_pat+op_step+op_tail+or_step+pat_arg+pat_args+pat_must+pat_prec+pat_row+pat_rows+pat_step+pat_tail+row_item+row_turn+vector.Lts-pat_row as pat-row-lts
-use Rattle.pat.proofs.pat_rows.Reads as pat-rows
-use Rattle.pat.proofs.pat_rows.Kinds as pat-rows-kinds
-use Rattle.pat.proofs.+arg_item+arg_turn+as_pat_tl+as_step+at_head+at_pat+at_pat_l_round+at_pat_must+at_rest+atom_pat+con_head+con_pat+con_turn+infix_pat+op_step+op_tail+or_step+pat_arg+pat_args+pat_must+pat_prec+pat_row+pat_rows+pat_step+pat_tail+row_item+row_turn+vector.Lts-pat_rows as pat-rows-lts
-use Rattle.pat.proofs.pat_step.Reads as pat-step
-use Rattle.pat.proofs.pat_step.Kinds as pat-step-kinds
-use Rattle.pat.proofs.+arg_item+arg_turn+as_pat_tl+as_step+at_head+at_pat+at_pat_l_round+at_pat_must+at_rest+atom_pat+con_head+con_pat+con_turn+infix_pat+op_step+op_tail+or_step+pat_arg+pat_args+pat_must+pat_prec+pat_row+pat_rows+pat_step+pat_tail+row_item+row_turn+vector.Lts-pat_step as pat-step-lts
-use Rattle.pat.proofs.pat_tail.Reads as pat-tail
-use Rattle.pat.proofs.pat_tail.Kinds as pat-tail-kinds
-use Rattle.pat.proofs.+arg_item+arg_turn+as_pat_tl+as_step+at_head+at_pat+at_pat_l_round+at_pat_must+at_rest+atom_pat+con_head+con_pat+con_turn+infix_pat+op_step+op_tail+or_step+pat_arg+pat_args+pat_must+pat_prec+pat_row+pat_rows+pat_step+pat_tail+row_item+row_turn+vector.Lts-pat_tail as pat-tail-lts
+use Rattle.pat.proofs.+arg_item+arg_turn+args+as_pat_tl+as_step+at_head+at_must+at_pat+at_round+atom+con+con_head+con_turn+inf_pat+op_step+op_tail+or_step+pat_arg+pat_must+pat_prec+rest+row+row_item+row_turn+rows+step+tail+vector.Lts-pat_prec as pat-prec-lts
+use Rattle.pat.proofs.rest.Reads as rest
+use Rattle.pat.proofs.rest.Kinds as rest-kinds
+use Rattle.pat.proofs.+arg_item+arg_turn+args+as_pat_tl+as_step+at_head+at_must+at_pat+at_round+atom+con+con_head+con_turn+inf_pat+op_step+op_tail+or_step+pat_arg+pat_must+pat_prec+rest+row+row_item+row_turn+rows+step+tail+vector.Lts-rest as rest-lts
+use Rattle.pat.proofs.row.Reads as row
+use Rattle.pat.proofs.row.Kinds as row-kinds
+use Rattle.pat.proofs.+arg_item+arg_turn+args+as_pat_tl+as_step+at_head+at_must+at_pat+at_round+atom+con+con_head+con_turn+inf_pat+op_step+op_tail+or_step+pat_arg+pat_must+pat_prec+rest+row+row_item+row_turn+rows+step+tail+vector.Lts-row as row-lts
 use Rattle.pat.proofs.row_item.Reads as row-item
 use Rattle.pat.proofs.row_item.Kinds as row-item-kinds
-use Rattle.pat.proofs.+arg_item+arg_turn+as_pat_tl+as_step+at_head+at_pat+at_pat_l_round+at_pat_must+at_rest+atom_pat+con_head+con_pat+con_turn+infix_pat+op_step+op_tail+or_step+pat_arg+pat_args+pat_must+pat_prec+pat_row+pat_rows+pat_step+pat_tail+row_item+row_turn+vector.Lts-row_item as row-item-lts
+use Rattle.pat.proofs.+arg_item+arg_turn+args+as_pat_tl+as_step+at_head+at_must+at_pat+at_round+atom+con+con_head+con_turn+inf_pat+op_step+op_tail+or_step+pat_arg+pat_must+pat_prec+rest+row+row_item+row_turn+rows+step+tail+vector.Lts-row_item as row-item-lts
 use Rattle.pat.proofs.row_turn.Reads as row-turn
 use Rattle.pat.proofs.row_turn.Kinds as row-turn-kinds
-use Rattle.pat.proofs.+arg_item+arg_turn+as_pat_tl+as_step+at_head+at_pat+at_pat_l_round+at_pat_must+at_rest+atom_pat+con_head+con_pat+con_turn+infix_pat+op_step+op_tail+or_step+pat_arg+pat_args+pat_must+pat_prec+pat_row+pat_rows+pat_step+pat_tail+row_item+row_turn+vector.Lts-row_turn as row-turn-lts
+use Rattle.pat.proofs.+arg_item+arg_turn+args+as_pat_tl+as_step+at_head+at_must+at_pat+at_round+atom+con+con_head+con_turn+inf_pat+op_step+op_tail+or_step+pat_arg+pat_must+pat_prec+rest+row+row_item+row_turn+rows+step+tail+vector.Lts-row_turn as row-turn-lts
+use Rattle.pat.proofs.rows.Reads as rows
+use Rattle.pat.proofs.rows.Kinds as rows-kinds
+use Rattle.pat.proofs.+arg_item+arg_turn+args+as_pat_tl+as_step+at_head+at_must+at_pat+at_round+atom+con+con_head+con_turn+inf_pat+op_step+op_tail+or_step+pat_arg+pat_must+pat_prec+rest+row+row_item+row_turn+rows+step+tail+vector.Lts-rows as rows-lts
+use Rattle.pat.proofs.step.Reads as step
+use Rattle.pat.proofs.step.Kinds as step-kinds
+use Rattle.pat.proofs.+arg_item+arg_turn+args+as_pat_tl+as_step+at_head+at_must+at_pat+at_round+atom+con+con_head+con_turn+inf_pat+op_step+op_tail+or_step+pat_arg+pat_must+pat_prec+rest+row+row_item+row_turn+rows+step+tail+vector.Lts-step as step-lts
+use Rattle.pat.proofs.tail.Reads as tail
+use Rattle.pat.proofs.tail.Kinds as tail-kinds
+use Rattle.pat.proofs.+arg_item+arg_turn+args+as_pat_tl+as_step+at_head+at_must+at_pat+at_round+atom+con+con_head+con_turn+inf_pat+op_step+op_tail+or_step+pat_arg+pat_must+pat_prec+rest+row+row_item+row_turn+rows+step+tail+vector.Lts-tail as tail-lts
 use Rattle.pat.proofs.vector.Reads as vector
 use Rattle.pat.proofs.vector.Kinds as vector-kinds
-use Rattle.pat.proofs.+arg_item+arg_turn+as_pat_tl+as_step+at_head+at_pat+at_pat_l_round+at_pat_must+at_rest+atom_pat+con_head+con_pat+con_turn+infix_pat+op_step+op_tail+or_step+pat_arg+pat_args+pat_must+pat_prec+pat_row+pat_rows+pat_step+pat_tail+row_item+row_turn+vector.Lts-vector as vector-lts
+use Rattle.pat.proofs.+arg_item+arg_turn+args+as_pat_tl+as_step+at_head+at_must+at_pat+at_round+atom+con+con_head+con_turn+inf_pat+op_step+op_tail+or_step+pat_arg+pat_must+pat_prec+rest+row+row_item+row_turn+rows+step+tail+vector.Lts-vector as vector-lts
 use Rattle.parser.proofs.Found.state.Reads as state-reads
 use Rattle.parser.proofs.State.mark.Reads as mark-reads
 use Rattle.parser.proofs.State.refuse.Reads as refuse-reads
@@ -129,10 +130,10 @@ use Rattle.pat_parts.proofs.leaves.con_path.Reads as con-path-reads
 use Rattle.pat_parts.proofs.leaves.should_break_pat.Reads as should-break-pat-reads
 use Rattle.pat_parts.proofs.leaves.typed_step.Reads as typed-step-reads
 use Rattle.ty.proofs.ty_annotation.Reads as ty-annotation-reads
-use Rattle.pat.proofs.+arg_item+arg_turn+as_pat_tl+as_step+at_head+at_pat+at_pat_l_round+at_pat_must+at_rest+atom_pat+con_head+con_pat+con_turn+infix_pat+op_step+op_tail+or_step+pat_arg+pat_args+pat_must+pat_prec+pat_row+pat_rows+pat_step+pat_tail+row_item+row_turn+vector.{
+use Rattle.pat.proofs.+arg_item+arg_turn+args+as_pat_tl+as_step+at_head+at_must+at_pat+at_round+atom+con+con_head+con_turn+inf_pat+op_step+op_tail+or_step+pat_arg+pat_must+pat_prec+rest+row+row_item+row_turn+rows+step+tail+vector.{
   statement,
 }
-use Rattle.pat.proofs.+arg_item+arg_turn+as_pat_tl+as_step+at_head+at_pat+at_pat_l_round+at_pat_must+at_rest+atom_pat+con_head+con_pat+con_turn+infix_pat+op_step+op_tail+or_step+pat_arg+pat_args+pat_must+pat_prec+pat_row+pat_rows+pat_step+pat_tail+row_item+row_turn+vector.Tie.{
+use Rattle.pat.proofs.+arg_item+arg_turn+args+as_pat_tl+as_step+at_head+at_must+at_pat+at_round+atom+con+con_head+con_turn+inf_pat+op_step+op_tail+or_step+pat_arg+pat_must+pat_prec+rest+row+row_item+row_turn+rows+step+tail+vector.Tie.{
   close,
 }
 
@@ -141,6 +142,9 @@ abbrev μ-arg-item : Measures 6 arg-item-kinds.ps ℕ
 
 abbrev μ-arg-turn : Measures 6 arg-turn-kinds.ps ℕ
 μ-arg-turn κs a = 64 * a .1 .1 .1 .1 .1 .1 .0 + 1
+
+abbrev μ-args : Measures 6 args-kinds.ps ℕ
+μ-args κs a = 64 * a .1 .1 .1 .1 .1 .1 .0 + 2
 
 abbrev μ-as-pat-tl : Measures 6 as-pat-tl-kinds.ps ℕ
 μ-as-pat-tl κs a = 64 * a .1 .1 .1 .1 .1 .1 .0
@@ -151,32 +155,29 @@ abbrev μ-as-step : Measures 6 as-step-kinds.ps ℕ
 abbrev μ-at-head : Measures 6 at-head-kinds.ps ℕ
 μ-at-head κs a = 64 * a .1 .1 .1 .1 .1 .1 .0 + 5
 
+abbrev μ-at-must : Measures 6 at-must-kinds.ps ℕ
+μ-at-must κs a = 64 * a .1 .1 .1 .1 .1 .1 .0 + 1
+
 abbrev μ-at-pat : Measures 6 at-pat-kinds.ps ℕ
 μ-at-pat κs a = 64 * a .1 .1 .1 .1 .1 .1 .0
 
-abbrev μ-at-pat-l-round : Measures 6 at-pat-l-round-kinds.ps ℕ
-μ-at-pat-l-round κs a = 64 * a .1 .1 .1 .1 .1 .1 .0 + 3
+abbrev μ-at-round : Measures 6 at-round-kinds.ps ℕ
+μ-at-round κs a = 64 * a .1 .1 .1 .1 .1 .1 .0 + 3
 
-abbrev μ-at-pat-must : Measures 6 at-pat-must-kinds.ps ℕ
-μ-at-pat-must κs a = 64 * a .1 .1 .1 .1 .1 .1 .0 + 1
+abbrev μ-atom : Measures 6 atom-kinds.ps ℕ
+μ-atom κs a = 64 * a .1 .1 .1 .1 .1 .1 .0 + 4
 
-abbrev μ-at-rest : Measures 6 at-rest-kinds.ps ℕ
-μ-at-rest κs a = 64 * a .1 .1 .1 .1 .1 .1 .0 + 4
-
-abbrev μ-atom-pat : Measures 6 atom-pat-kinds.ps ℕ
-μ-atom-pat κs a = 64 * a .1 .1 .1 .1 .1 .1 .0 + 4
+abbrev μ-con : Measures 6 con-kinds.ps ℕ
+μ-con κs a = 64 * a .1 .1 .1 .1 .1 .1 .0 + 4
 
 abbrev μ-con-head : Measures 6 con-head-kinds.ps ℕ
 μ-con-head κs a = 64 * a .1 .1 .1 .1 .1 .1 .0
 
-abbrev μ-con-pat : Measures 6 con-pat-kinds.ps ℕ
-μ-con-pat κs a = 64 * a .1 .1 .1 .1 .1 .1 .0 + 4
-
 abbrev μ-con-turn : Measures 6 con-turn-kinds.ps ℕ
 μ-con-turn κs a = 64 * a .1 .1 .1 .1 .1 .1 .0 + 2
 
-abbrev μ-infix-pat : Measures 6 infix-pat-kinds.ps ℕ
-μ-infix-pat κs a = 64 * a .1 .1 .1 .1 .1 .1 .0
+abbrev μ-inf-pat : Measures 6 inf-pat-kinds.ps ℕ
+μ-inf-pat κs a = 64 * a .1 .1 .1 .1 .1 .1 .0
 
 abbrev μ-op-step : Measures 6 op-step-kinds.ps ℕ
 μ-op-step κs a = 64 * a .1 .1 .1 .1 .1 .1 .0 + 1
@@ -190,32 +191,32 @@ abbrev μ-or-step : Measures 6 or-step-kinds.ps ℕ
 abbrev μ-pat-arg : Measures 6 pat-arg-kinds.ps ℕ
 μ-pat-arg κs a = 64 * a .1 .1 .1 .1 .1 .1 .0
 
-abbrev μ-pat-args : Measures 6 pat-args-kinds.ps ℕ
-μ-pat-args κs a = 64 * a .1 .1 .1 .1 .1 .1 .0 + 2
-
 abbrev μ-pat-must : Measures 6 pat-must-kinds.ps ℕ
 μ-pat-must κs a = 64 * a .1 .1 .1 .1 .1 .1 .0 + 6
 
 abbrev μ-pat-prec : Measures 6 pat-prec-kinds.ps ℕ
 μ-pat-prec κs a = 64 * a .1 .1 .1 .1 .1 .1 .0 + 5
 
-abbrev μ-pat-row : Measures 6 pat-row-kinds.ps ℕ
-μ-pat-row κs a = 64 * a .1 .1 .1 .1 .1 .1 .0
+abbrev μ-rest : Measures 6 rest-kinds.ps ℕ
+μ-rest κs a = 64 * a .1 .1 .1 .1 .1 .1 .0 + 4
 
-abbrev μ-pat-rows : Measures 6 pat-rows-kinds.ps ℕ
-μ-pat-rows κs a = 64 * a .1 .1 .1 .1 .1 .1 .0 + 2
-
-abbrev μ-pat-step : Measures 6 pat-step-kinds.ps ℕ
-μ-pat-step κs a = 64 * a .1 .1 .1 .1 .1 .1 .0 + 2
-
-abbrev μ-pat-tail : Measures 6 pat-tail-kinds.ps ℕ
-μ-pat-tail κs a = 64 * a .1 .1 .1 .1 .1 .1 .0 + 3
+abbrev μ-row : Measures 6 row-kinds.ps ℕ
+μ-row κs a = 64 * a .1 .1 .1 .1 .1 .1 .0
 
 abbrev μ-row-item : Measures 6 row-item-kinds.ps ℕ
 μ-row-item κs a = 64 * a .1 .1 .1 .1 .1 .1 .0
 
 abbrev μ-row-turn : Measures 6 row-turn-kinds.ps ℕ
 μ-row-turn κs a = 64 * a .1 .1 .1 .1 .1 .1 .0 + 1
+
+abbrev μ-rows : Measures 6 rows-kinds.ps ℕ
+μ-rows κs a = 64 * a .1 .1 .1 .1 .1 .1 .0 + 2
+
+abbrev μ-step : Measures 6 step-kinds.ps ℕ
+μ-step κs a = 64 * a .1 .1 .1 .1 .1 .1 .0 + 2
+
+abbrev μ-tail : Measures 6 tail-kinds.ps ℕ
+μ-tail κs a = 64 * a .1 .1 .1 .1 .1 .1 .0 + 3
 
 abbrev μ-vector : Measures 6 vector-kinds.ps ℕ
 μ-vector κs a = 64 * a .1 .1 .1 .1 .1 .1 .0
@@ -233,6 +234,12 @@ arg-turn-at t = and 6 arg-turn-kinds.ps (is 6 arg-turn-kinds.ps μ-arg-turn t) a
 abbrev arg-turn-below : ℕ → In 6 arg-turn-kinds.ps
 arg-turn-below t =
     and 6 arg-turn-kinds.ps (falls 6 arg-turn-kinds.ps _<_ μ-arg-turn t) arg-turn.Pre
+
+abbrev args-at : ℕ → In 6 args-kinds.ps
+args-at t = and 6 args-kinds.ps (is 6 args-kinds.ps μ-args t) args.Pre
+
+abbrev args-below : ℕ → In 6 args-kinds.ps
+args-below t = and 6 args-kinds.ps (falls 6 args-kinds.ps _<_ μ-args t) args.Pre
 
 abbrev as-pat-tl-at : ℕ → In 6 as-pat-tl-kinds.ps
 as-pat-tl-at t = and 6 as-pat-tl-kinds.ps (is 6 as-pat-tl-kinds.ps μ-as-pat-tl t) as-pat-tl.Pre
@@ -253,48 +260,36 @@ at-head-at t = and 6 at-head-kinds.ps (is 6 at-head-kinds.ps μ-at-head t) at-he
 abbrev at-head-below : ℕ → In 6 at-head-kinds.ps
 at-head-below t = and 6 at-head-kinds.ps (falls 6 at-head-kinds.ps _<_ μ-at-head t) at-head.Pre
 
+abbrev at-must-at : ℕ → In 6 at-must-kinds.ps
+at-must-at t = and 6 at-must-kinds.ps (is 6 at-must-kinds.ps μ-at-must t) at-must.Pre
+
+abbrev at-must-below : ℕ → In 6 at-must-kinds.ps
+at-must-below t = and 6 at-must-kinds.ps (falls 6 at-must-kinds.ps _<_ μ-at-must t) at-must.Pre
+
 abbrev at-pat-at : ℕ → In 6 at-pat-kinds.ps
 at-pat-at t = and 6 at-pat-kinds.ps (is 6 at-pat-kinds.ps μ-at-pat t) at-pat.Pre
 
 abbrev at-pat-below : ℕ → In 6 at-pat-kinds.ps
 at-pat-below t = and 6 at-pat-kinds.ps (falls 6 at-pat-kinds.ps _<_ μ-at-pat t) at-pat.Pre
 
-abbrev at-pat-l-round-at : ℕ → In 6 at-pat-l-round-kinds.ps
-at-pat-l-round-at t =
-    and
-    6
-    at-pat-l-round-kinds.ps
-    (is 6 at-pat-l-round-kinds.ps μ-at-pat-l-round t)
-    at-pat-l-round.Pre
+abbrev at-round-at : ℕ → In 6 at-round-kinds.ps
+at-round-at t = and 6 at-round-kinds.ps (is 6 at-round-kinds.ps μ-at-round t) at-round.Pre
 
-abbrev at-pat-l-round-below : ℕ → In 6 at-pat-l-round-kinds.ps
-at-pat-l-round-below t =
-    and
-    6
-    at-pat-l-round-kinds.ps
-    (falls 6 at-pat-l-round-kinds.ps _<_ μ-at-pat-l-round t)
-    at-pat-l-round.Pre
+abbrev at-round-below : ℕ → In 6 at-round-kinds.ps
+at-round-below t =
+    and 6 at-round-kinds.ps (falls 6 at-round-kinds.ps _<_ μ-at-round t) at-round.Pre
 
-abbrev at-pat-must-at : ℕ → In 6 at-pat-must-kinds.ps
-at-pat-must-at t =
-    and 6 at-pat-must-kinds.ps (is 6 at-pat-must-kinds.ps μ-at-pat-must t) at-pat-must.Pre
+abbrev atom-at : ℕ → In 6 atom-kinds.ps
+atom-at t = and 6 atom-kinds.ps (is 6 atom-kinds.ps μ-atom t) atom.Pre
 
-abbrev at-pat-must-below : ℕ → In 6 at-pat-must-kinds.ps
-at-pat-must-below t =
-    and 6 at-pat-must-kinds.ps (falls 6 at-pat-must-kinds.ps _<_ μ-at-pat-must t) at-pat-must.Pre
+abbrev atom-below : ℕ → In 6 atom-kinds.ps
+atom-below t = and 6 atom-kinds.ps (falls 6 atom-kinds.ps _<_ μ-atom t) atom.Pre
 
-abbrev at-rest-at : ℕ → In 6 at-rest-kinds.ps
-at-rest-at t = and 6 at-rest-kinds.ps (is 6 at-rest-kinds.ps μ-at-rest t) at-rest.Pre
+abbrev con-at : ℕ → In 6 con-kinds.ps
+con-at t = and 6 con-kinds.ps (is 6 con-kinds.ps μ-con t) con.Pre
 
-abbrev at-rest-below : ℕ → In 6 at-rest-kinds.ps
-at-rest-below t = and 6 at-rest-kinds.ps (falls 6 at-rest-kinds.ps _<_ μ-at-rest t) at-rest.Pre
-
-abbrev atom-pat-at : ℕ → In 6 atom-pat-kinds.ps
-atom-pat-at t = and 6 atom-pat-kinds.ps (is 6 atom-pat-kinds.ps μ-atom-pat t) atom-pat.Pre
-
-abbrev atom-pat-below : ℕ → In 6 atom-pat-kinds.ps
-atom-pat-below t =
-    and 6 atom-pat-kinds.ps (falls 6 atom-pat-kinds.ps _<_ μ-atom-pat t) atom-pat.Pre
+abbrev con-below : ℕ → In 6 con-kinds.ps
+con-below t = and 6 con-kinds.ps (falls 6 con-kinds.ps _<_ μ-con t) con.Pre
 
 abbrev con-head-at : ℕ → In 6 con-head-kinds.ps
 con-head-at t = and 6 con-head-kinds.ps (is 6 con-head-kinds.ps μ-con-head t) con-head.Pre
@@ -303,12 +298,6 @@ abbrev con-head-below : ℕ → In 6 con-head-kinds.ps
 con-head-below t =
     and 6 con-head-kinds.ps (falls 6 con-head-kinds.ps _<_ μ-con-head t) con-head.Pre
 
-abbrev con-pat-at : ℕ → In 6 con-pat-kinds.ps
-con-pat-at t = and 6 con-pat-kinds.ps (is 6 con-pat-kinds.ps μ-con-pat t) con-pat.Pre
-
-abbrev con-pat-below : ℕ → In 6 con-pat-kinds.ps
-con-pat-below t = and 6 con-pat-kinds.ps (falls 6 con-pat-kinds.ps _<_ μ-con-pat t) con-pat.Pre
-
 abbrev con-turn-at : ℕ → In 6 con-turn-kinds.ps
 con-turn-at t = and 6 con-turn-kinds.ps (is 6 con-turn-kinds.ps μ-con-turn t) con-turn.Pre
 
@@ -316,12 +305,11 @@ abbrev con-turn-below : ℕ → In 6 con-turn-kinds.ps
 con-turn-below t =
     and 6 con-turn-kinds.ps (falls 6 con-turn-kinds.ps _<_ μ-con-turn t) con-turn.Pre
 
-abbrev infix-pat-at : ℕ → In 6 infix-pat-kinds.ps
-infix-pat-at t = and 6 infix-pat-kinds.ps (is 6 infix-pat-kinds.ps μ-infix-pat t) infix-pat.Pre
+abbrev inf-pat-at : ℕ → In 6 inf-pat-kinds.ps
+inf-pat-at t = and 6 inf-pat-kinds.ps (is 6 inf-pat-kinds.ps μ-inf-pat t) inf-pat.Pre
 
-abbrev infix-pat-below : ℕ → In 6 infix-pat-kinds.ps
-infix-pat-below t =
-    and 6 infix-pat-kinds.ps (falls 6 infix-pat-kinds.ps _<_ μ-infix-pat t) infix-pat.Pre
+abbrev inf-pat-below : ℕ → In 6 inf-pat-kinds.ps
+inf-pat-below t = and 6 inf-pat-kinds.ps (falls 6 inf-pat-kinds.ps _<_ μ-inf-pat t) inf-pat.Pre
 
 abbrev op-step-at : ℕ → In 6 op-step-kinds.ps
 op-step-at t = and 6 op-step-kinds.ps (is 6 op-step-kinds.ps μ-op-step t) op-step.Pre
@@ -347,13 +335,6 @@ pat-arg-at t = and 6 pat-arg-kinds.ps (is 6 pat-arg-kinds.ps μ-pat-arg t) pat-a
 abbrev pat-arg-below : ℕ → In 6 pat-arg-kinds.ps
 pat-arg-below t = and 6 pat-arg-kinds.ps (falls 6 pat-arg-kinds.ps _<_ μ-pat-arg t) pat-arg.Pre
 
-abbrev pat-args-at : ℕ → In 6 pat-args-kinds.ps
-pat-args-at t = and 6 pat-args-kinds.ps (is 6 pat-args-kinds.ps μ-pat-args t) pat-args.Pre
-
-abbrev pat-args-below : ℕ → In 6 pat-args-kinds.ps
-pat-args-below t =
-    and 6 pat-args-kinds.ps (falls 6 pat-args-kinds.ps _<_ μ-pat-args t) pat-args.Pre
-
 abbrev pat-must-at : ℕ → In 6 pat-must-kinds.ps
 pat-must-at t = and 6 pat-must-kinds.ps (is 6 pat-must-kinds.ps μ-pat-must t) pat-must.Pre
 
@@ -368,32 +349,17 @@ abbrev pat-prec-below : ℕ → In 6 pat-prec-kinds.ps
 pat-prec-below t =
     and 6 pat-prec-kinds.ps (falls 6 pat-prec-kinds.ps _<_ μ-pat-prec t) pat-prec.Pre
 
-abbrev pat-row-at : ℕ → In 6 pat-row-kinds.ps
-pat-row-at t = and 6 pat-row-kinds.ps (is 6 pat-row-kinds.ps μ-pat-row t) pat-row.Pre
+abbrev rest-at : ℕ → In 6 rest-kinds.ps
+rest-at t = and 6 rest-kinds.ps (is 6 rest-kinds.ps μ-rest t) rest.Pre
 
-abbrev pat-row-below : ℕ → In 6 pat-row-kinds.ps
-pat-row-below t = and 6 pat-row-kinds.ps (falls 6 pat-row-kinds.ps _<_ μ-pat-row t) pat-row.Pre
+abbrev rest-below : ℕ → In 6 rest-kinds.ps
+rest-below t = and 6 rest-kinds.ps (falls 6 rest-kinds.ps _<_ μ-rest t) rest.Pre
 
-abbrev pat-rows-at : ℕ → In 6 pat-rows-kinds.ps
-pat-rows-at t = and 6 pat-rows-kinds.ps (is 6 pat-rows-kinds.ps μ-pat-rows t) pat-rows.Pre
+abbrev row-at : ℕ → In 6 row-kinds.ps
+row-at t = and 6 row-kinds.ps (is 6 row-kinds.ps μ-row t) row.Pre
 
-abbrev pat-rows-below : ℕ → In 6 pat-rows-kinds.ps
-pat-rows-below t =
-    and 6 pat-rows-kinds.ps (falls 6 pat-rows-kinds.ps _<_ μ-pat-rows t) pat-rows.Pre
-
-abbrev pat-step-at : ℕ → In 6 pat-step-kinds.ps
-pat-step-at t = and 6 pat-step-kinds.ps (is 6 pat-step-kinds.ps μ-pat-step t) pat-step.Pre
-
-abbrev pat-step-below : ℕ → In 6 pat-step-kinds.ps
-pat-step-below t =
-    and 6 pat-step-kinds.ps (falls 6 pat-step-kinds.ps _<_ μ-pat-step t) pat-step.Pre
-
-abbrev pat-tail-at : ℕ → In 6 pat-tail-kinds.ps
-pat-tail-at t = and 6 pat-tail-kinds.ps (is 6 pat-tail-kinds.ps μ-pat-tail t) pat-tail.Pre
-
-abbrev pat-tail-below : ℕ → In 6 pat-tail-kinds.ps
-pat-tail-below t =
-    and 6 pat-tail-kinds.ps (falls 6 pat-tail-kinds.ps _<_ μ-pat-tail t) pat-tail.Pre
+abbrev row-below : ℕ → In 6 row-kinds.ps
+row-below t = and 6 row-kinds.ps (falls 6 row-kinds.ps _<_ μ-row t) row.Pre
 
 abbrev row-item-at : ℕ → In 6 row-item-kinds.ps
 row-item-at t = and 6 row-item-kinds.ps (is 6 row-item-kinds.ps μ-row-item t) row-item.Pre
@@ -408,6 +374,24 @@ row-turn-at t = and 6 row-turn-kinds.ps (is 6 row-turn-kinds.ps μ-row-turn t) r
 abbrev row-turn-below : ℕ → In 6 row-turn-kinds.ps
 row-turn-below t =
     and 6 row-turn-kinds.ps (falls 6 row-turn-kinds.ps _<_ μ-row-turn t) row-turn.Pre
+
+abbrev rows-at : ℕ → In 6 rows-kinds.ps
+rows-at t = and 6 rows-kinds.ps (is 6 rows-kinds.ps μ-rows t) rows.Pre
+
+abbrev rows-below : ℕ → In 6 rows-kinds.ps
+rows-below t = and 6 rows-kinds.ps (falls 6 rows-kinds.ps _<_ μ-rows t) rows.Pre
+
+abbrev step-at : ℕ → In 6 step-kinds.ps
+step-at t = and 6 step-kinds.ps (is 6 step-kinds.ps μ-step t) step.Pre
+
+abbrev step-below : ℕ → In 6 step-kinds.ps
+step-below t = and 6 step-kinds.ps (falls 6 step-kinds.ps _<_ μ-step t) step.Pre
+
+abbrev tail-at : ℕ → In 6 tail-kinds.ps
+tail-at t = and 6 tail-kinds.ps (is 6 tail-kinds.ps μ-tail t) tail.Pre
+
+abbrev tail-below : ℕ → In 6 tail-kinds.ps
+tail-below t = and 6 tail-kinds.ps (falls 6 tail-kinds.ps _<_ μ-tail t) tail.Pre
 
 abbrev vector-at : ℕ → In 6 vector-kinds.ps
 vector-at t = and 6 vector-kinds.ps (is 6 vector-kinds.ps μ-vector t) vector.Pre
@@ -430,10 +414,7 @@ arg-item-refuse-requires : (t : ℕ) → arg-item-lts.Need-refuse-requires (
   close-reads.Learnt,
 ) (arg-item-at t) arg-item.Post
 arg-item-refuse-requires t c κs =
-    let falls = c .before .before .before .before .before .before .before .pre .0 in
-    let pre0 = c .before .before .before .before .before .before .before .pre .1 in
-    let if1 = c .if1 .taken in
-    search asks depth 8
+    tt
 
 arg-item-returns : (t : ℕ) → arg-item-lts.Need-returns (
   refuse-reads.Asked,
@@ -472,10 +453,7 @@ arg-item-mark-requires : (t : ℕ) → arg-item-lts.Need-mark-requires (
   close-reads.Learnt,
 ) (arg-item-at t) arg-item.Post
 arg-item-mark-requires t c κs =
-    let falls = c .before .before .before .before .before .before .before .pre .0 in
-    let pre0 = c .before .before .before .before .before .before .before .pre .1 in
-    let if1 = c .if1 .left in
-    search asks depth 8
+    tt
 
 arg-item-sub-pat-must : (t : ℕ) → arg-item-lts.Need-sub-pat-must (
   refuse-reads.Asked,
@@ -517,7 +495,7 @@ arg-item-pat-must-requires t c κs =
     let if1 = c .before .before .before .if1 .left in
     let mark = c .before .before .mark .ensures in
     let mark-ok = ok-marks mark pre0 in
-    search asks depth 8
+    (omega arith, mark-ok)
 
 arg-item-at-requires : (t : ℕ) → arg-item-lts.Need-at-requires (
   refuse-reads.Asked,
@@ -534,14 +512,9 @@ arg-item-at-requires : (t : ℕ) → arg-item-lts.Need-at-requires (
   close-reads.Learnt,
 ) (arg-item-at t) arg-item.Post
 arg-item-at-requires t c κs =
-    let falls = c .before .before .before .before .before .before .before .before .before .before .before .before .before .before .before .pre .0 in
-    let pre0 = c .before .before .before .before .before .before .before .before .before .before .before .before .before .before .before .pre .1 in
-    let if1 = c .before .before .before .before .before .before .before .before .if1 .left in
-    let mark = c .before .before .before .before .before .before .before .mark .ensures in
-    let mark-ok = ok-marks mark pre0 in
     let pat-must = c .before .before .before .before .pat-must .ensures in
     let pat-must-ok = pat-must .ok in
-    search asks depth 8
+    pat-must-ok .reads
 
 arg-item-bump-requires : (t : ℕ) → arg-item-lts.Need-bump-requires (
   refuse-reads.Asked,
@@ -558,16 +531,9 @@ arg-item-bump-requires : (t : ℕ) → arg-item-lts.Need-bump-requires (
   close-reads.Learnt,
 ) (arg-item-at t) arg-item.Post
 arg-item-bump-requires t c κs =
-    let falls = c .before .before .before .before .before .before .before .before .before .before .before .before .before .before .before .before .before .before .pre .0 in
-    let pre0 = c .before .before .before .before .before .before .before .before .before .before .before .before .before .before .before .before .before .before .pre .1 in
-    let if1 = c .before .before .before .before .before .before .before .before .before .before .before .if1 .left in
-    let mark = c .before .before .before .before .before .before .before .before .before .before .mark .ensures in
-    let mark-ok = ok-marks mark pre0 in
     let pat-must = c .before .before .before .before .before .before .before .pat-must .ensures in
     let pat-must-ok = pat-must .ok in
-    let at = c .before .before .at .ensures in
-    let if2 = c .before .if2 .taken in
-    search asks depth 8
+    (pat-must-ok .reads, pat-must-ok .logs)
 
 arg-item-close-requires : (t : ℕ) → arg-item-lts.Need-close-requires (
   refuse-reads.Asked,
@@ -584,18 +550,14 @@ arg-item-close-requires : (t : ℕ) → arg-item-lts.Need-close-requires (
   close-reads.Learnt,
 ) (arg-item-at t) arg-item.Post
 arg-item-close-requires t c κs =
-    let falls = c .before .before .before .before .before .before .before .before .before .before .before .before .before .before .before .before .before .before .before .before .before .before .pre .0 in
     let pre0 = c .before .before .before .before .before .before .before .before .before .before .before .before .before .before .before .before .before .before .before .before .before .before .pre .1 in
-    let if1 = c .before .before .before .before .before .before .before .before .before .before .before .before .before .before .before .if1 .left in
     let mark = c .before .before .before .before .before .before .before .before .before .before .before .before .before .before .mark .ensures in
     let mark-ok = ok-marks mark pre0 in
     let pat-must = c .before .before .before .before .before .before .before .before .before .before .before .pat-must .ensures in
     let pat-must-ok = pat-must .ok in
-    let at = c .before .before .before .before .before .before .at .ensures in
-    let if2 = c .before .before .before .before .before .if2 .taken in
     let bump = c .before .before .before .bump .ensures in
     let bump-ok = ok-bumps bump pat-must-ok in
-    search asks depth 8
+    (bump-ok .logs, small-len mark-ok)
 
 arg-item-same-length : (t : ℕ) → arg-item-lts.Need-same-length (
   refuse-reads.Asked,
@@ -673,16 +635,12 @@ arg-item-close-requires-2 : (t : ℕ) → arg-item-lts.Need-close-requires-2 (
   close-reads.Learnt,
 ) (arg-item-at t) arg-item.Post
 arg-item-close-requires-2 t c κs =
-    let falls = c .before .before .before .before .before .before .before .before .before .before .before .before .before .before .before .before .before .before .pre .0 in
     let pre0 = c .before .before .before .before .before .before .before .before .before .before .before .before .before .before .before .before .before .before .pre .1 in
-    let if1 = c .before .before .before .before .before .before .before .before .before .before .before .if1 .left in
     let mark = c .before .before .before .before .before .before .before .before .before .before .mark .ensures in
     let mark-ok = ok-marks mark pre0 in
     let pat-must = c .before .before .before .before .before .before .before .pat-must .ensures in
     let pat-must-ok = pat-must .ok in
-    let at = c .before .before .at .ensures in
-    let if2 = c .before .if2 .left in
-    search asks depth 8
+    (pat-must-ok .logs, small-len mark-ok)
 
 arg-item-same-length-3 : (t : ℕ) → arg-item-lts.Need-same-length-3 (
   refuse-reads.Asked,
@@ -757,10 +715,8 @@ arg-turn-at-requires : (t : ℕ) → arg-turn-lts.Need-at-requires (
   state-reads.Learnt,
 ) (arg-turn-at t) arg-turn.Post
 arg-turn-at-requires t c κs =
-    let falls = c .before .before .before .before .before .before .pre .0 in
     let pre0 = c .before .before .before .before .before .before .pre .1 .0 in
-    let pre1 = c .before .before .before .before .before .before .pre .1 .1 in
-    search asks depth 8
+    pre0 .reads
 
 arg-turn-bump-requires : (t : ℕ) → arg-turn-lts.Need-bump-requires (
   at-reads.Asked,
@@ -775,12 +731,8 @@ arg-turn-bump-requires : (t : ℕ) → arg-turn-lts.Need-bump-requires (
   state-reads.Learnt,
 ) (arg-turn-at t) arg-turn.Post
 arg-turn-bump-requires t c κs =
-    let falls = c .before .before .before .before .before .before .before .before .before .pre .0 in
     let pre0 = c .before .before .before .before .before .before .before .before .before .pre .1 .0 in
-    let pre1 = c .before .before .before .before .before .before .before .before .before .pre .1 .1 in
-    let at = c .before .before .at .ensures in
-    let if1 = c .before .if1 .taken in
-    search asks depth 8
+    (pre0 .reads, pre0 .logs)
 
 arg-turn-same-length : (t : ℕ) → arg-turn-lts.Need-same-length (
   at-reads.Asked,
@@ -835,9 +787,8 @@ arg-turn-arg-item-requires t c κs =
     let falls = c .before .before .before .before .before .before .before .before .before .before .pre .0 in
     let pre0 = c .before .before .before .before .before .before .before .before .before .before .pre .1 .0 in
     let pre1 = c .before .before .before .before .before .before .before .before .before .before .pre .1 .1 in
-    let at = c .before .before .before .at .ensures in
     let if1 = c .before .before .if1 .left in
-    search asks depth 8
+    (omega arith, pre0)
 
 arg-turn-enum-known-item : (t : ℕ) → arg-turn-lts.Need-enum-known-item (
   at-reads.Asked,
@@ -891,13 +842,12 @@ arg-turn-eat-requires : (t : ℕ) → arg-turn-lts.Need-eat-requires (
 ) (arg-turn-at t) arg-turn.Post
 arg-turn-eat-requires t c κs =
     let falls = c .before .before .before .before .before .before .before .before .before .before .before .before .before .before .before .before .before .before .before .before .pre .0 in
-    let pre0 = c .before .before .before .before .before .before .before .before .before .before .before .before .before .before .before .before .before .before .before .before .pre .1 .0 in
     let pre1 = c .before .before .before .before .before .before .before .before .before .before .before .before .before .before .before .before .before .before .before .before .pre .1 .1 in
     let at = c .before .before .before .before .before .before .before .before .before .before .before .before .before .at .ensures in
     let if1 = c .before .before .before .before .before .before .before .before .before .before .before .before .if1 .left in
     let arg-item = rw (c .before .before .before .item2 .given .1) at (c .before .before .before .before .before .before .before .before .before .arg-item .ensures) in
     let arg-item-ok = arg-item .ok in
-    search asks depth 8
+    (arg-item-ok, omega arith)
 
 arg-turn-state-requires : (t : ℕ) → arg-turn-lts.Need-state-requires (
   at-reads.Asked,
@@ -912,16 +862,7 @@ arg-turn-state-requires : (t : ℕ) → arg-turn-lts.Need-state-requires (
   state-reads.Learnt,
 ) (arg-turn-at t) arg-turn.Post
 arg-turn-state-requires t c κs =
-    let falls = c .before .before .before .before .before .before .before .before .before .before .before .before .before .before .before .before .before .before .before .before .before .before .before .before .before .pre .0 in
-    let pre0 = c .before .before .before .before .before .before .before .before .before .before .before .before .before .before .before .before .before .before .before .before .before .before .before .before .before .pre .1 .0 in
-    let pre1 = c .before .before .before .before .before .before .before .before .before .before .before .before .before .before .before .before .before .before .before .before .before .before .before .before .before .pre .1 .1 in
-    let at = c .before .before .before .before .before .before .before .before .before .before .before .before .before .before .before .before .before .before .at .ensures in
-    let if1 = c .before .before .before .before .before .before .before .before .before .before .before .before .before .before .before .before .before .if1 .left in
-    let arg-item = rw (c .before .before .before .before .before .before .before .before .item2 .given .1) at (c .before .before .before .before .before .before .before .before .before .before .before .before .before .before .arg-item .ensures) in
-    let arg-item-ok = arg-item .ok in
-    let eat = c .before .before .before .before .eat .ensures in
-    let eat-ok = eat .ok in
-    search asks depth 8
+    tt
 
 arg-turn-same-length-2 : (t : ℕ) → arg-turn-lts.Need-same-length-2 (
   at-reads.Asked,
@@ -1029,6 +970,121 @@ arg-turn-returns-3 t c =
     let state = c .state .ensures in
     by-steps pre0 (λ b. s-kind (s-false _ _ (kind-off _ _ _ _ at if1) (s-by _ (runs-in arg-item) (s-by _ (settled state (runs-always eat)) s-end))))
 
+abbrev args-Inv-loop : args-lts.InvT-loop
+args-Inv-loop text toks env table scratch₀ finds₀ left end e b s1₀ scratch finds s1 =
+    Loops left b (util.endTurn {g = true} SK.PatArg SK.Comma end (pat.patMust Prec.Min (errOf e))) (mem text toks env table scratch₀ finds₀ s1₀) (mem text toks env table scratch finds s1) × (length scratch ≡ length scratch₀) × (length finds ≡ length finds₀)
+
+abbrev args-μ-loop : args-lts.MeasureT-loop
+args-μ-loop text toks env table scratch₀ finds₀ left end e b s1₀ scratch finds s1 = turns (mem text toks env table scratch finds s1)
+
+args-loop-holds :
+    (t : ℕ) →
+    args-lts.Need-loop-holds
+    (arg-turn-below t, arg-turn.Post)
+    (args-at t)
+    args.Post
+    args-Inv-loop
+    args-μ-loop
+args-loop-holds t c =
+    let falls = c .before .before .before .before .before .before .pre .0 in
+    let pre0 = c .before .before .before .before .before .before .pre .1 .0 in
+    let pre1 = c .before .before .before .before .before .before .pre .1 .1 in
+    (loop-starts pre0, refl, refl)
+
+args-arg-turn-requires : (t : ℕ) → args-lts.Need-arg-turn-requires (
+  arg-turn-below t,
+  arg-turn.Post,
+) (args-at t) args.Post args-Inv-loop args-μ-loop
+args-arg-turn-requires t c κs =
+    let falls = c .before .before .before .before .before .before .before .before .before .pre .0 in
+    let pre1 = c .before .before .before .before .before .before .before .before .before .pre .1 .1 in
+    let inv = c .before .before .loop .inv .0 .ok in
+    (omega arith, (inv, omega arith))
+
+args-enum-known-turn :
+    (t : ℕ) →
+    args-lts.Need-enum-known-turn
+    (arg-turn-below t, arg-turn.Post)
+    (args-at t)
+    args.Post
+    args-Inv-loop
+    args-μ-loop
+args-enum-known-turn t c =
+    let falls = c .before .before .before .before .before .before .before .before .before .before .before .before .before .before .before .pre .0 in
+    let pre0 = c .before .before .before .before .before .before .before .before .before .before .before .before .before .before .before .pre .1 .0 in
+    let pre1 = c .before .before .before .before .before .before .before .before .before .before .before .before .before .before .before .pre .1 .1 in
+    search needs
+
+args-loop-less :
+    (t : ℕ) →
+    args-lts.Need-loop-less
+    (arg-turn-below t, arg-turn.Post)
+    (args-at t)
+    args.Post
+    args-Inv-loop
+    args-μ-loop
+args-loop-less t c =
+    let arg-turn = rw (c .before .turn .given .1) at (c .before .before .before .before .before .before .before .arg-turn .ensures) in
+    loop-falls (end-turn-advances true _ _ _ _ _ _) (runs-in {b = 0} arg-turn)
+
+args-loop-again :
+    (t : ℕ) →
+    args-lts.Need-loop-again
+    (arg-turn-below t, arg-turn.Post)
+    (args-at t)
+    args.Post
+    args-Inv-loop
+    args-μ-loop
+args-loop-again t c =
+    let inv = c .before .before .before .before .before .before .before .before .before .before .loop .inv .0 in
+    let arg-turn = rw (c .before .turn .given .1) at (c .before .before .before .before .before .before .before .arg-turn .ensures) in
+    (loop-goes (end-turn-advances true _ _ _ _ _ _) inv (runs-in arg-turn), c .before .before .before .before .before .before .before .arg-turn .kept .1 .1 .1 .1 .0 ∙ c .before .before .before .before .before .before .before .before .before .before .loop .inv .1, c .before .before .before .before .before .before .before .arg-turn .kept .1 .1 .1 .1 .1 .0 ∙ c .before .before .before .before .before .before .before .before .before .before .loop .inv .2)
+
+args-enum-known-turn-2 : (t : ℕ) → args-lts.Need-enum-known-turn-2 (
+  arg-turn-below t,
+  arg-turn.Post,
+) (args-at t) args.Post args-Inv-loop args-μ-loop
+args-enum-known-turn-2 t c =
+    let falls = c .before .before .before .before .before .before .before .before .before .before .before .before .before .before .before .pre .0 in
+    let pre0 = c .before .before .before .before .before .before .before .before .before .before .before .before .before .before .before .pre .1 .0 in
+    let pre1 = c .before .before .before .before .before .before .before .before .before .before .before .before .before .before .before .pre .1 .1 in
+    search needs
+
+args-same-length :
+    (t : ℕ) →
+    args-lts.Need-same-length
+    (arg-turn-below t, arg-turn.Post)
+    (args-at t)
+    args.Post
+    args-Inv-loop
+    args-μ-loop
+args-same-length t c =
+    c .before .before .before .before .before .before .before .arg-turn .kept .1 .1 .1 .1 .0 ∙ c .before .before .before .before .before .before .before .before .before .before .loop .inv .1
+
+args-same-length-2 :
+    (t : ℕ) →
+    args-lts.Need-same-length-2
+    (arg-turn-below t, arg-turn.Post)
+    (args-at t)
+    args.Post
+    args-Inv-loop
+    args-μ-loop
+args-same-length-2 t c =
+    c .before .before .before .before .before .before .before .arg-turn .kept .1 .1 .1 .1 .1 .0 ∙ c .before .before .before .before .before .before .before .before .before .before .loop .inv .2
+
+args-returns :
+    (t : ℕ) →
+    args-lts.Need-returns
+    (arg-turn-below t, arg-turn.Post)
+    (args-at t)
+    args.Post
+    args-Inv-loop
+    args-μ-loop
+args-returns t c =
+    let inv = c .before .before .before .before .before .before .before .before .before .before .loop .inv .0 in
+    let arg-turn = rw (c .before .turn2 .given .1) at (c .before .before .before .before .before .before .before .arg-turn .ensures) in
+    loop-ends (end-turn-advances true _ _ _ _ _ _) inv (runs-in arg-turn)
+
 as-pat-tl-at-requires : (t : ℕ) → as-pat-tl-lts.Need-at-requires (
   at-reads.Asked,
   at-reads.Learnt,
@@ -1044,9 +1100,8 @@ as-pat-tl-at-requires : (t : ℕ) → as-pat-tl-lts.Need-at-requires (
   close-reads.Learnt,
 ) (as-pat-tl-at t) as-pat-tl.Post
 as-pat-tl-at-requires t c κs =
-    let falls = c .before .before .before .before .before .before .pre .0 in
     let pre0 = c .before .before .before .before .before .before .pre .1 in
-    search asks depth 8
+    pre0 .reads
 
 as-pat-tl-refuse-requires : (t : ℕ) → as-pat-tl-lts.Need-refuse-requires (
   at-reads.Asked,
@@ -1063,12 +1118,7 @@ as-pat-tl-refuse-requires : (t : ℕ) → as-pat-tl-lts.Need-refuse-requires (
   close-reads.Learnt,
 ) (as-pat-tl-at t) as-pat-tl.Post
 as-pat-tl-refuse-requires t c κs =
-    let falls = c .before .before .before .before .before .before .before .before .before .pre .0 in
-    let pre0 = c .before .before .before .before .before .before .before .before .before .pre .1 in
-    let at = c .before .before .at .ensures in
-    let if1 = c .before .if1 .taken in
-    let if2 = c .if2 .taken in
-    search asks depth 8
+    tt
 
 as-pat-tl-returns : (t : ℕ) → as-pat-tl-lts.Need-returns (
   at-reads.Asked,
@@ -1109,12 +1159,7 @@ as-pat-tl-mark-requires : (t : ℕ) → as-pat-tl-lts.Need-mark-requires (
   close-reads.Learnt,
 ) (as-pat-tl-at t) as-pat-tl.Post
 as-pat-tl-mark-requires t c κs =
-    let falls = c .before .before .before .before .before .before .before .before .before .pre .0 in
-    let pre0 = c .before .before .before .before .before .before .before .before .before .pre .1 in
-    let at = c .before .before .at .ensures in
-    let if1 = c .before .if1 .taken in
-    let if2 = c .if2 .left in
-    search asks depth 8
+    tt
 
 as-pat-tl-bump-requires : (t : ℕ) → as-pat-tl-lts.Need-bump-requires (
   at-reads.Asked,
@@ -1131,14 +1176,10 @@ as-pat-tl-bump-requires : (t : ℕ) → as-pat-tl-lts.Need-bump-requires (
   close-reads.Learnt,
 ) (as-pat-tl-at t) as-pat-tl.Post
 as-pat-tl-bump-requires t c κs =
-    let falls = c .before .before .before .before .before .before .before .before .before .before .before .pre .0 in
     let pre0 = c .before .before .before .before .before .before .before .before .before .before .before .pre .1 in
-    let at = c .before .before .before .before .at .ensures in
-    let if1 = c .before .before .before .if1 .taken in
-    let if2 = c .before .before .if2 .left in
     let mark = c .before .mark .ensures in
     let mark-ok = ok-marks mark pre0 in
-    search asks depth 8
+    (mark-ok .reads, mark-ok .logs)
 
 as-pat-tl-sub-pat-must : (t : ℕ) → as-pat-tl-lts.Need-sub-pat-must (
   at-reads.Asked,
@@ -1178,14 +1219,13 @@ as-pat-tl-pat-must-requires : (t : ℕ) → as-pat-tl-lts.Need-pat-must-requires
 as-pat-tl-pat-must-requires t c κs =
     let falls = c .before .before .before .before .before .before .before .before .before .before .before .before .before .before .before .before .pre .0 in
     let pre0 = c .before .before .before .before .before .before .before .before .before .before .before .before .before .before .before .before .pre .1 in
-    let at = c .before .before .before .before .before .before .before .before .before .at .ensures in
     let if1 = c .before .before .before .before .before .before .before .before .if1 .taken in
     let if2 = c .before .before .before .before .before .before .before .if2 .left in
     let mark = c .before .before .before .before .before .before .mark .ensures in
     let mark-ok = ok-marks mark pre0 in
     let bump = c .before .before .before .before .bump .ensures in
     let bump-ok = ok-bumps bump mark-ok in
-    search asks depth 8
+    (omega arith, bump-ok)
 
 as-pat-tl-close-requires : (t : ℕ) → as-pat-tl-lts.Need-close-requires (
   at-reads.Asked,
@@ -1202,18 +1242,12 @@ as-pat-tl-close-requires : (t : ℕ) → as-pat-tl-lts.Need-close-requires (
   close-reads.Learnt,
 ) (as-pat-tl-at t) as-pat-tl.Post
 as-pat-tl-close-requires t c κs =
-    let falls = c .before .before .before .before .before .before .before .before .before .before .before .before .before .before .before .before .before .before .before .before .before .before .pre .0 in
     let pre0 = c .before .before .before .before .before .before .before .before .before .before .before .before .before .before .before .before .before .before .before .before .before .before .pre .1 in
-    let at = c .before .before .before .before .before .before .before .before .before .before .before .before .before .before .before .at .ensures in
-    let if1 = c .before .before .before .before .before .before .before .before .before .before .before .before .before .before .if1 .taken in
-    let if2 = c .before .before .before .before .before .before .before .before .before .before .before .before .before .if2 .left in
     let mark = c .before .before .before .before .before .before .before .before .before .before .before .before .mark .ensures in
     let mark-ok = ok-marks mark pre0 in
-    let bump = c .before .before .before .before .before .before .before .before .before .before .bump .ensures in
-    let bump-ok = ok-bumps bump mark-ok in
     let pat-must = c .before .before .before .before .before .pat-must .ensures in
     let pat-must-ok = pat-must .ok in
-    search asks depth 8
+    (pat-must-ok .logs, small-len mark-ok)
 
 as-pat-tl-same-length : (t : ℕ) → as-pat-tl-lts.Need-same-length (
   at-reads.Asked,
@@ -1313,10 +1347,7 @@ as-step-is-infix-requires : (t : ℕ) → as-step-lts.Need-is-infix-requires (
   report-reads.Learnt,
 ) (as-step-at t) as-step.Post
 as-step-is-infix-requires t c κs =
-    let falls = c .before .before .before .before .before .before .pre .0 in
-    let pre0 = c .before .before .before .before .before .before .pre .1 .0 in
-    let pre1 = c .before .before .before .before .before .before .pre .1 .1 in
-    search asks depth 8
+    tt
 
 as-step-returns : (t : ℕ) → as-step-lts.Need-returns (
   is-infix-reads.Asked,
@@ -1356,13 +1387,7 @@ as-step-refuse-requires : (t : ℕ) → as-step-lts.Need-refuse-requires (
   report-reads.Learnt,
 ) (as-step-at t) as-step.Post
 as-step-refuse-requires t c κs =
-    let falls = c .before .before .before .before .before .before .before .before .before .pre .0 in
-    let pre0 = c .before .before .before .before .before .before .before .before .before .pre .1 .0 in
-    let pre1 = c .before .before .before .before .before .before .before .before .before .pre .1 .1 in
-    let is-infix = c .before .before .is-infix .ensures in
-    let if1 = c .before .if1 .left in
-    let if2 = c .if2 .taken in
-    search asks depth 8
+    tt
 
 as-step-returns-2 : (t : ℕ) → as-step-lts.Need-returns-2 (
   is-infix-reads.Asked,
@@ -1404,13 +1429,7 @@ as-step-mark-requires : (t : ℕ) → as-step-lts.Need-mark-requires (
   report-reads.Learnt,
 ) (as-step-at t) as-step.Post
 as-step-mark-requires t c κs =
-    let falls = c .before .before .before .before .before .before .before .before .before .pre .0 in
-    let pre0 = c .before .before .before .before .before .before .before .before .before .pre .1 .0 in
-    let pre1 = c .before .before .before .before .before .before .before .before .before .pre .1 .1 in
-    let is-infix = c .before .before .is-infix .ensures in
-    let if1 = c .before .if1 .left in
-    let if2 = c .if2 .left in
-    search asks depth 8
+    tt
 
 as-step-sub-as-pat-tl : (t : ℕ) → as-step-lts.Need-sub-as-pat-tl (
   is-infix-reads.Asked,
@@ -1452,12 +1471,11 @@ as-step-as-pat-tl-requires t c κs =
     let falls = c .before .before .before .before .before .before .before .before .before .before .before .before .pre .0 in
     let pre0 = c .before .before .before .before .before .before .before .before .before .before .before .before .pre .1 .0 in
     let pre1 = c .before .before .before .before .before .before .before .before .before .before .before .before .pre .1 .1 in
-    let is-infix = c .before .before .before .before .before .is-infix .ensures in
     let if1 = c .before .before .before .before .if1 .left in
     let if2 = c .before .before .before .if2 .left in
     let mark = c .before .before .mark .ensures in
     let mark-ok = ok-marks mark pre0 in
-    search asks depth 8
+    (omega arith, mark-ok)
 
 as-step-enum-known-got : (t : ℕ) → as-step-lts.Need-enum-known-got (
   is-infix-reads.Asked,
@@ -1496,17 +1514,10 @@ as-step-close-requires : (t : ℕ) → as-step-lts.Need-close-requires (
   report-reads.Learnt,
 ) (as-step-at t) as-step.Post
 as-step-close-requires t c κs =
-    let falls = c .before .before .before .before .before .before .before .before .before .before .before .before .before .before .before .before .before .before .before .before .before .pre .0 in
-    let pre0 = c .before .before .before .before .before .before .before .before .before .before .before .before .before .before .before .before .before .before .before .before .before .pre .1 .0 in
     let pre1 = c .before .before .before .before .before .before .before .before .before .before .before .before .before .before .before .before .before .before .before .before .before .pre .1 .1 in
-    let is-infix = c .before .before .before .before .before .before .before .before .before .before .before .before .before .before .is-infix .ensures in
-    let if1 = c .before .before .before .before .before .before .before .before .before .before .before .before .before .if1 .left in
-    let if2 = c .before .before .before .before .before .before .before .before .before .before .before .before .if2 .left in
-    let mark = c .before .before .before .before .before .before .before .before .before .before .before .mark .ensures in
-    let mark-ok = ok-marks mark pre0 in
     let as-pat-tl = rw (c .before .before .got .given .1) at (c .before .before .before .before .before .before .before .before .as-pat-tl .ensures) in
     let as-pat-tl-ok = as-pat-tl .ok in
-    search asks depth 8
+    (as-pat-tl-ok .logs, pre1)
 
 as-step-enum-known-got-2 : (t : ℕ) → as-step-lts.Need-enum-known-got-2 (
   is-infix-reads.Asked,
@@ -1546,16 +1557,12 @@ as-step-report-requires : (t : ℕ) → as-step-lts.Need-report-requires (
 ) (as-step-at t) as-step.Post
 as-step-report-requires t c κs =
     let falls = c .before .before .before .before .before .before .before .before .before .before .before .before .before .before .before .before .before .before .before .before .before .pre .0 in
-    let pre0 = c .before .before .before .before .before .before .before .before .before .before .before .before .before .before .before .before .before .before .before .before .before .pre .1 .0 in
     let pre1 = c .before .before .before .before .before .before .before .before .before .before .before .before .before .before .before .before .before .before .before .before .before .pre .1 .1 in
-    let is-infix = c .before .before .before .before .before .before .before .before .before .before .before .before .before .before .is-infix .ensures in
     let if1 = c .before .before .before .before .before .before .before .before .before .before .before .before .before .if1 .left in
     let if2 = c .before .before .before .before .before .before .before .before .before .before .before .before .if2 .left in
-    let mark = c .before .before .before .before .before .before .before .before .before .before .before .mark .ensures in
-    let mark-ok = ok-marks mark pre0 in
     let as-pat-tl = rw (c .before .before .got2 .given .1) at (c .before .before .before .before .before .before .before .before .as-pat-tl .ensures) in
     let as-pat-tl-ok = as-pat-tl .ok in
-    search asks depth 8
+    (as-pat-tl-ok .holds, (let few = as-pat-tl-ok .reads .few in let inside = as-pat-tl-ok .reads .inside in omega arith), omega arith)
 
 as-step-close-requires-2 : (t : ℕ) → as-step-lts.Need-close-requires-2 (
   is-infix-reads.Asked,
@@ -1572,19 +1579,12 @@ as-step-close-requires-2 : (t : ℕ) → as-step-lts.Need-close-requires-2 (
   report-reads.Learnt,
 ) (as-step-at t) as-step.Post
 as-step-close-requires-2 t c κs =
-    let falls = c .before .before .before .before .before .before .before .before .before .before .before .before .before .before .before .before .before .before .before .before .before .before .before .before .before .pre .0 in
-    let pre0 = c .before .before .before .before .before .before .before .before .before .before .before .before .before .before .before .before .before .before .before .before .before .before .before .before .before .pre .1 .0 in
     let pre1 = c .before .before .before .before .before .before .before .before .before .before .before .before .before .before .before .before .before .before .before .before .before .before .before .before .before .pre .1 .1 in
-    let is-infix = c .before .before .before .before .before .before .before .before .before .before .before .before .before .before .before .before .before .before .is-infix .ensures in
-    let if1 = c .before .before .before .before .before .before .before .before .before .before .before .before .before .before .before .before .before .if1 .left in
-    let if2 = c .before .before .before .before .before .before .before .before .before .before .before .before .before .before .before .before .if2 .left in
-    let mark = c .before .before .before .before .before .before .before .before .before .before .before .before .before .before .before .mark .ensures in
-    let mark-ok = ok-marks mark pre0 in
     let as-pat-tl = rw (c .before .before .before .before .before .before .got2 .given .1) at (c .before .before .before .before .before .before .before .before .before .before .before .before .as-pat-tl .ensures) in
     let as-pat-tl-ok = as-pat-tl .ok in
     let report = c .before .before .before .report .ensures in
     let report-ok = ok-tells report as-pat-tl-ok in
-    search asks depth 8
+    (report-ok .logs, pre1)
 
 as-step-same-length : (t : ℕ) → as-step-lts.Need-same-length (
   is-infix-reads.Asked,
@@ -1724,14 +1724,11 @@ at-head-s-con-requires : (t : ℕ) → at-head-lts.Need-s-con-requires (
   name-star-reads.Learnt,
   con-path-reads.Asked,
   con-path-reads.Learnt,
-  at-rest-below t,
-  at-rest.Post,
+  rest-below t,
+  rest.Post,
 ) (at-head-at t) at-head.Post
 at-head-s-con-requires t c κs =
-    let falls = c .before .before .before .before .before .before .pre .0 in
-    let pre0 = c .before .before .before .before .before .before .pre .1 .0 in
-    let pre1 = c .before .before .before .before .before .before .pre .1 .1 in
-    search asks depth 8
+    tt
 
 at-head-bump-requires : (t : ℕ) → at-head-lts.Need-bump-requires (
   s-con-reads.Asked,
@@ -1748,16 +1745,12 @@ at-head-bump-requires : (t : ℕ) → at-head-lts.Need-bump-requires (
   name-star-reads.Learnt,
   con-path-reads.Asked,
   con-path-reads.Learnt,
-  at-rest-below t,
-  at-rest.Post,
+  rest-below t,
+  rest.Post,
 ) (at-head-at t) at-head.Post
 at-head-bump-requires t c κs =
-    let falls = c .before .before .before .before .before .before .before .before .before .pre .0 in
     let pre0 = c .before .before .before .before .before .before .before .before .before .pre .1 .0 in
-    let pre1 = c .before .before .before .before .before .before .before .before .before .pre .1 .1 in
-    let s-con = c .before .before .s-con .ensures in
-    let if1 = c .before .if1 .taken in
-    search asks depth 8
+    (pre0 .reads, pre0 .logs)
 
 at-head-close-requires : (t : ℕ) → at-head-lts.Need-close-requires (
   s-con-reads.Asked,
@@ -1774,18 +1767,15 @@ at-head-close-requires : (t : ℕ) → at-head-lts.Need-close-requires (
   name-star-reads.Learnt,
   con-path-reads.Asked,
   con-path-reads.Learnt,
-  at-rest-below t,
-  at-rest.Post,
+  rest-below t,
+  rest.Post,
 ) (at-head-at t) at-head.Post
 at-head-close-requires t c κs =
-    let falls = c .before .before .before .before .before .before .before .before .before .before .before .before .before .pre .0 in
     let pre0 = c .before .before .before .before .before .before .before .before .before .before .before .before .before .pre .1 .0 in
     let pre1 = c .before .before .before .before .before .before .before .before .before .before .before .before .before .pre .1 .1 in
-    let s-con = c .before .before .before .before .before .before .s-con .ensures in
-    let if1 = c .before .before .before .before .before .if1 .taken in
     let bump = c .before .before .before .bump .ensures in
     let bump-ok = ok-bumps bump pre0 in
-    search asks depth 8
+    (bump-ok .logs, pre1)
 
 at-head-same-length : (t : ℕ) → at-head-lts.Need-same-length (
   s-con-reads.Asked,
@@ -1802,8 +1792,8 @@ at-head-same-length : (t : ℕ) → at-head-lts.Need-same-length (
   name-star-reads.Learnt,
   con-path-reads.Asked,
   con-path-reads.Learnt,
-  at-rest-below t,
-  at-rest.Post,
+  rest-below t,
+  rest.Post,
 ) (at-head-at t) at-head.Post
 at-head-same-length t c =
     c .before .before .close .kept .0 ∙ c .before .before .before .before .before .before .bump .kept .1 .0
@@ -1823,8 +1813,8 @@ at-head-returns : (t : ℕ) → at-head-lts.Need-returns (
   name-star-reads.Learnt,
   con-path-reads.Asked,
   con-path-reads.Learnt,
-  at-rest-below t,
-  at-rest.Post,
+  rest-below t,
+  rest.Post,
 ) (at-head-at t) at-head.Post
 unfolding pat.atPatHead plan choose chosen
 at-head-returns t c =
@@ -1852,17 +1842,12 @@ at-head-bump-requires-2 : (t : ℕ) → at-head-lts.Need-bump-requires-2 (
   name-star-reads.Learnt,
   con-path-reads.Asked,
   con-path-reads.Learnt,
-  at-rest-below t,
-  at-rest.Post,
+  rest-below t,
+  rest.Post,
 ) (at-head-at t) at-head.Post
 at-head-bump-requires-2 t c κs =
-    let falls = c .before .before .before .before .before .before .before .before .before .before .pre .0 in
     let pre0 = c .before .before .before .before .before .before .before .before .before .before .pre .1 .0 in
-    let pre1 = c .before .before .before .before .before .before .before .before .before .before .pre .1 .1 in
-    let s-con = c .before .before .before .s-con .ensures in
-    let if1 = c .before .before .if1 .left in
-    let if2 = c .before .if2 .taken in
-    search asks depth 8
+    (pre0 .reads, pre0 .logs)
 
 at-head-close-requires-2 : (t : ℕ) → at-head-lts.Need-close-requires-2 (
   s-con-reads.Asked,
@@ -1879,19 +1864,15 @@ at-head-close-requires-2 : (t : ℕ) → at-head-lts.Need-close-requires-2 (
   name-star-reads.Learnt,
   con-path-reads.Asked,
   con-path-reads.Learnt,
-  at-rest-below t,
-  at-rest.Post,
+  rest-below t,
+  rest.Post,
 ) (at-head-at t) at-head.Post
 at-head-close-requires-2 t c κs =
-    let falls = c .before .before .before .before .before .before .before .before .before .before .before .before .before .before .pre .0 in
     let pre0 = c .before .before .before .before .before .before .before .before .before .before .before .before .before .before .pre .1 .0 in
     let pre1 = c .before .before .before .before .before .before .before .before .before .before .before .before .before .before .pre .1 .1 in
-    let s-con = c .before .before .before .before .before .before .before .s-con .ensures in
-    let if1 = c .before .before .before .before .before .before .if1 .left in
-    let if2 = c .before .before .before .before .before .if2 .taken in
     let bump2 = c .before .before .before .bump2 .ensures in
     let bump2-ok = ok-bumps bump2 pre0 in
-    search asks depth 8
+    (bump2-ok .logs, pre1)
 
 at-head-same-length-2 : (t : ℕ) → at-head-lts.Need-same-length-2 (
   s-con-reads.Asked,
@@ -1908,8 +1889,8 @@ at-head-same-length-2 : (t : ℕ) → at-head-lts.Need-same-length-2 (
   name-star-reads.Learnt,
   con-path-reads.Asked,
   con-path-reads.Learnt,
-  at-rest-below t,
-  at-rest.Post,
+  rest-below t,
+  rest.Post,
 ) (at-head-at t) at-head.Post
 at-head-same-length-2 t c =
     c .before .before .close2 .kept .0 ∙ c .before .before .before .before .before .before .bump2 .kept .1 .0
@@ -1929,8 +1910,8 @@ at-head-returns-2 : (t : ℕ) → at-head-lts.Need-returns-2 (
   name-star-reads.Learnt,
   con-path-reads.Asked,
   con-path-reads.Learnt,
-  at-rest-below t,
-  at-rest.Post,
+  rest-below t,
+  rest.Post,
 ) (at-head-at t) at-head.Post
 unfolding pat.atPatHead plan choose chosen
 at-head-returns-2 t c =
@@ -1959,18 +1940,12 @@ at-head-path-infix-requires : (t : ℕ) → at-head-lts.Need-path-infix-requires
   name-star-reads.Learnt,
   con-path-reads.Asked,
   con-path-reads.Learnt,
-  at-rest-below t,
-  at-rest.Post,
+  rest-below t,
+  rest.Post,
 ) (at-head-at t) at-head.Post
 at-head-path-infix-requires t c κs =
-    let falls = c .before .before .before .before .before .before .before .before .before .before .before .before .pre .0 in
     let pre0 = c .before .before .before .before .before .before .before .before .before .before .before .before .pre .1 .0 in
-    let pre1 = c .before .before .before .before .before .before .before .before .before .before .before .before .pre .1 .1 in
-    let s-con = c .before .before .before .before .before .s-con .ensures in
-    let if1 = c .before .before .before .before .if1 .left in
-    let if2 = c .before .before .before .if2 .left in
-    let if3 = c .before .before .if3 .taken in
-    search asks depth 8
+    pre0
 
 at-head-state-requires : (t : ℕ) → at-head-lts.Need-state-requires (
   s-con-reads.Asked,
@@ -1987,20 +1962,11 @@ at-head-state-requires : (t : ℕ) → at-head-lts.Need-state-requires (
   name-star-reads.Learnt,
   con-path-reads.Asked,
   con-path-reads.Learnt,
-  at-rest-below t,
-  at-rest.Post,
+  rest-below t,
+  rest.Post,
 ) (at-head-at t) at-head.Post
 at-head-state-requires t c κs =
-    let falls = c .before .before .before .before .before .before .before .before .before .before .before .before .before .before .before .before .before .pre .0 in
-    let pre0 = c .before .before .before .before .before .before .before .before .before .before .before .before .before .before .before .before .before .pre .1 .0 in
-    let pre1 = c .before .before .before .before .before .before .before .before .before .before .before .before .before .before .before .before .before .pre .1 .1 in
-    let s-con = c .before .before .before .before .before .before .before .before .before .before .s-con .ensures in
-    let if1 = c .before .before .before .before .before .before .before .before .before .if1 .left in
-    let if2 = c .before .before .before .before .before .before .before .before .if2 .left in
-    let if3 = c .before .before .before .before .before .before .before .if3 .taken in
-    let path-infix = c .before .before .before .before .path-infix .ensures in
-    let path-infix-ok = path-infix .ok in
-    search asks depth 8
+    tt
 
 at-head-close-requires-3 : (t : ℕ) → at-head-lts.Need-close-requires-3 (
   s-con-reads.Asked,
@@ -2017,22 +1983,16 @@ at-head-close-requires-3 : (t : ℕ) → at-head-lts.Need-close-requires-3 (
   name-star-reads.Learnt,
   con-path-reads.Asked,
   con-path-reads.Learnt,
-  at-rest-below t,
-  at-rest.Post,
+  rest-below t,
+  rest.Post,
 ) (at-head-at t) at-head.Post
 at-head-close-requires-3 t c κs =
-    let falls = c .before .before .before .before .before .before .before .before .before .before .before .before .before .before .before .before .before .before .before .pre .0 in
-    let pre0 = c .before .before .before .before .before .before .before .before .before .before .before .before .before .before .before .before .before .before .before .pre .1 .0 in
     let pre1 = c .before .before .before .before .before .before .before .before .before .before .before .before .before .before .before .before .before .before .before .pre .1 .1 in
-    let s-con = c .before .before .before .before .before .before .before .before .before .before .before .before .s-con .ensures in
-    let if1 = c .before .before .before .before .before .before .before .before .before .before .before .if1 .left in
-    let if2 = c .before .before .before .before .before .before .before .before .before .before .if2 .left in
-    let if3 = c .before .before .before .before .before .before .before .before .before .if3 .taken in
     let path-infix = c .before .before .before .before .before .before .path-infix .ensures in
     let path-infix-ok = path-infix .ok in
     let state = c .before .state .ensures in
     let state-ok = ok-state state path-infix-ok in
-    search asks depth 8
+    (state-ok .logs, pre1)
 
 at-head-same-length-3 : (t : ℕ) → at-head-lts.Need-same-length-3 (
   s-con-reads.Asked,
@@ -2049,8 +2009,8 @@ at-head-same-length-3 : (t : ℕ) → at-head-lts.Need-same-length-3 (
   name-star-reads.Learnt,
   con-path-reads.Asked,
   con-path-reads.Learnt,
-  at-rest-below t,
-  at-rest.Post,
+  rest-below t,
+  rest.Post,
 ) (at-head-at t) at-head.Post
 at-head-same-length-3 t c =
     c .before .before .close3 .kept .0 ∙ c .before .before .before .before .before .before .before .before .before .path-infix .kept .1 .1 .1 .1 .0
@@ -2070,8 +2030,8 @@ at-head-same-length-4 : (t : ℕ) → at-head-lts.Need-same-length-4 (
   name-star-reads.Learnt,
   con-path-reads.Asked,
   con-path-reads.Learnt,
-  at-rest-below t,
-  at-rest.Post,
+  rest-below t,
+  rest.Post,
 ) (at-head-at t) at-head.Post
 at-head-same-length-4 t c =
     c .before .before .before .before .before .before .before .before .before .path-infix .kept .1 .1 .1 .1 .1 .0
@@ -2091,8 +2051,8 @@ at-head-returns-3 : (t : ℕ) → at-head-lts.Need-returns-3 (
   name-star-reads.Learnt,
   con-path-reads.Asked,
   con-path-reads.Learnt,
-  at-rest-below t,
-  at-rest.Post,
+  rest-below t,
+  rest.Post,
 ) (at-head-at t) at-head.Post
 unfolding pat.atPatHead plan choose chosen
 at-head-returns-3 t c =
@@ -2123,18 +2083,11 @@ at-head-name-star-requires : (t : ℕ) → at-head-lts.Need-name-star-requires (
   name-star-reads.Learnt,
   con-path-reads.Asked,
   con-path-reads.Learnt,
-  at-rest-below t,
-  at-rest.Post,
+  rest-below t,
+  rest.Post,
 ) (at-head-at t) at-head.Post
 at-head-name-star-requires t c κs =
-    let falls = c .before .before .before .before .before .before .before .before .before .before .pre .0 in
-    let pre0 = c .before .before .before .before .before .before .before .before .before .before .pre .1 .0 in
-    let pre1 = c .before .before .before .before .before .before .before .before .before .before .pre .1 .1 in
-    let s-con = c .before .before .before .s-con .ensures in
-    let if1 = c .before .before .if1 .left in
-    let if2 = c .before .if2 .left in
-    let if3 = c .if3 .left in
-    search asks depth 8
+    tt
 
 at-head-con-path-requires : (t : ℕ) → at-head-lts.Need-con-path-requires (
   s-con-reads.Asked,
@@ -2151,20 +2104,12 @@ at-head-con-path-requires : (t : ℕ) → at-head-lts.Need-con-path-requires (
   name-star-reads.Learnt,
   con-path-reads.Asked,
   con-path-reads.Learnt,
-  at-rest-below t,
-  at-rest.Post,
+  rest-below t,
+  rest.Post,
 ) (at-head-at t) at-head.Post
 at-head-con-path-requires t c κs =
-    let falls = c .before .before .before .before .before .before .before .before .before .before .before .before .before .before .pre .0 in
     let pre0 = c .before .before .before .before .before .before .before .before .before .before .before .before .before .before .pre .1 .0 in
-    let pre1 = c .before .before .before .before .before .before .before .before .before .before .before .before .before .before .pre .1 .1 in
-    let s-con = c .before .before .before .before .before .before .before .s-con .ensures in
-    let if1 = c .before .before .before .before .before .before .if1 .left in
-    let if2 = c .before .before .before .before .before .if2 .left in
-    let if3 = c .before .before .before .before .if3 .left in
-    let name-star = c .before .before .before .name-star .ensures in
-    let if4 = c .before .before .if4 .taken in
-    search asks depth 8
+    pre0
 
 at-head-state-requires-2 : (t : ℕ) → at-head-lts.Need-state-requires-2 (
   s-con-reads.Asked,
@@ -2181,22 +2126,11 @@ at-head-state-requires-2 : (t : ℕ) → at-head-lts.Need-state-requires-2 (
   name-star-reads.Learnt,
   con-path-reads.Asked,
   con-path-reads.Learnt,
-  at-rest-below t,
-  at-rest.Post,
+  rest-below t,
+  rest.Post,
 ) (at-head-at t) at-head.Post
 at-head-state-requires-2 t c κs =
-    let falls = c .before .before .before .before .before .before .before .before .before .before .before .before .before .before .before .before .before .before .before .pre .0 in
-    let pre0 = c .before .before .before .before .before .before .before .before .before .before .before .before .before .before .before .before .before .before .before .pre .1 .0 in
-    let pre1 = c .before .before .before .before .before .before .before .before .before .before .before .before .before .before .before .before .before .before .before .pre .1 .1 in
-    let s-con = c .before .before .before .before .before .before .before .before .before .before .before .before .s-con .ensures in
-    let if1 = c .before .before .before .before .before .before .before .before .before .before .before .if1 .left in
-    let if2 = c .before .before .before .before .before .before .before .before .before .before .if2 .left in
-    let if3 = c .before .before .before .before .before .before .before .before .before .if3 .left in
-    let name-star = c .before .before .before .before .before .before .before .before .name-star .ensures in
-    let if4 = c .before .before .before .before .before .before .before .if4 .taken in
-    let con-path = c .before .before .before .before .con-path .ensures in
-    let con-path-ok = con-path .ok in
-    search asks depth 8
+    tt
 
 at-head-close-requires-4 : (t : ℕ) → at-head-lts.Need-close-requires-4 (
   s-con-reads.Asked,
@@ -2213,24 +2147,16 @@ at-head-close-requires-4 : (t : ℕ) → at-head-lts.Need-close-requires-4 (
   name-star-reads.Learnt,
   con-path-reads.Asked,
   con-path-reads.Learnt,
-  at-rest-below t,
-  at-rest.Post,
+  rest-below t,
+  rest.Post,
 ) (at-head-at t) at-head.Post
 at-head-close-requires-4 t c κs =
-    let falls = c .before .before .before .before .before .before .before .before .before .before .before .before .before .before .before .before .before .before .before .before .before .pre .0 in
-    let pre0 = c .before .before .before .before .before .before .before .before .before .before .before .before .before .before .before .before .before .before .before .before .before .pre .1 .0 in
     let pre1 = c .before .before .before .before .before .before .before .before .before .before .before .before .before .before .before .before .before .before .before .before .before .pre .1 .1 in
-    let s-con = c .before .before .before .before .before .before .before .before .before .before .before .before .before .before .s-con .ensures in
-    let if1 = c .before .before .before .before .before .before .before .before .before .before .before .before .before .if1 .left in
-    let if2 = c .before .before .before .before .before .before .before .before .before .before .before .before .if2 .left in
-    let if3 = c .before .before .before .before .before .before .before .before .before .before .before .if3 .left in
-    let name-star = c .before .before .before .before .before .before .before .before .before .before .name-star .ensures in
-    let if4 = c .before .before .before .before .before .before .before .before .before .if4 .taken in
     let con-path = c .before .before .before .before .before .before .con-path .ensures in
     let con-path-ok = con-path .ok in
     let state2 = c .before .state2 .ensures in
     let state2-ok = ok-state state2 con-path-ok in
-    search asks depth 8
+    (state2-ok .logs, pre1)
 
 at-head-same-length-5 : (t : ℕ) → at-head-lts.Need-same-length-5 (
   s-con-reads.Asked,
@@ -2247,8 +2173,8 @@ at-head-same-length-5 : (t : ℕ) → at-head-lts.Need-same-length-5 (
   name-star-reads.Learnt,
   con-path-reads.Asked,
   con-path-reads.Learnt,
-  at-rest-below t,
-  at-rest.Post,
+  rest-below t,
+  rest.Post,
 ) (at-head-at t) at-head.Post
 at-head-same-length-5 t c =
     c .before .before .close4 .kept .0 ∙ c .before .before .before .before .before .before .before .before .before .con-path .kept .1 .1 .1 .1 .0
@@ -2268,8 +2194,8 @@ at-head-same-length-6 : (t : ℕ) → at-head-lts.Need-same-length-6 (
   name-star-reads.Learnt,
   con-path-reads.Asked,
   con-path-reads.Learnt,
-  at-rest-below t,
-  at-rest.Post,
+  rest-below t,
+  rest.Post,
 ) (at-head-at t) at-head.Post
 at-head-same-length-6 t c =
     c .before .before .before .before .before .before .before .before .before .con-path .kept .1 .1 .1 .1 .1 .0
@@ -2289,8 +2215,8 @@ at-head-returns-4 : (t : ℕ) → at-head-lts.Need-returns-4 (
   name-star-reads.Learnt,
   con-path-reads.Asked,
   con-path-reads.Learnt,
-  at-rest-below t,
-  at-rest.Post,
+  rest-below t,
+  rest.Post,
 ) (at-head-at t) at-head.Post
 unfolding pat.atPatHead plan choose chosen
 at-head-returns-4 t c =
@@ -2308,7 +2234,7 @@ at-head-returns-4 t c =
     let close4 = c .before .before .close4 .ensures in
     in-steps pre0 (s-false _ _ (test-false s-con if1) (s-false _ _ (kind-not if2) (s-false _ _ (kind-not if3) (s-true _ _ (test-true name-star if4) (s-by _ (settled state2 (runs-in con-path)) (s-close close4 s-end))))))
 
-at-head-at-rest-requires : (t : ℕ) → at-head-lts.Need-at-rest-requires (
+at-head-rest-requires : (t : ℕ) → at-head-lts.Need-rest-requires (
   s-con-reads.Asked,
   s-con-reads.Learnt,
   bump-reads.Asked,
@@ -2323,20 +2249,18 @@ at-head-at-rest-requires : (t : ℕ) → at-head-lts.Need-at-rest-requires (
   name-star-reads.Learnt,
   con-path-reads.Asked,
   con-path-reads.Learnt,
-  at-rest-below t,
-  at-rest.Post,
+  rest-below t,
+  rest.Post,
 ) (at-head-at t) at-head.Post
-at-head-at-rest-requires t c κs =
+at-head-rest-requires t c κs =
     let falls = c .before .before .before .before .before .before .before .before .before .before .before .before .before .before .pre .0 in
     let pre0 = c .before .before .before .before .before .before .before .before .before .before .before .before .before .before .pre .1 .0 in
     let pre1 = c .before .before .before .before .before .before .before .before .before .before .before .before .before .before .pre .1 .1 in
-    let s-con = c .before .before .before .before .before .before .before .s-con .ensures in
     let if1 = c .before .before .before .before .before .before .if1 .left in
     let if2 = c .before .before .before .before .before .if2 .left in
     let if3 = c .before .before .before .before .if3 .left in
-    let name-star = c .before .before .before .name-star .ensures in
     let if4 = c .before .before .if4 .left in
-    search asks depth 8
+    (omega arith, (pre0, pre1))
 
 at-head-same-length-7 : (t : ℕ) → at-head-lts.Need-same-length-7 (
   s-con-reads.Asked,
@@ -2353,11 +2277,11 @@ at-head-same-length-7 : (t : ℕ) → at-head-lts.Need-same-length-7 (
   name-star-reads.Learnt,
   con-path-reads.Asked,
   con-path-reads.Learnt,
-  at-rest-below t,
-  at-rest.Post,
+  rest-below t,
+  rest.Post,
 ) (at-head-at t) at-head.Post
 at-head-same-length-7 t c =
-    c .before .before .before .before .at-rest .kept .1 .1 .1 .1 .0
+    c .before .before .before .before .rest .kept .1 .1 .1 .1 .0
 
 at-head-same-length-8 : (t : ℕ) → at-head-lts.Need-same-length-8 (
   s-con-reads.Asked,
@@ -2374,11 +2298,11 @@ at-head-same-length-8 : (t : ℕ) → at-head-lts.Need-same-length-8 (
   name-star-reads.Learnt,
   con-path-reads.Asked,
   con-path-reads.Learnt,
-  at-rest-below t,
-  at-rest.Post,
+  rest-below t,
+  rest.Post,
 ) (at-head-at t) at-head.Post
 at-head-same-length-8 t c =
-    c .before .before .before .before .at-rest .kept .1 .1 .1 .1 .1 .0
+    c .before .before .before .before .rest .kept .1 .1 .1 .1 .1 .0
 
 at-head-returns-5 : (t : ℕ) → at-head-lts.Need-returns-5 (
   s-con-reads.Asked,
@@ -2395,8 +2319,8 @@ at-head-returns-5 : (t : ℕ) → at-head-lts.Need-returns-5 (
   name-star-reads.Learnt,
   con-path-reads.Asked,
   con-path-reads.Learnt,
-  at-rest-below t,
-  at-rest.Post,
+  rest-below t,
+  rest.Post,
 ) (at-head-at t) at-head.Post
 unfolding pat.atPatHead plan choose chosen
 at-head-returns-5 t c =
@@ -2409,8 +2333,116 @@ at-head-returns-5 t c =
     let if3 = c .before .before .before .before .before .before .before .before .before .if3 .left in
     let name-star = c .before .before .before .before .before .before .before .before .name-star .ensures in
     let if4 = c .before .before .before .before .before .before .before .if4 .left in
-    let at-rest = c .before .before .before .before .at-rest .ensures in
-    in-steps pre0 (s-false _ _ (test-false s-con if1) (s-false _ _ (kind-not if2) (s-false _ _ (kind-not if3) (s-false _ _ (test-false name-star if4) (s-by _ at-rest s-end)))))
+    let rest = c .before .before .before .before .rest .ensures in
+    in-steps pre0 (s-false _ _ (test-false s-con if1) (s-false _ _ (kind-not if2) (s-false _ _ (kind-not if3) (s-false _ _ (test-false name-star if4) (s-by _ rest s-end)))))
+
+at-must-at-pat-requires : (t : ℕ) → at-must-lts.Need-at-pat-requires (
+  at-pat-below t,
+  at-pat.Post,
+  report-reads.Asked,
+  report-reads.Learnt,
+) (at-must-at t) at-must.Post
+at-must-at-pat-requires t c κs =
+    let falls = c .before .before .before .before .before .before .before .before .pre .0 in
+    let pre0 = c .before .before .before .before .before .before .before .before .pre .1 in
+    (omega arith, pre0)
+
+at-must-enum-known-got : (t : ℕ) → at-must-lts.Need-enum-known-got (
+  at-pat-below t,
+  at-pat.Post,
+  report-reads.Asked,
+  report-reads.Learnt,
+) (at-must-at t) at-must.Post
+at-must-enum-known-got t c =
+    let falls = c .before .before .before .before .before .before .before .before .before .before .before .before .before .before .pre .0 in
+    let pre0 = c .before .before .before .before .before .before .before .before .before .before .before .before .before .before .pre .1 in
+    search needs
+
+at-must-enum-known-got-2 : (t : ℕ) → at-must-lts.Need-enum-known-got-2 (
+  at-pat-below t,
+  at-pat.Post,
+  report-reads.Asked,
+  report-reads.Learnt,
+) (at-must-at t) at-must.Post
+at-must-enum-known-got-2 t c =
+    let falls = c .before .before .before .before .before .before .before .before .before .before .before .before .before .before .pre .0 in
+    let pre0 = c .before .before .before .before .before .before .before .before .before .before .before .before .before .before .pre .1 in
+    search needs
+
+at-must-report-requires : (t : ℕ) → at-must-lts.Need-report-requires (
+  at-pat-below t,
+  at-pat.Post,
+  report-reads.Asked,
+  report-reads.Learnt,
+) (at-must-at t) at-must.Post
+at-must-report-requires t c κs =
+    let falls = c .before .before .before .before .before .before .before .before .before .before .before .before .before .before .before .before .before .pre .0 in
+    let at-pat = rw (c .before .before .got2 .given .1) at (c .before .before .before .before .before .before .before .before .at-pat .ensures) in
+    let at-pat-ok = at-pat true .ok in
+    (at-pat-ok .holds, (let few = at-pat-ok .reads .few in let inside = at-pat-ok .reads .inside in omega arith), omega arith)
+
+at-must-same-length : (t : ℕ) → at-must-lts.Need-same-length (
+  at-pat-below t,
+  at-pat.Post,
+  report-reads.Asked,
+  report-reads.Learnt,
+) (at-must-at t) at-must.Post
+at-must-same-length t c =
+    c .before .before .before .before .before .before .before .at-pat .kept .1 .1 .1 .1 .0
+
+at-must-same-length-2 : (t : ℕ) → at-must-lts.Need-same-length-2 (
+  at-pat-below t,
+  at-pat.Post,
+  report-reads.Asked,
+  report-reads.Learnt,
+) (at-must-at t) at-must.Post
+at-must-same-length-2 t c =
+    c .before .before .before .before .before .before .before .at-pat .kept .1 .1 .1 .1 .1 .0
+
+at-must-returns : (t : ℕ) → at-must-lts.Need-returns (
+  at-pat-below t,
+  at-pat.Post,
+  report-reads.Asked,
+  report-reads.Learnt,
+) (at-must-at t) at-must.Post
+unfolding pat.atPatMust plan choose chosen
+at-must-returns t c =
+    let falls = c .before .before .before .before .before .before .before .before .before .before .before .before .before .before .before .before .pre .0 in
+    let pre0 = c .before .before .before .before .before .before .before .before .before .before .before .before .before .before .before .before .pre .1 in
+    let at-pat = rw (c .before .got .given .1) at (c .before .before .before .before .before .before .before .at-pat .ensures) in
+    by-steps pre0 (λ b. s-by _ (runs-in (at-pat _)) s-end)
+
+at-must-same-length-3 : (t : ℕ) → at-must-lts.Need-same-length-3 (
+  at-pat-below t,
+  at-pat.Post,
+  report-reads.Asked,
+  report-reads.Learnt,
+) (at-must-at t) at-must.Post
+at-must-same-length-3 t c =
+    c .before .before .before .before .before .before .before .before .before .before .before .at-pat .kept .1 .1 .1 .1 .0
+
+at-must-same-length-4 : (t : ℕ) → at-must-lts.Need-same-length-4 (
+  at-pat-below t,
+  at-pat.Post,
+  report-reads.Asked,
+  report-reads.Learnt,
+) (at-must-at t) at-must.Post
+at-must-same-length-4 t c =
+    c .before .before .report .kept .0 ∙ c .before .before .before .before .before .before .before .before .before .before .before .at-pat .kept .1 .1 .1 .1 .1 .0
+
+at-must-returns-2 : (t : ℕ) → at-must-lts.Need-returns-2 (
+  at-pat-below t,
+  at-pat.Post,
+  report-reads.Asked,
+  report-reads.Learnt,
+) (at-must-at t) at-must.Post
+unfolding pat.atPatMust plan choose chosen
+at-must-returns-2 t c =
+    let falls = c .before .before .before .before .before .before .before .before .before .before .before .before .before .before .before .before .before .before .before .before .pre .0 in
+    let pre0 = c .before .before .before .before .before .before .before .before .before .before .before .before .before .before .before .before .before .before .before .before .pre .1 in
+    let at-pat = rw (c .before .before .before .before .before .got2 .given .1) at (c .before .before .before .before .before .before .before .before .before .before .before .at-pat .ensures) in
+    let report = c .before .before .report .ensures in
+    by-steps pre0 (λ b. s-by _ (runs-in (at-pat _)) (s-report report s-end))
 
 at-pat-peek-requires : (t : ℕ) → at-pat-lts.Need-peek-requires (
   peek-reads.Asked,
@@ -2423,9 +2455,8 @@ at-pat-peek-requires : (t : ℕ) → at-pat-lts.Need-peek-requires (
   at-head.Post,
 ) (at-pat-at t) at-pat.Post
 at-pat-peek-requires t c κs =
-    let falls = c .before .before .before .before .before .before .pre .0 in
     let pre0 = c .before .before .before .before .before .before .pre .1 in
-    search asks depth 8
+    pre0 .reads
 
 at-pat-enum-known-k : (t : ℕ) → at-pat-lts.Need-enum-known-k (
   peek-reads.Asked,
@@ -2485,11 +2516,7 @@ at-pat-refuse-requires : (t : ℕ) → at-pat-lts.Need-refuse-requires (
   at-head.Post,
 ) (at-pat-at t) at-pat.Post
 at-pat-refuse-requires t c κs =
-    let falls = c .before .before .before .before .before .before .before .before .before .before .before .pre .0 in
-    let pre0 = c .before .before .before .before .before .before .before .before .before .before .before .pre .1 in
-    let peek = rw (c .before .before .k .given .1) at (c .before .before .before .before .peek .ensures) in
-    let if1 = c .if1 .taken in
-    search asks depth 8
+    tt
 
 at-pat-returns-2 : (t : ℕ) → at-pat-lts.Need-returns-2 (
   peek-reads.Asked,
@@ -2521,11 +2548,7 @@ at-pat-mark-requires : (t : ℕ) → at-pat-lts.Need-mark-requires (
   at-head.Post,
 ) (at-pat-at t) at-pat.Post
 at-pat-mark-requires t c κs =
-    let falls = c .before .before .before .before .before .before .before .before .before .before .before .pre .0 in
-    let pre0 = c .before .before .before .before .before .before .before .before .before .before .before .pre .1 in
-    let peek = rw (c .before .before .k .given .1) at (c .before .before .before .before .peek .ensures) in
-    let if1 = c .if1 .left in
-    search asks depth 8
+    tt
 
 at-pat-sub-at-head : (t : ℕ) → at-pat-lts.Need-sub-at-head (
   peek-reads.Asked,
@@ -2556,11 +2579,10 @@ at-pat-at-head-requires : (t : ℕ) → at-pat-lts.Need-at-head-requires (
 at-pat-at-head-requires t c κs =
     let falls = c .before .before .before .before .before .before .before .before .before .before .before .before .before .before .pre .0 in
     let pre0 = c .before .before .before .before .before .before .before .before .before .before .before .before .before .before .pre .1 in
-    let peek = rw (c .before .before .before .before .before .k .given .1) at (c .before .before .before .before .before .before .before .peek .ensures) in
     let if1 = c .before .before .before .if1 .left in
     let mark = c .before .before .mark .ensures in
     let mark-ok = ok-marks mark pre0 in
-    search asks depth 8
+    (omega arith, (mark-ok, small-len mark-ok))
 
 at-pat-same-length : (t : ℕ) → at-pat-lts.Need-same-length (
   peek-reads.Asked,
@@ -2608,7 +2630,7 @@ at-pat-returns-3 t c =
     let at-head = c .before .before .before .before .at-head .ensures in
     λ g. by-steps pre0 (λ b. s-look peek (s-mark if1 mark (s-by _ at-head s-end)))
 
-at-pat-l-round-at-requires : (t : ℕ) → at-pat-l-round-lts.Need-at-requires (
+at-round-at-requires : (t : ℕ) → at-round-lts.Need-at-requires (
   at-reads.Asked,
   at-reads.Learnt,
   bump-reads.Asked,
@@ -2617,16 +2639,14 @@ at-pat-l-round-at-requires : (t : ℕ) → at-pat-l-round-lts.Need-at-requires (
   close-reads.Learnt,
   pat-arg-below t,
   pat-arg.Post,
-  pat-args-below t,
-  pat-args.Post,
-) (at-pat-l-round-at t) at-pat-l-round.Post
-at-pat-l-round-at-requires t c κs =
-    let falls = c .before .before .before .before .before .before .pre .0 in
+  args-below t,
+  args.Post,
+) (at-round-at t) at-round.Post
+at-round-at-requires t c κs =
     let pre0 = c .before .before .before .before .before .before .pre .1 .0 in
-    let pre1 = c .before .before .before .before .before .before .pre .1 .1 in
-    search asks depth 8
+    pre0 .reads
 
-at-pat-l-round-bump-requires : (t : ℕ) → at-pat-l-round-lts.Need-bump-requires (
+at-round-bump-requires : (t : ℕ) → at-round-lts.Need-bump-requires (
   at-reads.Asked,
   at-reads.Learnt,
   bump-reads.Asked,
@@ -2635,18 +2655,14 @@ at-pat-l-round-bump-requires : (t : ℕ) → at-pat-l-round-lts.Need-bump-requir
   close-reads.Learnt,
   pat-arg-below t,
   pat-arg.Post,
-  pat-args-below t,
-  pat-args.Post,
-) (at-pat-l-round-at t) at-pat-l-round.Post
-at-pat-l-round-bump-requires t c κs =
-    let falls = c .before .before .before .before .before .before .before .before .before .pre .0 in
+  args-below t,
+  args.Post,
+) (at-round-at t) at-round.Post
+at-round-bump-requires t c κs =
     let pre0 = c .before .before .before .before .before .before .before .before .before .pre .1 .0 in
-    let pre1 = c .before .before .before .before .before .before .before .before .before .pre .1 .1 in
-    let at = c .before .before .at .ensures in
-    let if1 = c .before .if1 .taken in
-    search asks depth 8
+    (pre0 .reads, pre0 .logs)
 
-at-pat-l-round-close-requires : (t : ℕ) → at-pat-l-round-lts.Need-close-requires (
+at-round-close-requires : (t : ℕ) → at-round-lts.Need-close-requires (
   at-reads.Asked,
   at-reads.Learnt,
   bump-reads.Asked,
@@ -2655,20 +2671,17 @@ at-pat-l-round-close-requires : (t : ℕ) → at-pat-l-round-lts.Need-close-requ
   close-reads.Learnt,
   pat-arg-below t,
   pat-arg.Post,
-  pat-args-below t,
-  pat-args.Post,
-) (at-pat-l-round-at t) at-pat-l-round.Post
-at-pat-l-round-close-requires t c κs =
-    let falls = c .before .before .before .before .before .before .before .before .before .before .before .before .before .pre .0 in
+  args-below t,
+  args.Post,
+) (at-round-at t) at-round.Post
+at-round-close-requires t c κs =
     let pre0 = c .before .before .before .before .before .before .before .before .before .before .before .before .before .pre .1 .0 in
     let pre1 = c .before .before .before .before .before .before .before .before .before .before .before .before .before .pre .1 .1 in
-    let at = c .before .before .before .before .before .before .at .ensures in
-    let if1 = c .before .before .before .before .before .if1 .taken in
     let bump = c .before .before .before .bump .ensures in
     let bump-ok = ok-bumps bump pre0 in
-    search asks depth 8
+    (bump-ok .logs, pre1)
 
-at-pat-l-round-same-length : (t : ℕ) → at-pat-l-round-lts.Need-same-length (
+at-round-same-length : (t : ℕ) → at-round-lts.Need-same-length (
   at-reads.Asked,
   at-reads.Learnt,
   bump-reads.Asked,
@@ -2677,13 +2690,13 @@ at-pat-l-round-same-length : (t : ℕ) → at-pat-l-round-lts.Need-same-length (
   close-reads.Learnt,
   pat-arg-below t,
   pat-arg.Post,
-  pat-args-below t,
-  pat-args.Post,
-) (at-pat-l-round-at t) at-pat-l-round.Post
-at-pat-l-round-same-length t c =
+  args-below t,
+  args.Post,
+) (at-round-at t) at-round.Post
+at-round-same-length t c =
     c .before .before .close .kept .0 ∙ c .before .before .before .before .before .before .bump .kept .1 .0
 
-at-pat-l-round-returns : (t : ℕ) → at-pat-l-round-lts.Need-returns (
+at-round-returns : (t : ℕ) → at-round-lts.Need-returns (
   at-reads.Asked,
   at-reads.Learnt,
   bump-reads.Asked,
@@ -2692,11 +2705,11 @@ at-pat-l-round-returns : (t : ℕ) → at-pat-l-round-lts.Need-returns (
   close-reads.Learnt,
   pat-arg-below t,
   pat-arg.Post,
-  pat-args-below t,
-  pat-args.Post,
-) (at-pat-l-round-at t) at-pat-l-round.Post
+  args-below t,
+  args.Post,
+) (at-round-at t) at-round.Post
 unfolding pat.atPatLRound util.endSep plan choose chosen
-at-pat-l-round-returns t c =
+at-round-returns t c =
     let falls = c .before .before .before .before .before .before .before .before .before .before .before .before .before .before .before .before .pre .0 in
     let pre0 = c .before .before .before .before .before .before .before .before .before .before .before .before .before .before .before .before .pre .1 .0 in
     let pre1 = c .before .before .before .before .before .before .before .before .before .before .before .before .before .before .before .before .pre .1 .1 in
@@ -2706,7 +2719,7 @@ at-pat-l-round-returns t c =
     let close = c .before .before .close .ensures in
     in-steps pre0 (s-kind (s-true _ _ (kind-at _ _ _ _ at if1) (s-bump bump (s-close close s-end))))
 
-at-pat-l-round-pat-arg-requires : (t : ℕ) → at-pat-l-round-lts.Need-pat-arg-requires (
+at-round-pat-arg-requires : (t : ℕ) → at-round-lts.Need-pat-arg-requires (
   at-reads.Asked,
   at-reads.Learnt,
   bump-reads.Asked,
@@ -2715,18 +2728,17 @@ at-pat-l-round-pat-arg-requires : (t : ℕ) → at-pat-l-round-lts.Need-pat-arg-
   close-reads.Learnt,
   pat-arg-below t,
   pat-arg.Post,
-  pat-args-below t,
-  pat-args.Post,
-) (at-pat-l-round-at t) at-pat-l-round.Post
-at-pat-l-round-pat-arg-requires t c κs =
+  args-below t,
+  args.Post,
+) (at-round-at t) at-round.Post
+at-round-pat-arg-requires t c κs =
     let falls = c .before .before .before .before .before .before .before .before .before .before .pre .0 in
     let pre0 = c .before .before .before .before .before .before .before .before .before .before .pre .1 .0 in
     let pre1 = c .before .before .before .before .before .before .before .before .before .before .pre .1 .1 in
-    let at = c .before .before .before .at .ensures in
     let if1 = c .before .before .if1 .left in
-    search asks depth 8
+    (omega arith, pre0)
 
-at-pat-l-round-enum-known-first : (t : ℕ) → at-pat-l-round-lts.Need-enum-known-first (
+at-round-enum-known-first : (t : ℕ) → at-round-lts.Need-enum-known-first (
   at-reads.Asked,
   at-reads.Learnt,
   bump-reads.Asked,
@@ -2735,17 +2747,17 @@ at-pat-l-round-enum-known-first : (t : ℕ) → at-pat-l-round-lts.Need-enum-kno
   close-reads.Learnt,
   pat-arg-below t,
   pat-arg.Post,
-  pat-args-below t,
-  pat-args.Post,
-) (at-pat-l-round-at t) at-pat-l-round.Post
-at-pat-l-round-enum-known-first t c =
+  args-below t,
+  args.Post,
+) (at-round-at t) at-round.Post
+at-round-enum-known-first t c =
     let falls = c .before .before .before .before .before .before .before .before .before .before .before .before .before .before .before .before .pre .0 in
     let pre0 = c .before .before .before .before .before .before .before .before .before .before .before .before .before .before .before .before .pre .1 .0 in
     let pre1 = c .before .before .before .before .before .before .before .before .before .before .before .before .before .before .before .before .pre .1 .1 in
     let if1 = c .before .before .before .before .before .before .before .before .if1 .left in
     search needs
 
-at-pat-l-round-pat-args-requires : (t : ℕ) → at-pat-l-round-lts.Need-pat-args-requires (
+at-round-args-requires : (t : ℕ) → at-round-lts.Need-args-requires (
   at-reads.Asked,
   at-reads.Learnt,
   bump-reads.Asked,
@@ -2754,20 +2766,19 @@ at-pat-l-round-pat-args-requires : (t : ℕ) → at-pat-l-round-lts.Need-pat-arg
   close-reads.Learnt,
   pat-arg-below t,
   pat-arg.Post,
-  pat-args-below t,
-  pat-args.Post,
-) (at-pat-l-round-at t) at-pat-l-round.Post
-at-pat-l-round-pat-args-requires t c κs =
+  args-below t,
+  args.Post,
+) (at-round-at t) at-round.Post
+at-round-args-requires t c κs =
     let falls = c .before .before .before .before .before .before .before .before .before .before .before .before .before .before .before .before .before .before .before .before .pre .0 in
-    let pre0 = c .before .before .before .before .before .before .before .before .before .before .before .before .before .before .before .before .before .before .before .before .pre .1 .0 in
     let pre1 = c .before .before .before .before .before .before .before .before .before .before .before .before .before .before .before .before .before .before .before .before .pre .1 .1 in
     let at = c .before .before .before .before .before .before .before .before .before .before .before .before .before .at .ensures in
     let if1 = c .before .before .before .before .before .before .before .before .before .before .before .before .if1 .left in
     let pat-arg = rw (c .before .before .before .first .given .1) at (c .before .before .before .before .before .before .before .before .before .pat-arg .ensures) in
     let pat-arg-ok = pat-arg .ok in
-    search asks depth 8
+    (omega arith, (pat-arg-ok, omega arith))
 
-at-pat-l-round-close-requires-2 : (t : ℕ) → at-pat-l-round-lts.Need-close-requires-2 (
+at-round-close-requires-2 : (t : ℕ) → at-round-lts.Need-close-requires-2 (
   at-reads.Asked,
   at-reads.Learnt,
   bump-reads.Asked,
@@ -2776,22 +2787,16 @@ at-pat-l-round-close-requires-2 : (t : ℕ) → at-pat-l-round-lts.Need-close-re
   close-reads.Learnt,
   pat-arg-below t,
   pat-arg.Post,
-  pat-args-below t,
-  pat-args.Post,
-) (at-pat-l-round-at t) at-pat-l-round.Post
-at-pat-l-round-close-requires-2 t c κs =
-    let falls = c .before .before .before .before .before .before .before .before .before .before .before .before .before .before .before .before .before .before .before .before .before .before .before .before .before .before .pre .0 in
-    let pre0 = c .before .before .before .before .before .before .before .before .before .before .before .before .before .before .before .before .before .before .before .before .before .before .before .before .before .before .pre .1 .0 in
+  args-below t,
+  args.Post,
+) (at-round-at t) at-round.Post
+at-round-close-requires-2 t c κs =
     let pre1 = c .before .before .before .before .before .before .before .before .before .before .before .before .before .before .before .before .before .before .before .before .before .before .before .before .before .before .pre .1 .1 in
-    let at = c .before .before .before .before .before .before .before .before .before .before .before .before .before .before .before .before .before .before .before .at .ensures in
-    let if1 = c .before .before .before .before .before .before .before .before .before .before .before .before .before .before .before .before .before .before .if1 .left in
-    let pat-arg = rw (c .before .before .before .before .before .before .before .before .before .first .given .1) at (c .before .before .before .before .before .before .before .before .before .before .before .before .before .before .before .pat-arg .ensures) in
-    let pat-arg-ok = pat-arg .ok in
-    let pat-args = c .before .before .before .before .before .pat-args .ensures in
-    let pat-args-ok = pat-args .ok in
-    search asks depth 8
+    let args2 = c .before .before .before .before .before .args2 .ensures in
+    let args2-ok = args2 .ok in
+    (args2-ok .logs, pre1)
 
-at-pat-l-round-enum-known-first-2 : (t : ℕ) → at-pat-l-round-lts.Need-enum-known-first-2 (
+at-round-enum-known-first-2 : (t : ℕ) → at-round-lts.Need-enum-known-first-2 (
   at-reads.Asked,
   at-reads.Learnt,
   bump-reads.Asked,
@@ -2800,17 +2805,17 @@ at-pat-l-round-enum-known-first-2 : (t : ℕ) → at-pat-l-round-lts.Need-enum-k
   close-reads.Learnt,
   pat-arg-below t,
   pat-arg.Post,
-  pat-args-below t,
-  pat-args.Post,
-) (at-pat-l-round-at t) at-pat-l-round.Post
-at-pat-l-round-enum-known-first-2 t c =
+  args-below t,
+  args.Post,
+) (at-round-at t) at-round.Post
+at-round-enum-known-first-2 t c =
     let falls = c .before .before .before .before .before .before .before .before .before .before .before .before .before .before .before .before .pre .0 in
     let pre0 = c .before .before .before .before .before .before .before .before .before .before .before .before .before .before .before .before .pre .1 .0 in
     let pre1 = c .before .before .before .before .before .before .before .before .before .before .before .before .before .before .before .before .pre .1 .1 in
     let if1 = c .before .before .before .before .before .before .before .before .if1 .left in
     search needs
 
-at-pat-l-round-bump-requires-2 : (t : ℕ) → at-pat-l-round-lts.Need-bump-requires-2 (
+at-round-bump-requires-2 : (t : ℕ) → at-round-lts.Need-bump-requires-2 (
   at-reads.Asked,
   at-reads.Learnt,
   bump-reads.Asked,
@@ -2819,20 +2824,16 @@ at-pat-l-round-bump-requires-2 : (t : ℕ) → at-pat-l-round-lts.Need-bump-requ
   close-reads.Learnt,
   pat-arg-below t,
   pat-arg.Post,
-  pat-args-below t,
-  pat-args.Post,
-) (at-pat-l-round-at t) at-pat-l-round.Post
-at-pat-l-round-bump-requires-2 t c κs =
-    let falls = c .before .before .before .before .before .before .before .before .before .before .before .before .before .before .before .before .before .before .before .pre .0 in
-    let pre0 = c .before .before .before .before .before .before .before .before .before .before .before .before .before .before .before .before .before .before .before .pre .1 .0 in
-    let pre1 = c .before .before .before .before .before .before .before .before .before .before .before .before .before .before .before .before .before .before .before .pre .1 .1 in
+  args-below t,
+  args.Post,
+) (at-round-at t) at-round.Post
+at-round-bump-requires-2 t c κs =
     let at = c .before .before .before .before .before .before .before .before .before .before .before .before .at .ensures in
-    let if1 = c .before .before .before .before .before .before .before .before .before .before .before .if1 .left in
     let pat-arg = rw (c .before .before .first2 .given .1) at (c .before .before .before .before .before .before .before .before .pat-arg .ensures) in
     let pat-arg-ok = pat-arg .ok in
-    search asks depth 8
+    (pat-arg-ok .reads, pat-arg-ok .logs)
 
-at-pat-l-round-close-requires-3 : (t : ℕ) → at-pat-l-round-lts.Need-close-requires-3 (
+at-round-close-requires-3 : (t : ℕ) → at-round-lts.Need-close-requires-3 (
   at-reads.Asked,
   at-reads.Learnt,
   bump-reads.Asked,
@@ -2841,22 +2842,19 @@ at-pat-l-round-close-requires-3 : (t : ℕ) → at-pat-l-round-lts.Need-close-re
   close-reads.Learnt,
   pat-arg-below t,
   pat-arg.Post,
-  pat-args-below t,
-  pat-args.Post,
-) (at-pat-l-round-at t) at-pat-l-round.Post
-at-pat-l-round-close-requires-3 t c κs =
-    let falls = c .before .before .before .before .before .before .before .before .before .before .before .before .before .before .before .before .before .before .before .before .before .before .before .pre .0 in
-    let pre0 = c .before .before .before .before .before .before .before .before .before .before .before .before .before .before .before .before .before .before .before .before .before .before .before .pre .1 .0 in
+  args-below t,
+  args.Post,
+) (at-round-at t) at-round.Post
+at-round-close-requires-3 t c κs =
     let pre1 = c .before .before .before .before .before .before .before .before .before .before .before .before .before .before .before .before .before .before .before .before .before .before .before .pre .1 .1 in
     let at = c .before .before .before .before .before .before .before .before .before .before .before .before .before .before .before .before .at .ensures in
-    let if1 = c .before .before .before .before .before .before .before .before .before .before .before .before .before .before .before .if1 .left in
     let pat-arg = rw (c .before .before .before .before .before .before .first2 .given .1) at (c .before .before .before .before .before .before .before .before .before .before .before .before .pat-arg .ensures) in
     let pat-arg-ok = pat-arg .ok in
     let bump2 = c .before .before .before .bump2 .ensures in
     let bump2-ok = ok-bumps bump2 pat-arg-ok in
-    search asks depth 8
+    (bump2-ok .logs, pre1)
 
-at-pat-l-round-same-length-2 : (t : ℕ) → at-pat-l-round-lts.Need-same-length-2 (
+at-round-same-length-2 : (t : ℕ) → at-round-lts.Need-same-length-2 (
   at-reads.Asked,
   at-reads.Learnt,
   bump-reads.Asked,
@@ -2865,13 +2863,13 @@ at-pat-l-round-same-length-2 : (t : ℕ) → at-pat-l-round-lts.Need-same-length
   close-reads.Learnt,
   pat-arg-below t,
   pat-arg.Post,
-  pat-args-below t,
-  pat-args.Post,
-) (at-pat-l-round-at t) at-pat-l-round.Post
-at-pat-l-round-same-length-2 t c =
-    c .before .before .close2 .kept .0 ∙ c .before .before .before .before .before .before .before .before .pat-args .kept .1 .1 .1 .1 .0 ∙ c .before .before .before .before .before .before .before .before .before .before .before .before .before .before .before .before .before .before .pat-arg .kept .1 .1 .1 .1 .0
+  args-below t,
+  args.Post,
+) (at-round-at t) at-round.Post
+at-round-same-length-2 t c =
+    c .before .before .close2 .kept .0 ∙ c .before .before .before .before .before .before .before .before .args2 .kept .1 .1 .1 .1 .0 ∙ c .before .before .before .before .before .before .before .before .before .before .before .before .before .before .before .before .before .before .pat-arg .kept .1 .1 .1 .1 .0
 
-at-pat-l-round-same-length-3 : (t : ℕ) → at-pat-l-round-lts.Need-same-length-3 (
+at-round-same-length-3 : (t : ℕ) → at-round-lts.Need-same-length-3 (
   at-reads.Asked,
   at-reads.Learnt,
   bump-reads.Asked,
@@ -2880,13 +2878,13 @@ at-pat-l-round-same-length-3 : (t : ℕ) → at-pat-l-round-lts.Need-same-length
   close-reads.Learnt,
   pat-arg-below t,
   pat-arg.Post,
-  pat-args-below t,
-  pat-args.Post,
-) (at-pat-l-round-at t) at-pat-l-round.Post
-at-pat-l-round-same-length-3 t c =
-    c .before .before .before .before .before .before .before .before .pat-args .kept .1 .1 .1 .1 .1 .0 ∙ c .before .before .before .before .before .before .before .before .before .before .before .before .before .before .before .before .before .before .pat-arg .kept .1 .1 .1 .1 .1 .0
+  args-below t,
+  args.Post,
+) (at-round-at t) at-round.Post
+at-round-same-length-3 t c =
+    c .before .before .before .before .before .before .before .before .args2 .kept .1 .1 .1 .1 .1 .0 ∙ c .before .before .before .before .before .before .before .before .before .before .before .before .before .before .before .before .before .before .pat-arg .kept .1 .1 .1 .1 .1 .0
 
-at-pat-l-round-returns-2 : (t : ℕ) → at-pat-l-round-lts.Need-returns-2 (
+at-round-returns-2 : (t : ℕ) → at-round-lts.Need-returns-2 (
   at-reads.Asked,
   at-reads.Learnt,
   bump-reads.Asked,
@@ -2895,22 +2893,22 @@ at-pat-l-round-returns-2 : (t : ℕ) → at-pat-l-round-lts.Need-returns-2 (
   close-reads.Learnt,
   pat-arg-below t,
   pat-arg.Post,
-  pat-args-below t,
-  pat-args.Post,
-) (at-pat-l-round-at t) at-pat-l-round.Post
+  args-below t,
+  args.Post,
+) (at-round-at t) at-round.Post
 unfolding pat.atPatLRound util.endSep plan choose chosen
-at-pat-l-round-returns-2 t c =
+at-round-returns-2 t c =
     let falls = c .before .before .before .before .before .before .before .before .before .before .before .before .before .before .before .before .before .before .before .before .before .before .before .before .before .before .before .before .before .pre .0 in
     let pre0 = c .before .before .before .before .before .before .before .before .before .before .before .before .before .before .before .before .before .before .before .before .before .before .before .before .before .before .before .before .before .pre .1 .0 in
     let pre1 = c .before .before .before .before .before .before .before .before .before .before .before .before .before .before .before .before .before .before .before .before .before .before .before .before .before .before .before .before .before .pre .1 .1 in
     let at = c .before .before .before .before .before .before .before .before .before .before .before .before .before .before .before .before .before .before .before .before .before .before .at .ensures in
     let if1 = c .before .before .before .before .before .before .before .before .before .before .before .before .before .before .before .before .before .before .before .before .before .if1 .left in
     let pat-arg = rw (c .before .before .before .before .before .before .before .before .before .before .before .before .first .given .1) at (c .before .before .before .before .before .before .before .before .before .before .before .before .before .before .before .before .before .before .pat-arg .ensures) in
-    let pat-args = c .before .before .before .before .before .before .before .before .pat-args .ensures in
+    let args2 = c .before .before .before .before .before .before .before .before .args2 .ensures in
     let close2 = c .before .before .close2 .ensures in
-    in-steps pre0 (s-kind (s-false _ _ (kind-off _ _ _ _ at if1) (s-by _ (runs-in pat-arg) (s-run pat-args (s-close close2 s-end)))))
+    in-steps pre0 (s-kind (s-false _ _ (kind-off _ _ _ _ at if1) (s-by _ (runs-in pat-arg) (s-run args2 (s-close close2 s-end)))))
 
-at-pat-l-round-same-length-4 : (t : ℕ) → at-pat-l-round-lts.Need-same-length-4 (
+at-round-same-length-4 : (t : ℕ) → at-round-lts.Need-same-length-4 (
   at-reads.Asked,
   at-reads.Learnt,
   bump-reads.Asked,
@@ -2919,13 +2917,13 @@ at-pat-l-round-same-length-4 : (t : ℕ) → at-pat-l-round-lts.Need-same-length
   close-reads.Learnt,
   pat-arg-below t,
   pat-arg.Post,
-  pat-args-below t,
-  pat-args.Post,
-) (at-pat-l-round-at t) at-pat-l-round.Post
-at-pat-l-round-same-length-4 t c =
+  args-below t,
+  args.Post,
+) (at-round-at t) at-round.Post
+at-round-same-length-4 t c =
     c .before .before .close3 .kept .0 ∙ c .before .before .before .before .before .before .bump2 .kept .1 .0 ∙ c .before .before .before .before .before .before .before .before .before .before .before .before .before .before .before .pat-arg .kept .1 .1 .1 .1 .0
 
-at-pat-l-round-same-length-5 : (t : ℕ) → at-pat-l-round-lts.Need-same-length-5 (
+at-round-same-length-5 : (t : ℕ) → at-round-lts.Need-same-length-5 (
   at-reads.Asked,
   at-reads.Learnt,
   bump-reads.Asked,
@@ -2934,13 +2932,13 @@ at-pat-l-round-same-length-5 : (t : ℕ) → at-pat-l-round-lts.Need-same-length
   close-reads.Learnt,
   pat-arg-below t,
   pat-arg.Post,
-  pat-args-below t,
-  pat-args.Post,
-) (at-pat-l-round-at t) at-pat-l-round.Post
-at-pat-l-round-same-length-5 t c =
+  args-below t,
+  args.Post,
+) (at-round-at t) at-round.Post
+at-round-same-length-5 t c =
     c .before .before .before .before .before .before .before .before .before .before .before .before .before .before .before .pat-arg .kept .1 .1 .1 .1 .1 .0
 
-at-pat-l-round-returns-3 : (t : ℕ) → at-pat-l-round-lts.Need-returns-3 (
+at-round-returns-3 : (t : ℕ) → at-round-lts.Need-returns-3 (
   at-reads.Asked,
   at-reads.Learnt,
   bump-reads.Asked,
@@ -2949,11 +2947,11 @@ at-pat-l-round-returns-3 : (t : ℕ) → at-pat-l-round-lts.Need-returns-3 (
   close-reads.Learnt,
   pat-arg-below t,
   pat-arg.Post,
-  pat-args-below t,
-  pat-args.Post,
-) (at-pat-l-round-at t) at-pat-l-round.Post
+  args-below t,
+  args.Post,
+) (at-round-at t) at-round.Post
 unfolding pat.atPatLRound util.endSep plan choose chosen
-at-pat-l-round-returns-3 t c =
+at-round-returns-3 t c =
     let falls = c .before .before .before .before .before .before .before .before .before .before .before .before .before .before .before .before .before .before .before .before .before .before .before .before .before .before .pre .0 in
     let pre0 = c .before .before .before .before .before .before .before .before .before .before .before .before .before .before .before .before .before .before .before .before .before .before .before .before .before .before .pre .1 .0 in
     let pre1 = c .before .before .before .before .before .before .before .before .before .before .before .before .before .before .before .before .before .before .before .before .before .before .before .before .before .before .pre .1 .1 in
@@ -2964,763 +2962,389 @@ at-pat-l-round-returns-3 t c =
     let close3 = c .before .before .close3 .ensures in
     in-steps pre0 (s-kind (s-false _ _ (kind-off _ _ _ _ at if1) (s-by _ (runs-in pat-arg) (s-bump bump2 (s-close close3 s-end)))))
 
-at-pat-must-at-pat-requires : (t : ℕ) → at-pat-must-lts.Need-at-pat-requires (
+atom-at-pat-requires : (t : ℕ) → atom-lts.Need-at-pat-requires (
   at-pat-below t,
   at-pat.Post,
-  report-reads.Asked,
-  report-reads.Learnt,
-) (at-pat-must-at t) at-pat-must.Post
-at-pat-must-at-pat-requires t c κs =
-    let falls = c .before .before .before .before .before .before .before .before .pre .0 in
-    let pre0 = c .before .before .before .before .before .before .before .before .pre .1 in
-    search asks depth 8
-
-at-pat-must-enum-known-got : (t : ℕ) → at-pat-must-lts.Need-enum-known-got (
-  at-pat-below t,
-  at-pat.Post,
-  report-reads.Asked,
-  report-reads.Learnt,
-) (at-pat-must-at t) at-pat-must.Post
-at-pat-must-enum-known-got t c =
-    let falls = c .before .before .before .before .before .before .before .before .before .before .before .before .before .before .pre .0 in
-    let pre0 = c .before .before .before .before .before .before .before .before .before .before .before .before .before .before .pre .1 in
-    search needs
-
-at-pat-must-enum-known-got-2 : (t : ℕ) → at-pat-must-lts.Need-enum-known-got-2 (
-  at-pat-below t,
-  at-pat.Post,
-  report-reads.Asked,
-  report-reads.Learnt,
-) (at-pat-must-at t) at-pat-must.Post
-at-pat-must-enum-known-got-2 t c =
-    let falls = c .before .before .before .before .before .before .before .before .before .before .before .before .before .before .pre .0 in
-    let pre0 = c .before .before .before .before .before .before .before .before .before .before .before .before .before .before .pre .1 in
-    search needs
-
-at-pat-must-report-requires : (t : ℕ) → at-pat-must-lts.Need-report-requires (
-  at-pat-below t,
-  at-pat.Post,
-  report-reads.Asked,
-  report-reads.Learnt,
-) (at-pat-must-at t) at-pat-must.Post
-at-pat-must-report-requires t c κs =
-    let falls = c .before .before .before .before .before .before .before .before .before .before .before .before .before .before .before .before .before .pre .0 in
-    let pre0 = c .before .before .before .before .before .before .before .before .before .before .before .before .before .before .before .before .before .pre .1 in
-    let at-pat = rw (c .before .before .got2 .given .1) at (c .before .before .before .before .before .before .before .before .at-pat .ensures) in
-    let at-pat-ok = at-pat true .ok in
-    search asks depth 8
-
-at-pat-must-same-length : (t : ℕ) → at-pat-must-lts.Need-same-length (
-  at-pat-below t,
-  at-pat.Post,
-  report-reads.Asked,
-  report-reads.Learnt,
-) (at-pat-must-at t) at-pat-must.Post
-at-pat-must-same-length t c =
-    c .before .before .before .before .before .before .before .at-pat .kept .1 .1 .1 .1 .0
-
-at-pat-must-same-length-2 : (t : ℕ) → at-pat-must-lts.Need-same-length-2 (
-  at-pat-below t,
-  at-pat.Post,
-  report-reads.Asked,
-  report-reads.Learnt,
-) (at-pat-must-at t) at-pat-must.Post
-at-pat-must-same-length-2 t c =
-    c .before .before .before .before .before .before .before .at-pat .kept .1 .1 .1 .1 .1 .0
-
-at-pat-must-returns : (t : ℕ) → at-pat-must-lts.Need-returns (
-  at-pat-below t,
-  at-pat.Post,
-  report-reads.Asked,
-  report-reads.Learnt,
-) (at-pat-must-at t) at-pat-must.Post
-unfolding pat.atPatMust plan choose chosen
-at-pat-must-returns t c =
-    let falls = c .before .before .before .before .before .before .before .before .before .before .before .before .before .before .before .before .pre .0 in
-    let pre0 = c .before .before .before .before .before .before .before .before .before .before .before .before .before .before .before .before .pre .1 in
-    let at-pat = rw (c .before .got .given .1) at (c .before .before .before .before .before .before .before .at-pat .ensures) in
-    by-steps pre0 (λ b. s-by _ (runs-in (at-pat _)) s-end)
-
-at-pat-must-same-length-3 : (t : ℕ) → at-pat-must-lts.Need-same-length-3 (
-  at-pat-below t,
-  at-pat.Post,
-  report-reads.Asked,
-  report-reads.Learnt,
-) (at-pat-must-at t) at-pat-must.Post
-at-pat-must-same-length-3 t c =
-    c .before .before .before .before .before .before .before .before .before .before .before .at-pat .kept .1 .1 .1 .1 .0
-
-at-pat-must-same-length-4 : (t : ℕ) → at-pat-must-lts.Need-same-length-4 (
-  at-pat-below t,
-  at-pat.Post,
-  report-reads.Asked,
-  report-reads.Learnt,
-) (at-pat-must-at t) at-pat-must.Post
-at-pat-must-same-length-4 t c =
-    c .before .before .report .kept .0 ∙ c .before .before .before .before .before .before .before .before .before .before .before .at-pat .kept .1 .1 .1 .1 .1 .0
-
-at-pat-must-returns-2 : (t : ℕ) → at-pat-must-lts.Need-returns-2 (
-  at-pat-below t,
-  at-pat.Post,
-  report-reads.Asked,
-  report-reads.Learnt,
-) (at-pat-must-at t) at-pat-must.Post
-unfolding pat.atPatMust plan choose chosen
-at-pat-must-returns-2 t c =
-    let falls = c .before .before .before .before .before .before .before .before .before .before .before .before .before .before .before .before .before .before .before .before .pre .0 in
-    let pre0 = c .before .before .before .before .before .before .before .before .before .before .before .before .before .before .before .before .before .before .before .before .pre .1 in
-    let at-pat = rw (c .before .before .before .before .before .got2 .given .1) at (c .before .before .before .before .before .before .before .before .before .before .before .at-pat .ensures) in
-    let report = c .before .before .report .ensures in
-    by-steps pre0 (λ b. s-by _ (runs-in (at-pat _)) (s-report report s-end))
-
-at-rest-bump-requires : (t : ℕ) → at-rest-lts.Need-bump-requires (
-  bump-reads.Asked,
-  bump-reads.Learnt,
-  pat-rows-below t,
-  pat-rows.Post,
-  close-reads.Asked,
-  close-reads.Learnt,
-  at-pat-l-round-below t,
-  at-pat-l-round.Post,
-  pat-args-below t,
-  pat-args.Post,
-  vector-below t,
-  vector.Post,
-) (at-rest-at t) at-rest.Post
-at-rest-bump-requires t c κs =
+  tail-below t,
+  tail.Post,
+) (atom-at t) atom.Post
+atom-at-pat-requires t c κs =
     let falls = c .before .before .before .before .before .before .before .before .pre .0 in
     let pre0 = c .before .before .before .before .before .before .before .before .pre .1 .0 in
     let pre1 = c .before .before .before .before .before .before .before .before .pre .1 .1 in
-    let if1 = c .before .if1 .taken in
-    search asks depth 8
+    (omega arith, pre0)
 
-at-rest-pat-rows-requires : (t : ℕ) → at-rest-lts.Need-pat-rows-requires (
-  bump-reads.Asked,
-  bump-reads.Learnt,
-  pat-rows-below t,
-  pat-rows.Post,
-  close-reads.Asked,
-  close-reads.Learnt,
-  at-pat-l-round-below t,
-  at-pat-l-round.Post,
-  pat-args-below t,
-  pat-args.Post,
-  vector-below t,
-  vector.Post,
-) (at-rest-at t) at-rest.Post
-at-rest-pat-rows-requires t c κs =
-    let falls = c .before .before .before .before .before .before .before .before .before .before .before .before .before .pre .0 in
-    let pre0 = c .before .before .before .before .before .before .before .before .before .before .before .before .before .pre .1 .0 in
-    let pre1 = c .before .before .before .before .before .before .before .before .before .before .before .before .before .pre .1 .1 in
-    let if1 = c .before .before .before .before .before .before .if1 .taken in
-    let bump = c .before .before .before .before .bump .ensures in
-    let bump-ok = ok-bumps bump pre0 in
-    search asks depth 8
-
-at-rest-close-requires : (t : ℕ) → at-rest-lts.Need-close-requires (
-  bump-reads.Asked,
-  bump-reads.Learnt,
-  pat-rows-below t,
-  pat-rows.Post,
-  close-reads.Asked,
-  close-reads.Learnt,
-  at-pat-l-round-below t,
-  at-pat-l-round.Post,
-  pat-args-below t,
-  pat-args.Post,
-  vector-below t,
-  vector.Post,
-) (at-rest-at t) at-rest.Post
-at-rest-close-requires t c κs =
-    let falls = c .before .before .before .before .before .before .before .before .before .before .before .before .before .before .before .before .before .before .before .pre .0 in
-    let pre0 = c .before .before .before .before .before .before .before .before .before .before .before .before .before .before .before .before .before .before .before .pre .1 .0 in
-    let pre1 = c .before .before .before .before .before .before .before .before .before .before .before .before .before .before .before .before .before .before .before .pre .1 .1 in
-    let if1 = c .before .before .before .before .before .before .before .before .before .before .before .before .if1 .taken in
-    let bump = c .before .before .before .before .before .before .before .before .before .before .bump .ensures in
-    let bump-ok = ok-bumps bump pre0 in
-    let pat-rows = c .before .before .before .before .before .pat-rows .ensures in
-    let pat-rows-ok = pat-rows .ok in
-    search asks depth 8
-
-at-rest-same-length : (t : ℕ) → at-rest-lts.Need-same-length (
-  bump-reads.Asked,
-  bump-reads.Learnt,
-  pat-rows-below t,
-  pat-rows.Post,
-  close-reads.Asked,
-  close-reads.Learnt,
-  at-pat-l-round-below t,
-  at-pat-l-round.Post,
-  pat-args-below t,
-  pat-args.Post,
-  vector-below t,
-  vector.Post,
-) (at-rest-at t) at-rest.Post
-at-rest-same-length t c =
-    c .before .before .close .kept .0 ∙ c .before .before .before .before .before .before .before .before .pat-rows .kept .1 .1 .1 .1 .0 ∙ c .before .before .before .before .before .before .before .before .before .before .before .before .before .bump .kept .1 .0
-
-at-rest-same-length-2 : (t : ℕ) → at-rest-lts.Need-same-length-2 (
-  bump-reads.Asked,
-  bump-reads.Learnt,
-  pat-rows-below t,
-  pat-rows.Post,
-  close-reads.Asked,
-  close-reads.Learnt,
-  at-pat-l-round-below t,
-  at-pat-l-round.Post,
-  pat-args-below t,
-  pat-args.Post,
-  vector-below t,
-  vector.Post,
-) (at-rest-at t) at-rest.Post
-at-rest-same-length-2 t c =
-    c .before .before .before .before .before .before .before .before .pat-rows .kept .1 .1 .1 .1 .1 .0
-
-at-rest-returns : (t : ℕ) → at-rest-lts.Need-returns (
-  bump-reads.Asked,
-  bump-reads.Learnt,
-  pat-rows-below t,
-  pat-rows.Post,
-  close-reads.Asked,
-  close-reads.Learnt,
-  at-pat-l-round-below t,
-  at-pat-l-round.Post,
-  pat-args-below t,
-  pat-args.Post,
-  vector-below t,
-  vector.Post,
-) (at-rest-at t) at-rest.Post
-unfolding pat.atPatRest util.endSep plan choose chosen
-at-rest-returns t c =
-    let falls = c .before .before .before .before .before .before .before .before .before .before .before .before .before .before .before .before .before .before .before .before .before .before .pre .0 in
-    let pre0 = c .before .before .before .before .before .before .before .before .before .before .before .before .before .before .before .before .before .before .before .before .before .before .pre .1 .0 in
-    let pre1 = c .before .before .before .before .before .before .before .before .before .before .before .before .before .before .before .before .before .before .before .before .before .before .pre .1 .1 in
-    let if1 = c .before .before .before .before .before .before .before .before .before .before .before .before .before .before .before .if1 .taken in
-    let bump = c .before .before .before .before .before .before .before .before .before .before .before .before .before .bump .ensures in
-    let pat-rows = c .before .before .before .before .before .before .before .before .pat-rows .ensures in
-    let close = c .before .before .close .ensures in
-    in-steps pre0 (s-true _ _ (kind-is if1) (s-bump bump (s-run pat-rows (s-close close s-end))))
-
-at-rest-bump-requires-2 : (t : ℕ) → at-rest-lts.Need-bump-requires-2 (
-  bump-reads.Asked,
-  bump-reads.Learnt,
-  pat-rows-below t,
-  pat-rows.Post,
-  close-reads.Asked,
-  close-reads.Learnt,
-  at-pat-l-round-below t,
-  at-pat-l-round.Post,
-  pat-args-below t,
-  pat-args.Post,
-  vector-below t,
-  vector.Post,
-) (at-rest-at t) at-rest.Post
-at-rest-bump-requires-2 t c κs =
-    let falls = c .before .before .before .before .before .before .before .before .before .pre .0 in
-    let pre0 = c .before .before .before .before .before .before .before .before .before .pre .1 .0 in
-    let pre1 = c .before .before .before .before .before .before .before .before .before .pre .1 .1 in
-    let if1 = c .before .before .if1 .left in
-    let if2 = c .before .if2 .taken in
-    search asks depth 8
-
-at-rest-at-pat-l-round-requires : (t : ℕ) → at-rest-lts.Need-at-pat-l-round-requires (
-  bump-reads.Asked,
-  bump-reads.Learnt,
-  pat-rows-below t,
-  pat-rows.Post,
-  close-reads.Asked,
-  close-reads.Learnt,
-  at-pat-l-round-below t,
-  at-pat-l-round.Post,
-  pat-args-below t,
-  pat-args.Post,
-  vector-below t,
-  vector.Post,
-) (at-rest-at t) at-rest.Post
-at-rest-at-pat-l-round-requires t c κs =
-    let falls = c .before .before .before .before .before .before .before .before .before .before .before .before .before .before .pre .0 in
-    let pre0 = c .before .before .before .before .before .before .before .before .before .before .before .before .before .before .pre .1 .0 in
-    let pre1 = c .before .before .before .before .before .before .before .before .before .before .before .before .before .before .pre .1 .1 in
-    let if1 = c .before .before .before .before .before .before .before .if1 .left in
-    let if2 = c .before .before .before .before .before .before .if2 .taken in
-    let bump2 = c .before .before .before .before .bump2 .ensures in
-    let bump2-ok = ok-bumps bump2 pre0 in
-    search asks depth 8
-
-at-rest-same-length-3 : (t : ℕ) → at-rest-lts.Need-same-length-3 (
-  bump-reads.Asked,
-  bump-reads.Learnt,
-  pat-rows-below t,
-  pat-rows.Post,
-  close-reads.Asked,
-  close-reads.Learnt,
-  at-pat-l-round-below t,
-  at-pat-l-round.Post,
-  pat-args-below t,
-  pat-args.Post,
-  vector-below t,
-  vector.Post,
-) (at-rest-at t) at-rest.Post
-at-rest-same-length-3 t c =
-    c .before .before .before .before .at-pat-l-round .kept .1 .1 .1 .1 .0 ∙ c .before .before .before .before .before .before .before .before .before .bump2 .kept .1 .0
-
-at-rest-same-length-4 : (t : ℕ) → at-rest-lts.Need-same-length-4 (
-  bump-reads.Asked,
-  bump-reads.Learnt,
-  pat-rows-below t,
-  pat-rows.Post,
-  close-reads.Asked,
-  close-reads.Learnt,
-  at-pat-l-round-below t,
-  at-pat-l-round.Post,
-  pat-args-below t,
-  pat-args.Post,
-  vector-below t,
-  vector.Post,
-) (at-rest-at t) at-rest.Post
-at-rest-same-length-4 t c =
-    c .before .before .before .before .at-pat-l-round .kept .1 .1 .1 .1 .1 .0
-
-at-rest-returns-2 : (t : ℕ) → at-rest-lts.Need-returns-2 (
-  bump-reads.Asked,
-  bump-reads.Learnt,
-  pat-rows-below t,
-  pat-rows.Post,
-  close-reads.Asked,
-  close-reads.Learnt,
-  at-pat-l-round-below t,
-  at-pat-l-round.Post,
-  pat-args-below t,
-  pat-args.Post,
-  vector-below t,
-  vector.Post,
-) (at-rest-at t) at-rest.Post
-unfolding pat.atPatRest util.endSep plan choose chosen
-at-rest-returns-2 t c =
-    let falls = c .before .before .before .before .before .before .before .before .before .before .before .before .before .before .before .before .before .before .before .pre .0 in
-    let pre0 = c .before .before .before .before .before .before .before .before .before .before .before .before .before .before .before .before .before .before .before .pre .1 .0 in
-    let pre1 = c .before .before .before .before .before .before .before .before .before .before .before .before .before .before .before .before .before .before .before .pre .1 .1 in
-    let if1 = c .before .before .before .before .before .before .before .before .before .before .before .before .if1 .left in
-    let if2 = c .before .before .before .before .before .before .before .before .before .before .before .if2 .taken in
-    let bump2 = c .before .before .before .before .before .before .before .before .before .bump2 .ensures in
-    let at-pat-l-round = c .before .before .before .before .at-pat-l-round .ensures in
-    in-steps pre0 (s-false _ _ (kind-not if1) (s-true _ _ (kind-is if2) (s-bump bump2 (s-by _ at-pat-l-round s-end))))
-
-at-rest-bump-requires-3 : (t : ℕ) → at-rest-lts.Need-bump-requires-3 (
-  bump-reads.Asked,
-  bump-reads.Learnt,
-  pat-rows-below t,
-  pat-rows.Post,
-  close-reads.Asked,
-  close-reads.Learnt,
-  at-pat-l-round-below t,
-  at-pat-l-round.Post,
-  pat-args-below t,
-  pat-args.Post,
-  vector-below t,
-  vector.Post,
-) (at-rest-at t) at-rest.Post
-at-rest-bump-requires-3 t c κs =
-    let falls = c .before .before .before .before .before .before .before .before .before .before .pre .0 in
-    let pre0 = c .before .before .before .before .before .before .before .before .before .before .pre .1 .0 in
-    let pre1 = c .before .before .before .before .before .before .before .before .before .before .pre .1 .1 in
-    let if1 = c .before .before .before .if1 .left in
-    let if2 = c .before .before .if2 .left in
-    let if3 = c .before .if3 .taken in
-    search asks depth 8
-
-at-rest-pat-args-requires : (t : ℕ) → at-rest-lts.Need-pat-args-requires (
-  bump-reads.Asked,
-  bump-reads.Learnt,
-  pat-rows-below t,
-  pat-rows.Post,
-  close-reads.Asked,
-  close-reads.Learnt,
-  at-pat-l-round-below t,
-  at-pat-l-round.Post,
-  pat-args-below t,
-  pat-args.Post,
-  vector-below t,
-  vector.Post,
-) (at-rest-at t) at-rest.Post
-at-rest-pat-args-requires t c κs =
-    let falls = c .before .before .before .before .before .before .before .before .before .before .before .before .before .before .before .pre .0 in
-    let pre0 = c .before .before .before .before .before .before .before .before .before .before .before .before .before .before .before .pre .1 .0 in
-    let pre1 = c .before .before .before .before .before .before .before .before .before .before .before .before .before .before .before .pre .1 .1 in
-    let if1 = c .before .before .before .before .before .before .before .before .if1 .left in
-    let if2 = c .before .before .before .before .before .before .before .if2 .left in
-    let if3 = c .before .before .before .before .before .before .if3 .taken in
-    let bump3 = c .before .before .before .before .bump3 .ensures in
-    let bump3-ok = ok-bumps bump3 pre0 in
-    search asks depth 8
-
-at-rest-close-requires-2 : (t : ℕ) → at-rest-lts.Need-close-requires-2 (
-  bump-reads.Asked,
-  bump-reads.Learnt,
-  pat-rows-below t,
-  pat-rows.Post,
-  close-reads.Asked,
-  close-reads.Learnt,
-  at-pat-l-round-below t,
-  at-pat-l-round.Post,
-  pat-args-below t,
-  pat-args.Post,
-  vector-below t,
-  vector.Post,
-) (at-rest-at t) at-rest.Post
-at-rest-close-requires-2 t c κs =
-    let falls = c .before .before .before .before .before .before .before .before .before .before .before .before .before .before .before .before .before .before .before .before .before .pre .0 in
-    let pre0 = c .before .before .before .before .before .before .before .before .before .before .before .before .before .before .before .before .before .before .before .before .before .pre .1 .0 in
-    let pre1 = c .before .before .before .before .before .before .before .before .before .before .before .before .before .before .before .before .before .before .before .before .before .pre .1 .1 in
-    let if1 = c .before .before .before .before .before .before .before .before .before .before .before .before .before .before .if1 .left in
-    let if2 = c .before .before .before .before .before .before .before .before .before .before .before .before .before .if2 .left in
-    let if3 = c .before .before .before .before .before .before .before .before .before .before .before .before .if3 .taken in
-    let bump3 = c .before .before .before .before .before .before .before .before .before .before .bump3 .ensures in
-    let bump3-ok = ok-bumps bump3 pre0 in
-    let pat-args = c .before .before .before .before .before .pat-args .ensures in
-    let pat-args-ok = pat-args .ok in
-    search asks depth 8
-
-at-rest-same-length-5 : (t : ℕ) → at-rest-lts.Need-same-length-5 (
-  bump-reads.Asked,
-  bump-reads.Learnt,
-  pat-rows-below t,
-  pat-rows.Post,
-  close-reads.Asked,
-  close-reads.Learnt,
-  at-pat-l-round-below t,
-  at-pat-l-round.Post,
-  pat-args-below t,
-  pat-args.Post,
-  vector-below t,
-  vector.Post,
-) (at-rest-at t) at-rest.Post
-at-rest-same-length-5 t c =
-    c .before .before .close2 .kept .0 ∙ c .before .before .before .before .before .before .before .before .pat-args .kept .1 .1 .1 .1 .0 ∙ c .before .before .before .before .before .before .before .before .before .before .before .before .before .bump3 .kept .1 .0
-
-at-rest-same-length-6 : (t : ℕ) → at-rest-lts.Need-same-length-6 (
-  bump-reads.Asked,
-  bump-reads.Learnt,
-  pat-rows-below t,
-  pat-rows.Post,
-  close-reads.Asked,
-  close-reads.Learnt,
-  at-pat-l-round-below t,
-  at-pat-l-round.Post,
-  pat-args-below t,
-  pat-args.Post,
-  vector-below t,
-  vector.Post,
-) (at-rest-at t) at-rest.Post
-at-rest-same-length-6 t c =
-    c .before .before .before .before .before .before .before .before .pat-args .kept .1 .1 .1 .1 .1 .0
-
-at-rest-returns-3 : (t : ℕ) → at-rest-lts.Need-returns-3 (
-  bump-reads.Asked,
-  bump-reads.Learnt,
-  pat-rows-below t,
-  pat-rows.Post,
-  close-reads.Asked,
-  close-reads.Learnt,
-  at-pat-l-round-below t,
-  at-pat-l-round.Post,
-  pat-args-below t,
-  pat-args.Post,
-  vector-below t,
-  vector.Post,
-) (at-rest-at t) at-rest.Post
-unfolding pat.atPatRest util.endSep plan choose chosen
-at-rest-returns-3 t c =
-    let falls = c .before .before .before .before .before .before .before .before .before .before .before .before .before .before .before .before .before .before .before .before .before .before .before .before .pre .0 in
-    let pre0 = c .before .before .before .before .before .before .before .before .before .before .before .before .before .before .before .before .before .before .before .before .before .before .before .before .pre .1 .0 in
-    let pre1 = c .before .before .before .before .before .before .before .before .before .before .before .before .before .before .before .before .before .before .before .before .before .before .before .before .pre .1 .1 in
-    let if1 = c .before .before .before .before .before .before .before .before .before .before .before .before .before .before .before .before .before .if1 .left in
-    let if2 = c .before .before .before .before .before .before .before .before .before .before .before .before .before .before .before .before .if2 .left in
-    let if3 = c .before .before .before .before .before .before .before .before .before .before .before .before .before .before .before .if3 .taken in
-    let bump3 = c .before .before .before .before .before .before .before .before .before .before .before .before .before .bump3 .ensures in
-    let pat-args = c .before .before .before .before .before .before .before .before .pat-args .ensures in
-    let close2 = c .before .before .close2 .ensures in
-    in-steps pre0 (s-false _ _ (kind-not if1) (s-false _ _ (kind-not if2) (s-true _ _ (kind-is if3) (s-bump bump3 (s-run pat-args (s-close close2 s-end))))))
-
-at-rest-bump-requires-4 : (t : ℕ) → at-rest-lts.Need-bump-requires-4 (
-  bump-reads.Asked,
-  bump-reads.Learnt,
-  pat-rows-below t,
-  pat-rows.Post,
-  close-reads.Asked,
-  close-reads.Learnt,
-  at-pat-l-round-below t,
-  at-pat-l-round.Post,
-  pat-args-below t,
-  pat-args.Post,
-  vector-below t,
-  vector.Post,
-) (at-rest-at t) at-rest.Post
-at-rest-bump-requires-4 t c κs =
-    let falls = c .before .before .before .before .before .before .before .before .before .before .before .pre .0 in
-    let pre0 = c .before .before .before .before .before .before .before .before .before .before .before .pre .1 .0 in
-    let pre1 = c .before .before .before .before .before .before .before .before .before .before .before .pre .1 .1 in
-    let if1 = c .before .before .before .before .if1 .left in
-    let if2 = c .before .before .before .if2 .left in
-    let if3 = c .before .before .if3 .left in
-    let if4 = c .before .if4 .taken in
-    search asks depth 8
-
-at-rest-vector-requires : (t : ℕ) → at-rest-lts.Need-vector-requires (
-  bump-reads.Asked,
-  bump-reads.Learnt,
-  pat-rows-below t,
-  pat-rows.Post,
-  close-reads.Asked,
-  close-reads.Learnt,
-  at-pat-l-round-below t,
-  at-pat-l-round.Post,
-  pat-args-below t,
-  pat-args.Post,
-  vector-below t,
-  vector.Post,
-) (at-rest-at t) at-rest.Post
-at-rest-vector-requires t c κs =
-    let falls = c .before .before .before .before .before .before .before .before .before .before .before .before .before .before .before .before .pre .0 in
-    let pre0 = c .before .before .before .before .before .before .before .before .before .before .before .before .before .before .before .before .pre .1 .0 in
-    let pre1 = c .before .before .before .before .before .before .before .before .before .before .before .before .before .before .before .before .pre .1 .1 in
-    let if1 = c .before .before .before .before .before .before .before .before .before .if1 .left in
-    let if2 = c .before .before .before .before .before .before .before .before .if2 .left in
-    let if3 = c .before .before .before .before .before .before .before .if3 .left in
-    let if4 = c .before .before .before .before .before .before .if4 .taken in
-    let bump4 = c .before .before .before .before .bump4 .ensures in
-    let bump4-ok = ok-bumps bump4 pre0 in
-    search asks depth 8
-
-at-rest-close-requires-3 : (t : ℕ) → at-rest-lts.Need-close-requires-3 (
-  bump-reads.Asked,
-  bump-reads.Learnt,
-  pat-rows-below t,
-  pat-rows.Post,
-  close-reads.Asked,
-  close-reads.Learnt,
-  at-pat-l-round-below t,
-  at-pat-l-round.Post,
-  pat-args-below t,
-  pat-args.Post,
-  vector-below t,
-  vector.Post,
-) (at-rest-at t) at-rest.Post
-at-rest-close-requires-3 t c κs =
-    let falls = c .before .before .before .before .before .before .before .before .before .before .before .before .before .before .before .before .before .before .before .before .before .before .pre .0 in
-    let pre0 = c .before .before .before .before .before .before .before .before .before .before .before .before .before .before .before .before .before .before .before .before .before .before .pre .1 .0 in
-    let pre1 = c .before .before .before .before .before .before .before .before .before .before .before .before .before .before .before .before .before .before .before .before .before .before .pre .1 .1 in
-    let if1 = c .before .before .before .before .before .before .before .before .before .before .before .before .before .before .before .if1 .left in
-    let if2 = c .before .before .before .before .before .before .before .before .before .before .before .before .before .before .if2 .left in
-    let if3 = c .before .before .before .before .before .before .before .before .before .before .before .before .before .if3 .left in
-    let if4 = c .before .before .before .before .before .before .before .before .before .before .before .before .if4 .taken in
-    let bump4 = c .before .before .before .before .before .before .before .before .before .before .bump4 .ensures in
-    let bump4-ok = ok-bumps bump4 pre0 in
-    let vector = c .before .before .before .before .before .vector .ensures in
-    let vector-ok = vector .ok in
-    search asks depth 8
-
-at-rest-same-length-7 : (t : ℕ) → at-rest-lts.Need-same-length-7 (
-  bump-reads.Asked,
-  bump-reads.Learnt,
-  pat-rows-below t,
-  pat-rows.Post,
-  close-reads.Asked,
-  close-reads.Learnt,
-  at-pat-l-round-below t,
-  at-pat-l-round.Post,
-  pat-args-below t,
-  pat-args.Post,
-  vector-below t,
-  vector.Post,
-) (at-rest-at t) at-rest.Post
-at-rest-same-length-7 t c =
-    c .before .before .close3 .kept .0 ∙ c .before .before .before .before .before .before .before .before .vector .kept .1 .1 .1 .1 .0 ∙ c .before .before .before .before .before .before .before .before .before .before .before .before .before .bump4 .kept .1 .0
-
-at-rest-same-length-8 : (t : ℕ) → at-rest-lts.Need-same-length-8 (
-  bump-reads.Asked,
-  bump-reads.Learnt,
-  pat-rows-below t,
-  pat-rows.Post,
-  close-reads.Asked,
-  close-reads.Learnt,
-  at-pat-l-round-below t,
-  at-pat-l-round.Post,
-  pat-args-below t,
-  pat-args.Post,
-  vector-below t,
-  vector.Post,
-) (at-rest-at t) at-rest.Post
-at-rest-same-length-8 t c =
-    c .before .before .before .before .before .before .before .before .vector .kept .1 .1 .1 .1 .1 .0
-
-at-rest-returns-4 : (t : ℕ) → at-rest-lts.Need-returns-4 (
-  bump-reads.Asked,
-  bump-reads.Learnt,
-  pat-rows-below t,
-  pat-rows.Post,
-  close-reads.Asked,
-  close-reads.Learnt,
-  at-pat-l-round-below t,
-  at-pat-l-round.Post,
-  pat-args-below t,
-  pat-args.Post,
-  vector-below t,
-  vector.Post,
-) (at-rest-at t) at-rest.Post
-unfolding pat.atPatRest util.endSep plan choose chosen
-at-rest-returns-4 t c =
-    let falls = c .before .before .before .before .before .before .before .before .before .before .before .before .before .before .before .before .before .before .before .before .before .before .before .before .before .pre .0 in
-    let pre0 = c .before .before .before .before .before .before .before .before .before .before .before .before .before .before .before .before .before .before .before .before .before .before .before .before .before .pre .1 .0 in
-    let pre1 = c .before .before .before .before .before .before .before .before .before .before .before .before .before .before .before .before .before .before .before .before .before .before .before .before .before .pre .1 .1 in
-    let if1 = c .before .before .before .before .before .before .before .before .before .before .before .before .before .before .before .before .before .before .if1 .left in
-    let if2 = c .before .before .before .before .before .before .before .before .before .before .before .before .before .before .before .before .before .if2 .left in
-    let if3 = c .before .before .before .before .before .before .before .before .before .before .before .before .before .before .before .before .if3 .left in
-    let if4 = c .before .before .before .before .before .before .before .before .before .before .before .before .before .before .before .if4 .taken in
-    let bump4 = c .before .before .before .before .before .before .before .before .before .before .before .before .before .bump4 .ensures in
-    let vector = c .before .before .before .before .before .before .before .before .vector .ensures in
-    let close3 = c .before .before .close3 .ensures in
-    in-steps pre0 (s-false _ _ (kind-not if1) (s-false _ _ (kind-not if2) (s-false _ _ (kind-not if3) (s-true _ _ (kind-is if4) (s-bump bump4 (s-by _ (runs-in vector) (s-close close3 s-end)))))))
-
-at-rest-returns-5 : (t : ℕ) → at-rest-lts.Need-returns-5 (
-  bump-reads.Asked,
-  bump-reads.Learnt,
-  pat-rows-below t,
-  pat-rows.Post,
-  close-reads.Asked,
-  close-reads.Learnt,
-  at-pat-l-round-below t,
-  at-pat-l-round.Post,
-  pat-args-below t,
-  pat-args.Post,
-  vector-below t,
-  vector.Post,
-) (at-rest-at t) at-rest.Post
-unfolding pat.atPatRest util.endSep plan choose chosen
-at-rest-returns-5 t c =
-    let falls = c .before .before .before .before .before .before .before .before .before .before .pre .0 in
-    let pre0 = c .before .before .before .before .before .before .before .before .before .before .pre .1 .0 in
-    let pre1 = c .before .before .before .before .before .before .before .before .before .before .pre .1 .1 in
-    let if1 = c .before .before .before .if1 .left in
-    let if2 = c .before .before .if2 .left in
-    let if3 = c .before .if3 .left in
-    let if4 = c .if4 .left in
-    in-steps pre0 (s-false _ _ (kind-not if1) (s-false _ _ (kind-not if2) (s-false _ _ (kind-not if3) (s-false _ _ (kind-not if4) s-end))))
-
-atom-pat-at-pat-requires : (t : ℕ) → atom-pat-lts.Need-at-pat-requires (
+atom-enum-known-got : (t : ℕ) → atom-lts.Need-enum-known-got (
   at-pat-below t,
   at-pat.Post,
-  pat-tail-below t,
-  pat-tail.Post,
-) (atom-pat-at t) atom-pat.Post
-atom-pat-at-pat-requires t c κs =
-    let falls = c .before .before .before .before .before .before .before .before .pre .0 in
-    let pre0 = c .before .before .before .before .before .before .before .before .pre .1 .0 in
-    let pre1 = c .before .before .before .before .before .before .before .before .pre .1 .1 in
-    search asks depth 8
-
-atom-pat-enum-known-got : (t : ℕ) → atom-pat-lts.Need-enum-known-got (
-  at-pat-below t,
-  at-pat.Post,
-  pat-tail-below t,
-  pat-tail.Post,
-) (atom-pat-at t) atom-pat.Post
-atom-pat-enum-known-got t c =
+  tail-below t,
+  tail.Post,
+) (atom-at t) atom.Post
+atom-enum-known-got t c =
     let falls = c .before .before .before .before .before .before .before .before .before .before .before .before .before .before .pre .0 in
     let pre0 = c .before .before .before .before .before .before .before .before .before .before .before .before .before .before .pre .1 .0 in
     let pre1 = c .before .before .before .before .before .before .before .before .before .before .before .before .before .before .pre .1 .1 in
     search needs
 
-atom-pat-enum-known-got-2 : (t : ℕ) → atom-pat-lts.Need-enum-known-got-2 (
+atom-enum-known-got-2 : (t : ℕ) → atom-lts.Need-enum-known-got-2 (
   at-pat-below t,
   at-pat.Post,
-  pat-tail-below t,
-  pat-tail.Post,
-) (atom-pat-at t) atom-pat.Post
-atom-pat-enum-known-got-2 t c =
+  tail-below t,
+  tail.Post,
+) (atom-at t) atom.Post
+atom-enum-known-got-2 t c =
     let falls = c .before .before .before .before .before .before .before .before .before .before .before .before .before .before .pre .0 in
     let pre0 = c .before .before .before .before .before .before .before .before .before .before .before .before .before .before .pre .1 .0 in
     let pre1 = c .before .before .before .before .before .before .before .before .before .before .before .before .before .before .pre .1 .1 in
     search needs
 
-atom-pat-pat-tail-requires : (t : ℕ) → atom-pat-lts.Need-pat-tail-requires (
+atom-tail-requires : (t : ℕ) → atom-lts.Need-tail-requires (
   at-pat-below t,
   at-pat.Post,
-  pat-tail-below t,
-  pat-tail.Post,
-) (atom-pat-at t) atom-pat.Post
-atom-pat-pat-tail-requires t c κs =
+  tail-below t,
+  tail.Post,
+) (atom-at t) atom.Post
+atom-tail-requires t c κs =
     let falls = c .before .before .before .before .before .before .before .before .before .before .before .before .before .before .before .before .before .before .pre .0 in
-    let pre0 = c .before .before .before .before .before .before .before .before .before .before .before .before .before .before .before .before .before .before .pre .1 .0 in
     let pre1 = c .before .before .before .before .before .before .before .before .before .before .before .before .before .before .before .before .before .before .pre .1 .1 in
     let at-pat = rw (c .before .before .before .got2 .given .1) at (c .before .before .before .before .before .before .before .before .before .at-pat .ensures) in
     let at-pat-ok = at-pat true .ok in
-    search asks depth 8
+    (omega arith, (at-pat-ok, pre1))
 
-atom-pat-same-length : (t : ℕ) → atom-pat-lts.Need-same-length (
+atom-same-length : (t : ℕ) → atom-lts.Need-same-length (
   at-pat-below t,
   at-pat.Post,
-  pat-tail-below t,
-  pat-tail.Post,
-) (atom-pat-at t) atom-pat.Post
-atom-pat-same-length t c =
+  tail-below t,
+  tail.Post,
+) (atom-at t) atom.Post
+atom-same-length t c =
     c .before .before .before .before .before .before .before .at-pat .kept .1 .1 .1 .1 .0
 
-atom-pat-same-length-2 : (t : ℕ) → atom-pat-lts.Need-same-length-2 (
+atom-same-length-2 : (t : ℕ) → atom-lts.Need-same-length-2 (
   at-pat-below t,
   at-pat.Post,
-  pat-tail-below t,
-  pat-tail.Post,
-) (atom-pat-at t) atom-pat.Post
-atom-pat-same-length-2 t c =
+  tail-below t,
+  tail.Post,
+) (atom-at t) atom.Post
+atom-same-length-2 t c =
     c .before .before .before .before .before .before .before .at-pat .kept .1 .1 .1 .1 .1 .0
 
-atom-pat-returns : (t : ℕ) → atom-pat-lts.Need-returns (
+atom-returns : (t : ℕ) → atom-lts.Need-returns (
   at-pat-below t,
   at-pat.Post,
-  pat-tail-below t,
-  pat-tail.Post,
-) (atom-pat-at t) atom-pat.Post
+  tail-below t,
+  tail.Post,
+) (atom-at t) atom.Post
 unfolding pat.atomPat plan choose chosen
-atom-pat-returns t c =
+atom-returns t c =
     let falls = c .before .before .before .before .before .before .before .before .before .before .before .before .before .before .before .before .pre .0 in
     let pre0 = c .before .before .before .before .before .before .before .before .before .before .before .before .before .before .before .before .pre .1 .0 in
     let pre1 = c .before .before .before .before .before .before .before .before .before .before .before .before .before .before .before .before .pre .1 .1 in
     let at-pat = rw (c .before .got .given .1) at (c .before .before .before .before .before .before .before .at-pat .ensures) in
     in-steps pre0 (s-by _ (runs-in (at-pat _)) s-end)
 
-atom-pat-same-length-3 : (t : ℕ) → atom-pat-lts.Need-same-length-3 (
+atom-same-length-3 : (t : ℕ) → atom-lts.Need-same-length-3 (
   at-pat-below t,
   at-pat.Post,
-  pat-tail-below t,
-  pat-tail.Post,
-) (atom-pat-at t) atom-pat.Post
-atom-pat-same-length-3 t c =
-    c .before .before .before .before .pat-tail .kept .1 .1 .1 .1 .0 ∙ c .before .before .before .before .before .before .before .before .before .before .before .before .before .before .at-pat .kept .1 .1 .1 .1 .0
+  tail-below t,
+  tail.Post,
+) (atom-at t) atom.Post
+atom-same-length-3 t c =
+    c .before .before .before .before .tail .kept .1 .1 .1 .1 .0 ∙ c .before .before .before .before .before .before .before .before .before .before .before .before .before .before .at-pat .kept .1 .1 .1 .1 .0
 
-atom-pat-same-length-4 : (t : ℕ) → atom-pat-lts.Need-same-length-4 (
+atom-same-length-4 : (t : ℕ) → atom-lts.Need-same-length-4 (
   at-pat-below t,
   at-pat.Post,
-  pat-tail-below t,
-  pat-tail.Post,
-) (atom-pat-at t) atom-pat.Post
-atom-pat-same-length-4 t c =
-    c .before .before .before .before .pat-tail .kept .1 .1 .1 .1 .1 .0 ∙ c .before .before .before .before .before .before .before .before .before .before .before .before .before .before .at-pat .kept .1 .1 .1 .1 .1 .0
+  tail-below t,
+  tail.Post,
+) (atom-at t) atom.Post
+atom-same-length-4 t c =
+    c .before .before .before .before .tail .kept .1 .1 .1 .1 .1 .0 ∙ c .before .before .before .before .before .before .before .before .before .before .before .before .before .before .at-pat .kept .1 .1 .1 .1 .1 .0
 
-atom-pat-returns-2 : (t : ℕ) → atom-pat-lts.Need-returns-2 (
+atom-returns-2 : (t : ℕ) → atom-lts.Need-returns-2 (
   at-pat-below t,
   at-pat.Post,
-  pat-tail-below t,
-  pat-tail.Post,
-) (atom-pat-at t) atom-pat.Post
+  tail-below t,
+  tail.Post,
+) (atom-at t) atom.Post
 unfolding pat.atomPat plan choose chosen
-atom-pat-returns-2 t c =
+atom-returns-2 t c =
     let falls = c .before .before .before .before .before .before .before .before .before .before .before .before .before .before .before .before .before .before .before .before .before .before .before .pre .0 in
     let pre0 = c .before .before .before .before .before .before .before .before .before .before .before .before .before .before .before .before .before .before .before .before .before .before .before .pre .1 .0 in
     let pre1 = c .before .before .before .before .before .before .before .before .before .before .before .before .before .before .before .before .before .before .before .before .before .before .before .pre .1 .1 in
     let at-pat = rw (c .before .before .before .before .before .before .before .before .got2 .given .1) at (c .before .before .before .before .before .before .before .before .before .before .before .before .before .before .at-pat .ensures) in
-    let pat-tail = c .before .before .before .before .pat-tail .ensures in
-    in-steps pre0 (s-by _ (runs-in (at-pat _)) (s-run pat-tail s-end))
+    let tail = c .before .before .before .before .tail .ensures in
+    in-steps pre0 (s-by _ (runs-in (at-pat _)) (s-run tail s-end))
+
+con-con-head-requires : (t : ℕ) → con-lts.Need-con-head-requires (
+  con-head-below t,
+  con-head.Post,
+  tail-below t,
+  tail.Post,
+  op-tail-below t,
+  op-tail.Post,
+) (con-at t) con.Post
+con-con-head-requires t c κs =
+    let falls = c .before .before .before .before .before .before .before .before .pre .0 in
+    let pre0 = c .before .before .before .before .before .before .before .before .pre .1 .0 in
+    let pre1 = c .before .before .before .before .before .before .before .before .pre .1 .1 in
+    (omega arith, (pre0, pre1))
+
+con-enum-known-head : (t : ℕ) → con-lts.Need-enum-known-head (
+  con-head-below t,
+  con-head.Post,
+  tail-below t,
+  tail.Post,
+  op-tail-below t,
+  op-tail.Post,
+) (con-at t) con.Post
+con-enum-known-head t c =
+    let falls = c .before .before .before .before .before .before .before .before .before .before .before .before .before .before .pre .0 in
+    let pre0 = c .before .before .before .before .before .before .before .before .before .before .before .before .before .before .pre .1 .0 in
+    let pre1 = c .before .before .before .before .before .before .before .before .before .before .before .before .before .before .pre .1 .1 in
+    search needs
+
+con-enum-known-head-2 : (t : ℕ) → con-lts.Need-enum-known-head-2 (
+  con-head-below t,
+  con-head.Post,
+  tail-below t,
+  tail.Post,
+  op-tail-below t,
+  op-tail.Post,
+) (con-at t) con.Post
+con-enum-known-head-2 t c =
+    let falls = c .before .before .before .before .before .before .before .before .before .before .before .before .before .before .pre .0 in
+    let pre0 = c .before .before .before .before .before .before .before .before .before .before .before .before .before .before .pre .1 .0 in
+    let pre1 = c .before .before .before .before .before .before .before .before .before .before .before .before .before .before .pre .1 .1 in
+    search needs
+
+con-tail-requires : (t : ℕ) → con-lts.Need-tail-requires (
+  con-head-below t,
+  con-head.Post,
+  tail-below t,
+  tail.Post,
+  op-tail-below t,
+  op-tail.Post,
+) (con-at t) con.Post
+con-tail-requires t c κs =
+    let falls = c .before .before .before .before .before .before .before .before .before .before .before .before .before .before .before .before .before .before .pre .0 in
+    let pre1 = c .before .before .before .before .before .before .before .before .before .before .before .before .before .before .before .before .before .before .pre .1 .1 in
+    let con-head = rw (c .before .before .before .head2 .given .1) at (c .before .before .before .before .before .before .before .before .before .con-head .ensures) in
+    let con-head-ok = con-head .ok in
+    (omega arith, (con-head-ok, pre1))
+
+con-enum-known-head-3 : (t : ℕ) → con-lts.Need-enum-known-head-3 (
+  con-head-below t,
+  con-head.Post,
+  tail-below t,
+  tail.Post,
+  op-tail-below t,
+  op-tail.Post,
+) (con-at t) con.Post
+con-enum-known-head-3 t c =
+    let falls = c .before .before .before .before .before .before .before .before .before .before .before .before .before .before .pre .0 in
+    let pre0 = c .before .before .before .before .before .before .before .before .before .before .before .before .before .before .pre .1 .0 in
+    let pre1 = c .before .before .before .before .before .before .before .before .before .before .before .before .before .before .pre .1 .1 in
+    search needs
+
+con-op-tail-requires : (t : ℕ) → con-lts.Need-op-tail-requires (
+  con-head-below t,
+  con-head.Post,
+  tail-below t,
+  tail.Post,
+  op-tail-below t,
+  op-tail.Post,
+) (con-at t) con.Post
+con-op-tail-requires t c κs =
+    let falls = c .before .before .before .before .before .before .before .before .before .before .before .before .before .before .before .before .before .before .pre .0 in
+    let pre1 = c .before .before .before .before .before .before .before .before .before .before .before .before .before .before .before .before .before .before .pre .1 .1 in
+    let con-head = rw (c .before .before .before .head3 .given .1) at (c .before .before .before .before .before .before .before .before .before .con-head .ensures) in
+    let con-head-ok = con-head .ok in
+    (omega arith, (con-head-ok, pre1))
+
+con-tail-requires-2 : (t : ℕ) → con-lts.Need-tail-requires-2 (
+  con-head-below t,
+  con-head.Post,
+  tail-below t,
+  tail.Post,
+  op-tail-below t,
+  op-tail.Post,
+) (con-at t) con.Post
+con-tail-requires-2 t c κs =
+    let falls = c .before .before .before .before .before .before .before .before .before .before .before .before .before .before .before .before .before .before .before .before .before .before .before .before .before .pre .0 in
+    let pre1 = c .before .before .before .before .before .before .before .before .before .before .before .before .before .before .before .before .before .before .before .before .before .before .before .before .before .pre .1 .1 in
+    let op-tail = c .before .before .before .before .before .before .op-tail .ensures in
+    let op-tail-ok = op-tail .ok in
+    (omega arith, (op-tail-ok, pre1))
+
+con-enum-known-head-4 : (t : ℕ) → con-lts.Need-enum-known-head-4 (
+  con-head-below t,
+  con-head.Post,
+  tail-below t,
+  tail.Post,
+  op-tail-below t,
+  op-tail.Post,
+) (con-at t) con.Post
+con-enum-known-head-4 t c =
+    let falls = c .before .before .before .before .before .before .before .before .before .before .before .before .before .before .pre .0 in
+    let pre0 = c .before .before .before .before .before .before .before .before .before .before .before .before .before .before .pre .1 .0 in
+    let pre1 = c .before .before .before .before .before .before .before .before .before .before .before .before .before .before .pre .1 .1 in
+    search needs
+
+con-same-length : (t : ℕ) → con-lts.Need-same-length (
+  con-head-below t,
+  con-head.Post,
+  tail-below t,
+  tail.Post,
+  op-tail-below t,
+  op-tail.Post,
+) (con-at t) con.Post
+con-same-length t c =
+    c .before .before .before .before .before .before .before .con-head .kept .1 .1 .1 .1 .0
+
+con-same-length-2 : (t : ℕ) → con-lts.Need-same-length-2 (
+  con-head-below t,
+  con-head.Post,
+  tail-below t,
+  tail.Post,
+  op-tail-below t,
+  op-tail.Post,
+) (con-at t) con.Post
+con-same-length-2 t c =
+    c .before .before .before .before .before .before .before .con-head .kept .1 .1 .1 .1 .1 .0
+
+con-returns : (t : ℕ) → con-lts.Need-returns (
+  con-head-below t,
+  con-head.Post,
+  tail-below t,
+  tail.Post,
+  op-tail-below t,
+  op-tail.Post,
+) (con-at t) con.Post
+unfolding pat.conPat pat.patTail plan choose chosen
+con-returns t c =
+    let falls = c .before .before .before .before .before .before .before .before .before .before .before .before .before .before .before .before .pre .0 in
+    let pre0 = c .before .before .before .before .before .before .before .before .before .before .before .before .before .before .before .before .pre .1 .0 in
+    let pre1 = c .before .before .before .before .before .before .before .before .before .before .before .before .before .before .before .before .pre .1 .1 in
+    let con-head = rw (c .before .head .given .1) at (c .before .before .before .before .before .before .before .con-head .ensures) in
+    in-steps pre0 (s-by _ con-head s-end)
+
+con-same-length-3 : (t : ℕ) → con-lts.Need-same-length-3 (
+  con-head-below t,
+  con-head.Post,
+  tail-below t,
+  tail.Post,
+  op-tail-below t,
+  op-tail.Post,
+) (con-at t) con.Post
+con-same-length-3 t c =
+    c .before .before .before .before .tail .kept .1 .1 .1 .1 .0 ∙ c .before .before .before .before .before .before .before .before .before .before .before .before .before .before .con-head .kept .1 .1 .1 .1 .0
+
+con-same-length-4 : (t : ℕ) → con-lts.Need-same-length-4 (
+  con-head-below t,
+  con-head.Post,
+  tail-below t,
+  tail.Post,
+  op-tail-below t,
+  op-tail.Post,
+) (con-at t) con.Post
+con-same-length-4 t c =
+    c .before .before .before .before .tail .kept .1 .1 .1 .1 .1 .0 ∙ c .before .before .before .before .before .before .before .before .before .before .before .before .before .before .con-head .kept .1 .1 .1 .1 .1 .0
+
+con-returns-2 : (t : ℕ) → con-lts.Need-returns-2 (
+  con-head-below t,
+  con-head.Post,
+  tail-below t,
+  tail.Post,
+  op-tail-below t,
+  op-tail.Post,
+) (con-at t) con.Post
+unfolding pat.conPat pat.patTail plan choose chosen
+con-returns-2 t c =
+    let falls = c .before .before .before .before .before .before .before .before .before .before .before .before .before .before .before .before .before .before .before .before .before .before .before .pre .0 in
+    let pre0 = c .before .before .before .before .before .before .before .before .before .before .before .before .before .before .before .before .before .before .before .before .before .before .before .pre .1 .0 in
+    let pre1 = c .before .before .before .before .before .before .before .before .before .before .before .before .before .before .before .before .before .before .before .before .before .before .before .pre .1 .1 in
+    let con-head = rw (c .before .before .before .before .before .before .before .before .head2 .given .1) at (c .before .before .before .before .before .before .before .before .before .before .before .before .before .before .con-head .ensures) in
+    let tail = c .before .before .before .before .tail .ensures in
+    in-steps pre0 (s-by _ con-head (s-run tail s-end))
+
+con-same-length-5 : (t : ℕ) → con-lts.Need-same-length-5 (
+  con-head-below t,
+  con-head.Post,
+  tail-below t,
+  tail.Post,
+  op-tail-below t,
+  op-tail.Post,
+) (con-at t) con.Post
+con-same-length-5 t c =
+    c .before .before .before .before .tail2 .kept .1 .1 .1 .1 .0 ∙ c .before .before .before .before .before .before .before .before .before .before .before .op-tail .kept .1 .1 .1 .1 .0 ∙ c .before .before .before .before .before .before .before .before .before .before .before .before .before .before .before .before .before .before .before .before .before .con-head .kept .1 .1 .1 .1 .0
+
+con-same-length-6 : (t : ℕ) → con-lts.Need-same-length-6 (
+  con-head-below t,
+  con-head.Post,
+  tail-below t,
+  tail.Post,
+  op-tail-below t,
+  op-tail.Post,
+) (con-at t) con.Post
+con-same-length-6 t c =
+    c .before .before .before .before .tail2 .kept .1 .1 .1 .1 .1 .0 ∙ c .before .before .before .before .before .before .before .before .before .before .before .op-tail .kept .1 .1 .1 .1 .1 .0 ∙ c .before .before .before .before .before .before .before .before .before .before .before .before .before .before .before .before .before .before .before .before .before .con-head .kept .1 .1 .1 .1 .1 .0
+
+con-returns-3 : (t : ℕ) → con-lts.Need-returns-3 (
+  con-head-below t,
+  con-head.Post,
+  tail-below t,
+  tail.Post,
+  op-tail-below t,
+  op-tail.Post,
+) (con-at t) con.Post
+unfolding pat.conPat pat.patTail plan choose chosen
+con-returns-3 t c =
+    let falls = c .before .before .before .before .before .before .before .before .before .before .before .before .before .before .before .before .before .before .before .before .before .before .before .before .before .before .before .before .before .before .pre .0 in
+    let pre0 = c .before .before .before .before .before .before .before .before .before .before .before .before .before .before .before .before .before .before .before .before .before .before .before .before .before .before .before .before .before .before .pre .1 .0 in
+    let pre1 = c .before .before .before .before .before .before .before .before .before .before .before .before .before .before .before .before .before .before .before .before .before .before .before .before .before .before .before .before .before .before .pre .1 .1 in
+    let con-head = rw (c .before .before .before .before .before .before .before .before .before .before .before .before .before .before .before .head3 .given .1) at (c .before .before .before .before .before .before .before .before .before .before .before .before .before .before .before .before .before .before .before .before .before .con-head .ensures) in
+    let op-tail = c .before .before .before .before .before .before .before .before .before .before .before .op-tail .ensures in
+    let tail2 = c .before .before .before .before .tail2 .ensures in
+    in-steps pre0 (s-by _ con-head (s-by _ op-tail (s-run tail2 s-end)))
+
+con-same-length-7 : (t : ℕ) → con-lts.Need-same-length-7 (
+  con-head-below t,
+  con-head.Post,
+  tail-below t,
+  tail.Post,
+  op-tail-below t,
+  op-tail.Post,
+) (con-at t) con.Post
+con-same-length-7 t c =
+    c .before .before .before .before .before .before .before .con-head .kept .1 .1 .1 .1 .0
+
+con-same-length-8 : (t : ℕ) → con-lts.Need-same-length-8 (
+  con-head-below t,
+  con-head.Post,
+  tail-below t,
+  tail.Post,
+  op-tail-below t,
+  op-tail.Post,
+) (con-at t) con.Post
+con-same-length-8 t c =
+    c .before .before .before .before .before .before .before .con-head .kept .1 .1 .1 .1 .1 .0
+
+con-returns-4 : (t : ℕ) → con-lts.Need-returns-4 (
+  con-head-below t,
+  con-head.Post,
+  tail-below t,
+  tail.Post,
+  op-tail-below t,
+  op-tail.Post,
+) (con-at t) con.Post
+unfolding pat.conPat pat.patTail plan choose chosen
+con-returns-4 t c =
+    let falls = c .before .before .before .before .before .before .before .before .before .before .before .before .before .before .before .before .pre .0 in
+    let pre0 = c .before .before .before .before .before .before .before .before .before .before .before .before .before .before .before .before .pre .1 .0 in
+    let pre1 = c .before .before .before .before .before .before .before .before .before .before .before .before .before .before .before .before .pre .1 .1 in
+    let con-head = rw (c .before .head4 .given .1) at (c .before .before .before .before .before .before .before .con-head .ensures) in
+    in-steps pre0 (s-by _ con-head s-end)
 
 con-head-refuse-requires : (t : ℕ) → con-head-lts.Need-refuse-requires (
   refuse-reads.Asked,
@@ -3735,11 +3359,7 @@ con-head-refuse-requires : (t : ℕ) → con-head-lts.Need-refuse-requires (
   con-turn.Post,
 ) (con-head-at t) con-head.Post
 con-head-refuse-requires t c κs =
-    let falls = c .before .before .before .before .before .before .before .pre .0 in
-    let pre0 = c .before .before .before .before .before .before .before .pre .1 .0 in
-    let pre1 = c .before .before .before .before .before .before .before .pre .1 .1 in
-    let if1 = c .if1 .taken in
-    search asks depth 8
+    tt
 
 con-head-returns : (t : ℕ) → con-head-lts.Need-returns (
   refuse-reads.Asked,
@@ -3775,11 +3395,7 @@ con-head-mark-requires : (t : ℕ) → con-head-lts.Need-mark-requires (
   con-turn.Post,
 ) (con-head-at t) con-head.Post
 con-head-mark-requires t c κs =
-    let falls = c .before .before .before .before .before .before .before .pre .0 in
-    let pre0 = c .before .before .before .before .before .before .before .pre .1 .0 in
-    let pre1 = c .before .before .before .before .before .before .before .pre .1 .1 in
-    let if1 = c .if1 .left in
-    search asks depth 8
+    tt
 
 con-head-sub-con-name : (t : ℕ) → con-head-lts.Need-sub-con-name (
   refuse-reads.Asked,
@@ -3813,13 +3429,10 @@ con-head-con-name-requires : (t : ℕ) → con-head-lts.Need-con-name-requires (
   con-turn.Post,
 ) (con-head-at t) con-head.Post
 con-head-con-name-requires t c κs =
-    let falls = c .before .before .before .before .before .before .before .before .before .before .pre .0 in
     let pre0 = c .before .before .before .before .before .before .before .before .before .before .pre .1 .0 in
-    let pre1 = c .before .before .before .before .before .before .before .before .before .before .pre .1 .1 in
-    let if1 = c .before .before .before .if1 .left in
     let mark = c .before .before .mark .ensures in
     let mark-ok = ok-marks mark pre0 in
-    search asks depth 8
+    mark-ok
 
 con-head-state-requires : (t : ℕ) → con-head-lts.Need-state-requires (
   refuse-reads.Asked,
@@ -3834,15 +3447,7 @@ con-head-state-requires : (t : ℕ) → con-head-lts.Need-state-requires (
   con-turn.Post,
 ) (con-head-at t) con-head.Post
 con-head-state-requires t c κs =
-    let falls = c .before .before .before .before .before .before .before .before .before .before .before .before .before .before .before .pre .0 in
-    let pre0 = c .before .before .before .before .before .before .before .before .before .before .before .before .before .before .before .pre .1 .0 in
-    let pre1 = c .before .before .before .before .before .before .before .before .before .before .before .before .before .before .before .pre .1 .1 in
-    let if1 = c .before .before .before .before .before .before .before .before .if1 .left in
-    let mark = c .before .before .before .before .before .before .before .mark .ensures in
-    let mark-ok = ok-marks mark pre0 in
-    let con-name = c .before .before .before .before .con-name .ensures in
-    let con-name-ok = con-name .ok in
-    search asks depth 8
+    tt
 
 con-head-sub-con-turn : (t : ℕ) → con-head-lts.Need-sub-con-turn (
   refuse-reads.Asked,
@@ -3877,16 +3482,13 @@ con-head-con-turn-requires : (t : ℕ) → con-head-lts.Need-con-turn-requires (
 ) (con-head-at t) con-head.Post
 con-head-con-turn-requires t c κs =
     let falls = c .before .before .before .before .before .before .before .before .before .before .before .before .before .before .before .before .before .before .pre .0 in
-    let pre0 = c .before .before .before .before .before .before .before .before .before .before .before .before .before .before .before .before .before .before .pre .1 .0 in
     let pre1 = c .before .before .before .before .before .before .before .before .before .before .before .before .before .before .before .before .before .before .pre .1 .1 in
     let if1 = c .before .before .before .before .before .before .before .before .before .before .before .if1 .left in
-    let mark = c .before .before .before .before .before .before .before .before .before .before .mark .ensures in
-    let mark-ok = ok-marks mark pre0 in
     let con-name = c .before .before .before .before .before .before .before .con-name .ensures in
     let con-name-ok = con-name .ok in
     let state = c .before .before .state .ensures in
     let state-ok = ok-state state con-name-ok in
-    search asks depth 8
+    (omega arith, (state-ok, pre1))
 
 con-head-same-length : (t : ℕ) → con-head-lts.Need-same-length (
   refuse-reads.Asked,
@@ -3942,281 +3544,6 @@ con-head-returns-2 t c =
     let con-turn = c .before .before .before .before .con-turn .ensures in
     in-steps pre0 (s-mark if1 mark (s-by _ (settled state (runs-in con-name)) (s-by _ con-turn s-end)))
 
-con-pat-con-head-requires : (t : ℕ) → con-pat-lts.Need-con-head-requires (
-  con-head-below t,
-  con-head.Post,
-  pat-tail-below t,
-  pat-tail.Post,
-  op-tail-below t,
-  op-tail.Post,
-) (con-pat-at t) con-pat.Post
-con-pat-con-head-requires t c κs =
-    let falls = c .before .before .before .before .before .before .before .before .pre .0 in
-    let pre0 = c .before .before .before .before .before .before .before .before .pre .1 .0 in
-    let pre1 = c .before .before .before .before .before .before .before .before .pre .1 .1 in
-    search asks depth 8
-
-con-pat-enum-known-head : (t : ℕ) → con-pat-lts.Need-enum-known-head (
-  con-head-below t,
-  con-head.Post,
-  pat-tail-below t,
-  pat-tail.Post,
-  op-tail-below t,
-  op-tail.Post,
-) (con-pat-at t) con-pat.Post
-con-pat-enum-known-head t c =
-    let falls = c .before .before .before .before .before .before .before .before .before .before .before .before .before .before .pre .0 in
-    let pre0 = c .before .before .before .before .before .before .before .before .before .before .before .before .before .before .pre .1 .0 in
-    let pre1 = c .before .before .before .before .before .before .before .before .before .before .before .before .before .before .pre .1 .1 in
-    search needs
-
-con-pat-enum-known-head-2 : (t : ℕ) → con-pat-lts.Need-enum-known-head-2 (
-  con-head-below t,
-  con-head.Post,
-  pat-tail-below t,
-  pat-tail.Post,
-  op-tail-below t,
-  op-tail.Post,
-) (con-pat-at t) con-pat.Post
-con-pat-enum-known-head-2 t c =
-    let falls = c .before .before .before .before .before .before .before .before .before .before .before .before .before .before .pre .0 in
-    let pre0 = c .before .before .before .before .before .before .before .before .before .before .before .before .before .before .pre .1 .0 in
-    let pre1 = c .before .before .before .before .before .before .before .before .before .before .before .before .before .before .pre .1 .1 in
-    search needs
-
-con-pat-pat-tail-requires : (t : ℕ) → con-pat-lts.Need-pat-tail-requires (
-  con-head-below t,
-  con-head.Post,
-  pat-tail-below t,
-  pat-tail.Post,
-  op-tail-below t,
-  op-tail.Post,
-) (con-pat-at t) con-pat.Post
-con-pat-pat-tail-requires t c κs =
-    let falls = c .before .before .before .before .before .before .before .before .before .before .before .before .before .before .before .before .before .before .pre .0 in
-    let pre0 = c .before .before .before .before .before .before .before .before .before .before .before .before .before .before .before .before .before .before .pre .1 .0 in
-    let pre1 = c .before .before .before .before .before .before .before .before .before .before .before .before .before .before .before .before .before .before .pre .1 .1 in
-    let con-head = rw (c .before .before .before .head2 .given .1) at (c .before .before .before .before .before .before .before .before .before .con-head .ensures) in
-    let con-head-ok = con-head .ok in
-    search asks depth 8
-
-con-pat-enum-known-head-3 : (t : ℕ) → con-pat-lts.Need-enum-known-head-3 (
-  con-head-below t,
-  con-head.Post,
-  pat-tail-below t,
-  pat-tail.Post,
-  op-tail-below t,
-  op-tail.Post,
-) (con-pat-at t) con-pat.Post
-con-pat-enum-known-head-3 t c =
-    let falls = c .before .before .before .before .before .before .before .before .before .before .before .before .before .before .pre .0 in
-    let pre0 = c .before .before .before .before .before .before .before .before .before .before .before .before .before .before .pre .1 .0 in
-    let pre1 = c .before .before .before .before .before .before .before .before .before .before .before .before .before .before .pre .1 .1 in
-    search needs
-
-con-pat-op-tail-requires : (t : ℕ) → con-pat-lts.Need-op-tail-requires (
-  con-head-below t,
-  con-head.Post,
-  pat-tail-below t,
-  pat-tail.Post,
-  op-tail-below t,
-  op-tail.Post,
-) (con-pat-at t) con-pat.Post
-con-pat-op-tail-requires t c κs =
-    let falls = c .before .before .before .before .before .before .before .before .before .before .before .before .before .before .before .before .before .before .pre .0 in
-    let pre0 = c .before .before .before .before .before .before .before .before .before .before .before .before .before .before .before .before .before .before .pre .1 .0 in
-    let pre1 = c .before .before .before .before .before .before .before .before .before .before .before .before .before .before .before .before .before .before .pre .1 .1 in
-    let con-head = rw (c .before .before .before .head3 .given .1) at (c .before .before .before .before .before .before .before .before .before .con-head .ensures) in
-    let con-head-ok = con-head .ok in
-    search asks depth 8
-
-con-pat-pat-tail-requires-2 : (t : ℕ) → con-pat-lts.Need-pat-tail-requires-2 (
-  con-head-below t,
-  con-head.Post,
-  pat-tail-below t,
-  pat-tail.Post,
-  op-tail-below t,
-  op-tail.Post,
-) (con-pat-at t) con-pat.Post
-con-pat-pat-tail-requires-2 t c κs =
-    let falls = c .before .before .before .before .before .before .before .before .before .before .before .before .before .before .before .before .before .before .before .before .before .before .before .before .before .pre .0 in
-    let pre0 = c .before .before .before .before .before .before .before .before .before .before .before .before .before .before .before .before .before .before .before .before .before .before .before .before .before .pre .1 .0 in
-    let pre1 = c .before .before .before .before .before .before .before .before .before .before .before .before .before .before .before .before .before .before .before .before .before .before .before .before .before .pre .1 .1 in
-    let con-head = rw (c .before .before .before .before .before .before .before .before .before .before .head3 .given .1) at (c .before .before .before .before .before .before .before .before .before .before .before .before .before .before .before .before .con-head .ensures) in
-    let con-head-ok = con-head .ok in
-    let op-tail = c .before .before .before .before .before .before .op-tail .ensures in
-    let op-tail-ok = op-tail .ok in
-    search asks depth 8
-
-con-pat-enum-known-head-4 : (t : ℕ) → con-pat-lts.Need-enum-known-head-4 (
-  con-head-below t,
-  con-head.Post,
-  pat-tail-below t,
-  pat-tail.Post,
-  op-tail-below t,
-  op-tail.Post,
-) (con-pat-at t) con-pat.Post
-con-pat-enum-known-head-4 t c =
-    let falls = c .before .before .before .before .before .before .before .before .before .before .before .before .before .before .pre .0 in
-    let pre0 = c .before .before .before .before .before .before .before .before .before .before .before .before .before .before .pre .1 .0 in
-    let pre1 = c .before .before .before .before .before .before .before .before .before .before .before .before .before .before .pre .1 .1 in
-    search needs
-
-con-pat-same-length : (t : ℕ) → con-pat-lts.Need-same-length (
-  con-head-below t,
-  con-head.Post,
-  pat-tail-below t,
-  pat-tail.Post,
-  op-tail-below t,
-  op-tail.Post,
-) (con-pat-at t) con-pat.Post
-con-pat-same-length t c =
-    c .before .before .before .before .before .before .before .con-head .kept .1 .1 .1 .1 .0
-
-con-pat-same-length-2 : (t : ℕ) → con-pat-lts.Need-same-length-2 (
-  con-head-below t,
-  con-head.Post,
-  pat-tail-below t,
-  pat-tail.Post,
-  op-tail-below t,
-  op-tail.Post,
-) (con-pat-at t) con-pat.Post
-con-pat-same-length-2 t c =
-    c .before .before .before .before .before .before .before .con-head .kept .1 .1 .1 .1 .1 .0
-
-con-pat-returns : (t : ℕ) → con-pat-lts.Need-returns (
-  con-head-below t,
-  con-head.Post,
-  pat-tail-below t,
-  pat-tail.Post,
-  op-tail-below t,
-  op-tail.Post,
-) (con-pat-at t) con-pat.Post
-unfolding pat.conPat pat.patTail plan choose chosen
-con-pat-returns t c =
-    let falls = c .before .before .before .before .before .before .before .before .before .before .before .before .before .before .before .before .pre .0 in
-    let pre0 = c .before .before .before .before .before .before .before .before .before .before .before .before .before .before .before .before .pre .1 .0 in
-    let pre1 = c .before .before .before .before .before .before .before .before .before .before .before .before .before .before .before .before .pre .1 .1 in
-    let con-head = rw (c .before .head .given .1) at (c .before .before .before .before .before .before .before .con-head .ensures) in
-    in-steps pre0 (s-by _ con-head s-end)
-
-con-pat-same-length-3 : (t : ℕ) → con-pat-lts.Need-same-length-3 (
-  con-head-below t,
-  con-head.Post,
-  pat-tail-below t,
-  pat-tail.Post,
-  op-tail-below t,
-  op-tail.Post,
-) (con-pat-at t) con-pat.Post
-con-pat-same-length-3 t c =
-    c .before .before .before .before .pat-tail .kept .1 .1 .1 .1 .0 ∙ c .before .before .before .before .before .before .before .before .before .before .before .before .before .before .con-head .kept .1 .1 .1 .1 .0
-
-con-pat-same-length-4 : (t : ℕ) → con-pat-lts.Need-same-length-4 (
-  con-head-below t,
-  con-head.Post,
-  pat-tail-below t,
-  pat-tail.Post,
-  op-tail-below t,
-  op-tail.Post,
-) (con-pat-at t) con-pat.Post
-con-pat-same-length-4 t c =
-    c .before .before .before .before .pat-tail .kept .1 .1 .1 .1 .1 .0 ∙ c .before .before .before .before .before .before .before .before .before .before .before .before .before .before .con-head .kept .1 .1 .1 .1 .1 .0
-
-con-pat-returns-2 : (t : ℕ) → con-pat-lts.Need-returns-2 (
-  con-head-below t,
-  con-head.Post,
-  pat-tail-below t,
-  pat-tail.Post,
-  op-tail-below t,
-  op-tail.Post,
-) (con-pat-at t) con-pat.Post
-unfolding pat.conPat pat.patTail plan choose chosen
-con-pat-returns-2 t c =
-    let falls = c .before .before .before .before .before .before .before .before .before .before .before .before .before .before .before .before .before .before .before .before .before .before .before .pre .0 in
-    let pre0 = c .before .before .before .before .before .before .before .before .before .before .before .before .before .before .before .before .before .before .before .before .before .before .before .pre .1 .0 in
-    let pre1 = c .before .before .before .before .before .before .before .before .before .before .before .before .before .before .before .before .before .before .before .before .before .before .before .pre .1 .1 in
-    let con-head = rw (c .before .before .before .before .before .before .before .before .head2 .given .1) at (c .before .before .before .before .before .before .before .before .before .before .before .before .before .before .con-head .ensures) in
-    let pat-tail = c .before .before .before .before .pat-tail .ensures in
-    in-steps pre0 (s-by _ con-head (s-run pat-tail s-end))
-
-con-pat-same-length-5 : (t : ℕ) → con-pat-lts.Need-same-length-5 (
-  con-head-below t,
-  con-head.Post,
-  pat-tail-below t,
-  pat-tail.Post,
-  op-tail-below t,
-  op-tail.Post,
-) (con-pat-at t) con-pat.Post
-con-pat-same-length-5 t c =
-    c .before .before .before .before .pat-tail2 .kept .1 .1 .1 .1 .0 ∙ c .before .before .before .before .before .before .before .before .before .before .before .op-tail .kept .1 .1 .1 .1 .0 ∙ c .before .before .before .before .before .before .before .before .before .before .before .before .before .before .before .before .before .before .before .before .before .con-head .kept .1 .1 .1 .1 .0
-
-con-pat-same-length-6 : (t : ℕ) → con-pat-lts.Need-same-length-6 (
-  con-head-below t,
-  con-head.Post,
-  pat-tail-below t,
-  pat-tail.Post,
-  op-tail-below t,
-  op-tail.Post,
-) (con-pat-at t) con-pat.Post
-con-pat-same-length-6 t c =
-    c .before .before .before .before .pat-tail2 .kept .1 .1 .1 .1 .1 .0 ∙ c .before .before .before .before .before .before .before .before .before .before .before .op-tail .kept .1 .1 .1 .1 .1 .0 ∙ c .before .before .before .before .before .before .before .before .before .before .before .before .before .before .before .before .before .before .before .before .before .con-head .kept .1 .1 .1 .1 .1 .0
-
-con-pat-returns-3 : (t : ℕ) → con-pat-lts.Need-returns-3 (
-  con-head-below t,
-  con-head.Post,
-  pat-tail-below t,
-  pat-tail.Post,
-  op-tail-below t,
-  op-tail.Post,
-) (con-pat-at t) con-pat.Post
-unfolding pat.conPat pat.patTail plan choose chosen
-con-pat-returns-3 t c =
-    let falls = c .before .before .before .before .before .before .before .before .before .before .before .before .before .before .before .before .before .before .before .before .before .before .before .before .before .before .before .before .before .before .pre .0 in
-    let pre0 = c .before .before .before .before .before .before .before .before .before .before .before .before .before .before .before .before .before .before .before .before .before .before .before .before .before .before .before .before .before .before .pre .1 .0 in
-    let pre1 = c .before .before .before .before .before .before .before .before .before .before .before .before .before .before .before .before .before .before .before .before .before .before .before .before .before .before .before .before .before .before .pre .1 .1 in
-    let con-head = rw (c .before .before .before .before .before .before .before .before .before .before .before .before .before .before .before .head3 .given .1) at (c .before .before .before .before .before .before .before .before .before .before .before .before .before .before .before .before .before .before .before .before .before .con-head .ensures) in
-    let op-tail = c .before .before .before .before .before .before .before .before .before .before .before .op-tail .ensures in
-    let pat-tail2 = c .before .before .before .before .pat-tail2 .ensures in
-    in-steps pre0 (s-by _ con-head (s-by _ op-tail (s-run pat-tail2 s-end)))
-
-con-pat-same-length-7 : (t : ℕ) → con-pat-lts.Need-same-length-7 (
-  con-head-below t,
-  con-head.Post,
-  pat-tail-below t,
-  pat-tail.Post,
-  op-tail-below t,
-  op-tail.Post,
-) (con-pat-at t) con-pat.Post
-con-pat-same-length-7 t c =
-    c .before .before .before .before .before .before .before .con-head .kept .1 .1 .1 .1 .0
-
-con-pat-same-length-8 : (t : ℕ) → con-pat-lts.Need-same-length-8 (
-  con-head-below t,
-  con-head.Post,
-  pat-tail-below t,
-  pat-tail.Post,
-  op-tail-below t,
-  op-tail.Post,
-) (con-pat-at t) con-pat.Post
-con-pat-same-length-8 t c =
-    c .before .before .before .before .before .before .before .con-head .kept .1 .1 .1 .1 .1 .0
-
-con-pat-returns-4 : (t : ℕ) → con-pat-lts.Need-returns-4 (
-  con-head-below t,
-  con-head.Post,
-  pat-tail-below t,
-  pat-tail.Post,
-  op-tail-below t,
-  op-tail.Post,
-) (con-pat-at t) con-pat.Post
-unfolding pat.conPat pat.patTail plan choose chosen
-con-pat-returns-4 t c =
-    let falls = c .before .before .before .before .before .before .before .before .before .before .before .before .before .before .before .before .pre .0 in
-    let pre0 = c .before .before .before .before .before .before .before .before .before .before .before .before .before .before .before .before .pre .1 .0 in
-    let pre1 = c .before .before .before .before .before .before .before .before .before .before .before .before .before .before .before .before .pre .1 .1 in
-    let con-head = rw (c .before .head4 .given .1) at (c .before .before .before .before .before .before .before .con-head .ensures) in
-    in-steps pre0 (s-by _ con-head s-end)
-
 con-turn-peek-requires : (t : ℕ) → con-turn-lts.Need-peek-requires (
   peek-reads.Asked,
   peek-reads.Learnt,
@@ -4226,18 +3553,16 @@ con-turn-peek-requires : (t : ℕ) → con-turn-lts.Need-peek-requires (
   name-star-reads.Learnt,
   fixity-at-reads.Asked,
   fixity-at-reads.Learnt,
-  at-pat-must-below t,
-  at-pat-must.Post,
+  at-must-below t,
+  at-must.Post,
   con-op-reads.Asked,
   con-op-reads.Learnt,
   arg-reads.Asked,
   arg-reads.Learnt,
 ) (con-turn-at t) con-turn.Post
 con-turn-peek-requires t c κs =
-    let falls = c .before .before .before .before .before .before .pre .0 in
     let pre0 = c .before .before .before .before .before .before .pre .1 .0 in
-    let pre1 = c .before .before .before .before .before .before .pre .1 .1 in
-    search asks depth 8
+    pre0 .reads
 
 con-turn-enum-known-k : (t : ℕ) → con-turn-lts.Need-enum-known-k (
   peek-reads.Asked,
@@ -4248,8 +3573,8 @@ con-turn-enum-known-k : (t : ℕ) → con-turn-lts.Need-enum-known-k (
   name-star-reads.Learnt,
   fixity-at-reads.Asked,
   fixity-at-reads.Learnt,
-  at-pat-must-below t,
-  at-pat-must.Post,
+  at-must-below t,
+  at-must.Post,
   con-op-reads.Asked,
   con-op-reads.Learnt,
   arg-reads.Asked,
@@ -4270,8 +3595,8 @@ con-turn-enum-told : (t : ℕ) → con-turn-lts.Need-enum-told (
   name-star-reads.Learnt,
   fixity-at-reads.Asked,
   fixity-at-reads.Learnt,
-  at-pat-must-below t,
-  at-pat-must.Post,
+  at-must-below t,
+  at-must.Post,
   con-op-reads.Asked,
   con-op-reads.Learnt,
   arg-reads.Asked,
@@ -4292,19 +3617,17 @@ con-turn-close-requires : (t : ℕ) → con-turn-lts.Need-close-requires (
   name-star-reads.Learnt,
   fixity-at-reads.Asked,
   fixity-at-reads.Learnt,
-  at-pat-must-below t,
-  at-pat-must.Post,
+  at-must-below t,
+  at-must.Post,
   con-op-reads.Asked,
   con-op-reads.Learnt,
   arg-reads.Asked,
   arg-reads.Learnt,
 ) (con-turn-at t) con-turn.Post
 con-turn-close-requires t c κs =
-    let falls = c .before .before .before .before .before .before .before .before .before .before .pre .0 in
     let pre0 = c .before .before .before .before .before .before .before .before .before .before .pre .1 .0 in
     let pre1 = c .before .before .before .before .before .before .before .before .before .before .pre .1 .1 in
-    let peek = rw (c .before .enum-told .given .1) at (c .before .before .before .peek .ensures) in
-    search asks depth 8
+    (pre0 .logs, pre1)
 
 con-turn-same-length : (t : ℕ) → con-turn-lts.Need-same-length (
   peek-reads.Asked,
@@ -4315,8 +3638,8 @@ con-turn-same-length : (t : ℕ) → con-turn-lts.Need-same-length (
   name-star-reads.Learnt,
   fixity-at-reads.Asked,
   fixity-at-reads.Learnt,
-  at-pat-must-below t,
-  at-pat-must.Post,
+  at-must-below t,
+  at-must.Post,
   con-op-reads.Asked,
   con-op-reads.Learnt,
   arg-reads.Asked,
@@ -4334,8 +3657,8 @@ con-turn-returns : (t : ℕ) → con-turn-lts.Need-returns (
   name-star-reads.Learnt,
   fixity-at-reads.Asked,
   fixity-at-reads.Learnt,
-  at-pat-must-below t,
-  at-pat-must.Post,
+  at-must-below t,
+  at-must.Post,
   con-op-reads.Asked,
   con-op-reads.Learnt,
   arg-reads.Asked,
@@ -4359,19 +3682,15 @@ con-turn-name-star-requires : (t : ℕ) → con-turn-lts.Need-name-star-requires
   name-star-reads.Learnt,
   fixity-at-reads.Asked,
   fixity-at-reads.Learnt,
-  at-pat-must-below t,
-  at-pat-must.Post,
+  at-must-below t,
+  at-must.Post,
   con-op-reads.Asked,
   con-op-reads.Learnt,
   arg-reads.Asked,
   arg-reads.Learnt,
 ) (con-turn-at t) con-turn.Post
 con-turn-name-star-requires t c κs =
-    let falls = c .before .before .before .before .before .before .before .before .before .before .pre .0 in
-    let pre0 = c .before .before .before .before .before .before .before .before .before .before .pre .1 .0 in
-    let pre1 = c .before .before .before .before .before .before .before .before .before .before .pre .1 .1 in
-    let peek = rw (c .before .k .given .1) at (c .before .before .before .peek .ensures) in
-    search asks depth 8
+    tt
 
 con-turn-fixity-at-requires : (t : ℕ) → con-turn-lts.Need-fixity-at-requires (
   peek-reads.Asked,
@@ -4382,21 +3701,16 @@ con-turn-fixity-at-requires : (t : ℕ) → con-turn-lts.Need-fixity-at-requires
   name-star-reads.Learnt,
   fixity-at-reads.Asked,
   fixity-at-reads.Learnt,
-  at-pat-must-below t,
-  at-pat-must.Post,
+  at-must-below t,
+  at-must.Post,
   con-op-reads.Asked,
   con-op-reads.Learnt,
   arg-reads.Asked,
   arg-reads.Learnt,
 ) (con-turn-at t) con-turn.Post
 con-turn-fixity-at-requires t c κs =
-    let falls = c .before .before .before .before .before .before .before .before .before .before .before .before .pre .0 in
     let pre0 = c .before .before .before .before .before .before .before .before .before .before .before .before .pre .1 .0 in
-    let pre1 = c .before .before .before .before .before .before .before .before .before .before .before .before .pre .1 .1 in
-    let peek = rw (c .before .before .before .k .given .1) at (c .before .before .before .before .before .peek .ensures) in
-    let name-star = c .before .name-star .ensures in
-    let if1 = c .if1 .taken in
-    search asks depth 8
+    (pre0 .reads, pre0 .names, pre0 .stands)
 
 con-turn-enum-told-2 : (t : ℕ) → con-turn-lts.Need-enum-told-2 (
   peek-reads.Asked,
@@ -4407,8 +3721,8 @@ con-turn-enum-told-2 : (t : ℕ) → con-turn-lts.Need-enum-told-2 (
   name-star-reads.Learnt,
   fixity-at-reads.Asked,
   fixity-at-reads.Learnt,
-  at-pat-must-below t,
-  at-pat-must.Post,
+  at-must-below t,
+  at-must.Post,
   con-op-reads.Asked,
   con-op-reads.Learnt,
   arg-reads.Asked,
@@ -4421,7 +3735,7 @@ con-turn-enum-told-2 t c =
     let if1 = c .before .before .if1 .taken in
     search needs
 
-con-turn-at-pat-must-requires : (t : ℕ) → con-turn-lts.Need-at-pat-must-requires (
+con-turn-at-must-requires : (t : ℕ) → con-turn-lts.Need-at-must-requires (
   peek-reads.Asked,
   peek-reads.Learnt,
   close-reads.Asked,
@@ -4430,22 +3744,19 @@ con-turn-at-pat-must-requires : (t : ℕ) → con-turn-lts.Need-at-pat-must-requ
   name-star-reads.Learnt,
   fixity-at-reads.Asked,
   fixity-at-reads.Learnt,
-  at-pat-must-below t,
-  at-pat-must.Post,
+  at-must-below t,
+  at-must.Post,
   con-op-reads.Asked,
   con-op-reads.Learnt,
   arg-reads.Asked,
   arg-reads.Learnt,
 ) (con-turn-at t) con-turn.Post
-con-turn-at-pat-must-requires t c κs =
+con-turn-at-must-requires t c κs =
     let falls = c .before .before .before .before .before .before .before .before .before .before .before .before .before .before .before .before .before .pre .0 in
     let pre0 = c .before .before .before .before .before .before .before .before .before .before .before .before .before .before .before .before .before .pre .1 .0 in
     let pre1 = c .before .before .before .before .before .before .before .before .before .before .before .before .before .before .before .before .before .pre .1 .1 in
-    let peek = rw (c .before .before .before .before .before .before .before .before .k .given .1) at (c .before .before .before .before .before .before .before .before .before .before .peek .ensures) in
-    let name-star = c .before .before .before .before .before .before .name-star .ensures in
     let if1 = c .before .before .before .before .before .if1 .taken in
-    let fixity-at = rw (c .before .before .enum-told2 .given .1) at (c .before .before .before .before .fixity-at .ensures) in
-    search asks depth 8
+    (omega arith, pre0)
 
 con-turn-close-requires-2 : (t : ℕ) → con-turn-lts.Need-close-requires-2 (
   peek-reads.Asked,
@@ -4456,24 +3767,18 @@ con-turn-close-requires-2 : (t : ℕ) → con-turn-lts.Need-close-requires-2 (
   name-star-reads.Learnt,
   fixity-at-reads.Asked,
   fixity-at-reads.Learnt,
-  at-pat-must-below t,
-  at-pat-must.Post,
+  at-must-below t,
+  at-must.Post,
   con-op-reads.Asked,
   con-op-reads.Learnt,
   arg-reads.Asked,
   arg-reads.Learnt,
 ) (con-turn-at t) con-turn.Post
 con-turn-close-requires-2 t c κs =
-    let falls = c .before .before .before .before .before .before .before .before .before .before .before .before .before .before .before .before .before .before .before .before .before .before .before .pre .0 in
-    let pre0 = c .before .before .before .before .before .before .before .before .before .before .before .before .before .before .before .before .before .before .before .before .before .before .before .pre .1 .0 in
     let pre1 = c .before .before .before .before .before .before .before .before .before .before .before .before .before .before .before .before .before .before .before .before .before .before .before .pre .1 .1 in
-    let peek = rw (c .before .before .before .before .before .before .before .before .before .before .before .before .before .before .k .given .1) at (c .before .before .before .before .before .before .before .before .before .before .before .before .before .before .before .before .peek .ensures) in
-    let name-star = c .before .before .before .before .before .before .before .before .before .before .before .before .name-star .ensures in
-    let if1 = c .before .before .before .before .before .before .before .before .before .before .before .if1 .taken in
-    let fixity-at = rw (c .before .before .before .before .before .before .before .before .enum-told2 .given .1) at (c .before .before .before .before .before .before .before .before .before .before .fixity-at .ensures) in
-    let at-pat-must = c .before .before .before .before .before .at-pat-must .ensures in
-    let at-pat-must-ok = at-pat-must .ok in
-    search asks depth 8
+    let at-must = c .before .before .before .before .before .at-must .ensures in
+    let at-must-ok = at-must .ok in
+    (at-must-ok .logs, pre1)
 
 con-turn-same-length-2 : (t : ℕ) → con-turn-lts.Need-same-length-2 (
   peek-reads.Asked,
@@ -4484,15 +3789,15 @@ con-turn-same-length-2 : (t : ℕ) → con-turn-lts.Need-same-length-2 (
   name-star-reads.Learnt,
   fixity-at-reads.Asked,
   fixity-at-reads.Learnt,
-  at-pat-must-below t,
-  at-pat-must.Post,
+  at-must-below t,
+  at-must.Post,
   con-op-reads.Asked,
   con-op-reads.Learnt,
   arg-reads.Asked,
   arg-reads.Learnt,
 ) (con-turn-at t) con-turn.Post
 con-turn-same-length-2 t c =
-    c .before .before .close2 .kept .0 ∙ c .before .before .before .before .before .before .before .before .at-pat-must .kept .1 .1 .1 .1 .0
+    c .before .before .close2 .kept .0 ∙ c .before .before .before .before .before .before .before .before .at-must .kept .1 .1 .1 .1 .0
 
 con-turn-same-length-3 : (t : ℕ) → con-turn-lts.Need-same-length-3 (
   peek-reads.Asked,
@@ -4503,15 +3808,15 @@ con-turn-same-length-3 : (t : ℕ) → con-turn-lts.Need-same-length-3 (
   name-star-reads.Learnt,
   fixity-at-reads.Asked,
   fixity-at-reads.Learnt,
-  at-pat-must-below t,
-  at-pat-must.Post,
+  at-must-below t,
+  at-must.Post,
   con-op-reads.Asked,
   con-op-reads.Learnt,
   arg-reads.Asked,
   arg-reads.Learnt,
 ) (con-turn-at t) con-turn.Post
 con-turn-same-length-3 t c =
-    c .before .before .before .before .before .before .before .before .at-pat-must .kept .1 .1 .1 .1 .1 .0
+    c .before .before .before .before .before .before .before .before .at-must .kept .1 .1 .1 .1 .1 .0
 
 con-turn-returns-2 : (t : ℕ) → con-turn-lts.Need-returns-2 (
   peek-reads.Asked,
@@ -4522,8 +3827,8 @@ con-turn-returns-2 : (t : ℕ) → con-turn-lts.Need-returns-2 (
   name-star-reads.Learnt,
   fixity-at-reads.Asked,
   fixity-at-reads.Learnt,
-  at-pat-must-below t,
-  at-pat-must.Post,
+  at-must-below t,
+  at-must.Post,
   con-op-reads.Asked,
   con-op-reads.Learnt,
   arg-reads.Asked,
@@ -4538,9 +3843,9 @@ con-turn-returns-2 t c =
     let name-star = c .before .before .before .before .before .before .before .before .before .before .before .before .before .before .before .name-star .ensures in
     let if1 = c .before .before .before .before .before .before .before .before .before .before .before .before .before .before .if1 .taken in
     let fixity-at = rw (c .before .before .before .before .before .before .before .before .before .before .before .enum-told2 .given .1) at (c .before .before .before .before .before .before .before .before .before .before .before .before .before .fixity-at .ensures) in
-    let at-pat-must = c .before .before .before .before .before .before .before .before .at-pat-must .ensures in
+    let at-must = c .before .before .before .before .before .before .before .before .at-must .ensures in
     let close2 = c .before .before .close2 .ensures in
-    in-steps pre0 (s-look peek (s-true _ _ (test-true name-star if1) (s-fixed fixity-at (s-by _ (runs-in at-pat-must) (s-close close2 s-end)))))
+    in-steps pre0 (s-look peek (s-true _ _ (test-true name-star if1) (s-fixed fixity-at (s-by _ (runs-in at-must) (s-close close2 s-end)))))
 
 con-turn-enum-known-fix : (t : ℕ) → con-turn-lts.Need-enum-known-fix (
   peek-reads.Asked,
@@ -4551,8 +3856,8 @@ con-turn-enum-known-fix : (t : ℕ) → con-turn-lts.Need-enum-known-fix (
   name-star-reads.Learnt,
   fixity-at-reads.Asked,
   fixity-at-reads.Learnt,
-  at-pat-must-below t,
-  at-pat-must.Post,
+  at-must-below t,
+  at-must.Post,
   con-op-reads.Asked,
   con-op-reads.Learnt,
   arg-reads.Asked,
@@ -4574,22 +3879,17 @@ con-turn-con-op-requires : (t : ℕ) → con-turn-lts.Need-con-op-requires (
   name-star-reads.Learnt,
   fixity-at-reads.Asked,
   fixity-at-reads.Learnt,
-  at-pat-must-below t,
-  at-pat-must.Post,
+  at-must-below t,
+  at-must.Post,
   con-op-reads.Asked,
   con-op-reads.Learnt,
   arg-reads.Asked,
   arg-reads.Learnt,
 ) (con-turn-at t) con-turn.Post
 con-turn-con-op-requires t c κs =
-    let falls = c .before .before .before .before .before .before .before .before .before .before .before .before .before .before .before .before .before .before .pre .0 in
     let pre0 = c .before .before .before .before .before .before .before .before .before .before .before .before .before .before .before .before .before .before .pre .1 .0 in
     let pre1 = c .before .before .before .before .before .before .before .before .before .before .before .before .before .before .before .before .before .before .pre .1 .1 in
-    let peek = rw (c .before .before .before .before .before .before .before .before .before .k .given .1) at (c .before .before .before .before .before .before .before .before .before .before .before .peek .ensures) in
-    let name-star = c .before .before .before .before .before .before .before .name-star .ensures in
-    let if1 = c .before .before .before .before .before .before .if1 .taken in
-    let fixity-at = rw (c .before .before .before .fix .given .1) at (c .before .before .before .before .before .fixity-at .ensures) in
-    search asks depth 8
+    (pre0, pre1)
 
 con-turn-same-length-4 : (t : ℕ) → con-turn-lts.Need-same-length-4 (
   peek-reads.Asked,
@@ -4600,8 +3900,8 @@ con-turn-same-length-4 : (t : ℕ) → con-turn-lts.Need-same-length-4 (
   name-star-reads.Learnt,
   fixity-at-reads.Asked,
   fixity-at-reads.Learnt,
-  at-pat-must-below t,
-  at-pat-must.Post,
+  at-must-below t,
+  at-must.Post,
   con-op-reads.Asked,
   con-op-reads.Learnt,
   arg-reads.Asked,
@@ -4619,8 +3919,8 @@ con-turn-same-length-5 : (t : ℕ) → con-turn-lts.Need-same-length-5 (
   name-star-reads.Learnt,
   fixity-at-reads.Asked,
   fixity-at-reads.Learnt,
-  at-pat-must-below t,
-  at-pat-must.Post,
+  at-must-below t,
+  at-must.Post,
   con-op-reads.Asked,
   con-op-reads.Learnt,
   arg-reads.Asked,
@@ -4638,8 +3938,8 @@ con-turn-returns-3 : (t : ℕ) → con-turn-lts.Need-returns-3 (
   name-star-reads.Learnt,
   fixity-at-reads.Asked,
   fixity-at-reads.Learnt,
-  at-pat-must-below t,
-  at-pat-must.Post,
+  at-must-below t,
+  at-must.Post,
   con-op-reads.Asked,
   con-op-reads.Learnt,
   arg-reads.Asked,
@@ -4666,23 +3966,17 @@ con-turn-arg-requires : (t : ℕ) → con-turn-lts.Need-arg-requires (
   name-star-reads.Learnt,
   fixity-at-reads.Asked,
   fixity-at-reads.Learnt,
-  at-pat-must-below t,
-  at-pat-must.Post,
+  at-must-below t,
+  at-must.Post,
   con-op-reads.Asked,
   con-op-reads.Learnt,
   arg-reads.Asked,
   arg-reads.Learnt,
 ) (con-turn-at t) con-turn.Post
 con-turn-arg-requires t c κs =
-    let falls = c .before .before .before .before .before .before .before .before .before .before .before .before .pre .0 in
-    let pre0 = c .before .before .before .before .before .before .before .before .before .before .before .before .pre .1 .0 in
-    let pre1 = c .before .before .before .before .before .before .before .before .before .before .before .before .pre .1 .1 in
-    let peek = rw (c .before .before .before .k .given .1) at (c .before .before .before .before .before .peek .ensures) in
-    let name-star = c .before .name-star .ensures in
-    let if1 = c .if1 .left in
-    search asks depth 8
+    tt
 
-con-turn-at-pat-must-requires-2 : (t : ℕ) → con-turn-lts.Need-at-pat-must-requires-2 (
+con-turn-at-must-requires-2 : (t : ℕ) → con-turn-lts.Need-at-must-requires-2 (
   peek-reads.Asked,
   peek-reads.Learnt,
   close-reads.Asked,
@@ -4691,23 +3985,20 @@ con-turn-at-pat-must-requires-2 : (t : ℕ) → con-turn-lts.Need-at-pat-must-re
   name-star-reads.Learnt,
   fixity-at-reads.Asked,
   fixity-at-reads.Learnt,
-  at-pat-must-below t,
-  at-pat-must.Post,
+  at-must-below t,
+  at-must.Post,
   con-op-reads.Asked,
   con-op-reads.Learnt,
   arg-reads.Asked,
   arg-reads.Learnt,
 ) (con-turn-at t) con-turn.Post
-con-turn-at-pat-must-requires-2 t c κs =
+con-turn-at-must-requires-2 t c κs =
     let falls = c .before .before .before .before .before .before .before .before .before .before .before .before .before .before .before .before .pre .0 in
     let pre0 = c .before .before .before .before .before .before .before .before .before .before .before .before .before .before .before .before .pre .1 .0 in
     let pre1 = c .before .before .before .before .before .before .before .before .before .before .before .before .before .before .before .before .pre .1 .1 in
-    let peek = rw (c .before .before .before .before .before .before .before .k .given .1) at (c .before .before .before .before .before .before .before .before .before .peek .ensures) in
-    let name-star = c .before .before .before .before .before .name-star .ensures in
     let if1 = c .before .before .before .before .if1 .left in
-    let arg = c .before .before .before .arg .ensures in
     let if2 = c .before .before .if2 .taken in
-    search asks depth 8
+    (omega arith, pre0)
 
 con-turn-close-requires-3 : (t : ℕ) → con-turn-lts.Need-close-requires-3 (
   peek-reads.Asked,
@@ -4718,25 +4009,18 @@ con-turn-close-requires-3 : (t : ℕ) → con-turn-lts.Need-close-requires-3 (
   name-star-reads.Learnt,
   fixity-at-reads.Asked,
   fixity-at-reads.Learnt,
-  at-pat-must-below t,
-  at-pat-must.Post,
+  at-must-below t,
+  at-must.Post,
   con-op-reads.Asked,
   con-op-reads.Learnt,
   arg-reads.Asked,
   arg-reads.Learnt,
 ) (con-turn-at t) con-turn.Post
 con-turn-close-requires-3 t c κs =
-    let falls = c .before .before .before .before .before .before .before .before .before .before .before .before .before .before .before .before .before .before .before .before .before .before .pre .0 in
-    let pre0 = c .before .before .before .before .before .before .before .before .before .before .before .before .before .before .before .before .before .before .before .before .before .before .pre .1 .0 in
     let pre1 = c .before .before .before .before .before .before .before .before .before .before .before .before .before .before .before .before .before .before .before .before .before .before .pre .1 .1 in
-    let peek = rw (c .before .before .before .before .before .before .before .before .before .before .before .before .before .k .given .1) at (c .before .before .before .before .before .before .before .before .before .before .before .before .before .before .before .peek .ensures) in
-    let name-star = c .before .before .before .before .before .before .before .before .before .before .before .name-star .ensures in
-    let if1 = c .before .before .before .before .before .before .before .before .before .before .if1 .left in
-    let arg = c .before .before .before .before .before .before .before .before .before .arg .ensures in
-    let if2 = c .before .before .before .before .before .before .before .before .if2 .taken in
-    let at-pat-must2 = c .before .before .before .before .before .at-pat-must2 .ensures in
-    let at-pat-must2-ok = at-pat-must2 .ok in
-    search asks depth 8
+    let at-must2 = c .before .before .before .before .before .at-must2 .ensures in
+    let at-must2-ok = at-must2 .ok in
+    (at-must2-ok .logs, pre1)
 
 con-turn-same-length-6 : (t : ℕ) → con-turn-lts.Need-same-length-6 (
   peek-reads.Asked,
@@ -4747,15 +4031,15 @@ con-turn-same-length-6 : (t : ℕ) → con-turn-lts.Need-same-length-6 (
   name-star-reads.Learnt,
   fixity-at-reads.Asked,
   fixity-at-reads.Learnt,
-  at-pat-must-below t,
-  at-pat-must.Post,
+  at-must-below t,
+  at-must.Post,
   con-op-reads.Asked,
   con-op-reads.Learnt,
   arg-reads.Asked,
   arg-reads.Learnt,
 ) (con-turn-at t) con-turn.Post
 con-turn-same-length-6 t c =
-    c .before .before .close3 .kept .0 ∙ c .before .before .before .before .before .before .before .before .at-pat-must2 .kept .1 .1 .1 .1 .0
+    c .before .before .close3 .kept .0 ∙ c .before .before .before .before .before .before .before .before .at-must2 .kept .1 .1 .1 .1 .0
 
 con-turn-same-length-7 : (t : ℕ) → con-turn-lts.Need-same-length-7 (
   peek-reads.Asked,
@@ -4766,15 +4050,15 @@ con-turn-same-length-7 : (t : ℕ) → con-turn-lts.Need-same-length-7 (
   name-star-reads.Learnt,
   fixity-at-reads.Asked,
   fixity-at-reads.Learnt,
-  at-pat-must-below t,
-  at-pat-must.Post,
+  at-must-below t,
+  at-must.Post,
   con-op-reads.Asked,
   con-op-reads.Learnt,
   arg-reads.Asked,
   arg-reads.Learnt,
 ) (con-turn-at t) con-turn.Post
 con-turn-same-length-7 t c =
-    c .before .before .before .before .before .before .before .before .at-pat-must2 .kept .1 .1 .1 .1 .1 .0
+    c .before .before .before .before .before .before .before .before .at-must2 .kept .1 .1 .1 .1 .1 .0
 
 con-turn-returns-4 : (t : ℕ) → con-turn-lts.Need-returns-4 (
   peek-reads.Asked,
@@ -4785,8 +4069,8 @@ con-turn-returns-4 : (t : ℕ) → con-turn-lts.Need-returns-4 (
   name-star-reads.Learnt,
   fixity-at-reads.Asked,
   fixity-at-reads.Learnt,
-  at-pat-must-below t,
-  at-pat-must.Post,
+  at-must-below t,
+  at-must.Post,
   con-op-reads.Asked,
   con-op-reads.Learnt,
   arg-reads.Asked,
@@ -4802,9 +4086,9 @@ con-turn-returns-4 t c =
     let if1 = c .before .before .before .before .before .before .before .before .before .before .before .before .before .if1 .left in
     let arg = c .before .before .before .before .before .before .before .before .before .before .before .before .arg .ensures in
     let if2 = c .before .before .before .before .before .before .before .before .before .before .before .if2 .taken in
-    let at-pat-must2 = c .before .before .before .before .before .before .before .before .at-pat-must2 .ensures in
+    let at-must2 = c .before .before .before .before .before .before .before .before .at-must2 .ensures in
     let close3 = c .before .before .close3 .ensures in
-    in-steps pre0 (s-look peek (s-false _ _ (test-false name-star if1) (s-true _ _ (test-true arg if2) (s-by _ (runs-in at-pat-must2) (s-close close3 s-end)))))
+    in-steps pre0 (s-look peek (s-false _ _ (test-false name-star if1) (s-true _ _ (test-true arg if2) (s-by _ (runs-in at-must2) (s-close close3 s-end)))))
 
 con-turn-close-requires-4 : (t : ℕ) → con-turn-lts.Need-close-requires-4 (
   peek-reads.Asked,
@@ -4815,23 +4099,17 @@ con-turn-close-requires-4 : (t : ℕ) → con-turn-lts.Need-close-requires-4 (
   name-star-reads.Learnt,
   fixity-at-reads.Asked,
   fixity-at-reads.Learnt,
-  at-pat-must-below t,
-  at-pat-must.Post,
+  at-must-below t,
+  at-must.Post,
   con-op-reads.Asked,
   con-op-reads.Learnt,
   arg-reads.Asked,
   arg-reads.Learnt,
 ) (con-turn-at t) con-turn.Post
 con-turn-close-requires-4 t c κs =
-    let falls = c .before .before .before .before .before .before .before .before .before .before .before .before .before .before .before .pre .0 in
     let pre0 = c .before .before .before .before .before .before .before .before .before .before .before .before .before .before .before .pre .1 .0 in
     let pre1 = c .before .before .before .before .before .before .before .before .before .before .before .before .before .before .before .pre .1 .1 in
-    let peek = rw (c .before .before .before .before .before .before .k .given .1) at (c .before .before .before .before .before .before .before .before .peek .ensures) in
-    let name-star = c .before .before .before .before .name-star .ensures in
-    let if1 = c .before .before .before .if1 .left in
-    let arg = c .before .before .arg .ensures in
-    let if2 = c .before .if2 .left in
-    search asks depth 8
+    (pre0 .logs, pre1)
 
 con-turn-same-length-8 : (t : ℕ) → con-turn-lts.Need-same-length-8 (
   peek-reads.Asked,
@@ -4842,8 +4120,8 @@ con-turn-same-length-8 : (t : ℕ) → con-turn-lts.Need-same-length-8 (
   name-star-reads.Learnt,
   fixity-at-reads.Asked,
   fixity-at-reads.Learnt,
-  at-pat-must-below t,
-  at-pat-must.Post,
+  at-must-below t,
+  at-must.Post,
   con-op-reads.Asked,
   con-op-reads.Learnt,
   arg-reads.Asked,
@@ -4861,8 +4139,8 @@ con-turn-returns-5 : (t : ℕ) → con-turn-lts.Need-returns-5 (
   name-star-reads.Learnt,
   fixity-at-reads.Asked,
   fixity-at-reads.Learnt,
-  at-pat-must-below t,
-  at-pat-must.Post,
+  at-must-below t,
+  at-must.Post,
   con-op-reads.Asked,
   con-op-reads.Learnt,
   arg-reads.Asked,
@@ -4881,7 +4159,7 @@ con-turn-returns-5 t c =
     let close4 = c .before .before .close4 .ensures in
     in-steps pre0 (s-look peek (s-false _ _ (test-false name-star if1) (s-false _ _ (test-false arg if2) (s-close close4 s-end))))
 
-infix-pat-refuse-requires : (t : ℕ) → infix-pat-lts.Need-refuse-requires (
+inf-pat-refuse-requires : (t : ℕ) → inf-pat-lts.Need-refuse-requires (
   refuse-reads.Asked,
   refuse-reads.Learnt,
   mark-reads.Asked,
@@ -4892,15 +4170,11 @@ infix-pat-refuse-requires : (t : ℕ) → infix-pat-lts.Need-refuse-requires (
   pat-must.Post,
   close-reads.Asked,
   close-reads.Learnt,
-) (infix-pat-at t) infix-pat.Post
-infix-pat-refuse-requires t c κs =
-    let falls = c .before .before .before .before .before .before .before .pre .0 in
-    let pre0 = c .before .before .before .before .before .before .before .pre .1 .0 in
-    let pre1 = c .before .before .before .before .before .before .before .pre .1 .1 in
-    let if1 = c .if1 .taken in
-    search asks depth 8
+) (inf-pat-at t) inf-pat.Post
+inf-pat-refuse-requires t c κs =
+    tt
 
-infix-pat-returns : (t : ℕ) → infix-pat-lts.Need-returns (
+inf-pat-returns : (t : ℕ) → inf-pat-lts.Need-returns (
   refuse-reads.Asked,
   refuse-reads.Learnt,
   mark-reads.Asked,
@@ -4911,9 +4185,9 @@ infix-pat-returns : (t : ℕ) → infix-pat-lts.Need-returns (
   pat-must.Post,
   close-reads.Asked,
   close-reads.Learnt,
-) (infix-pat-at t) infix-pat.Post
+) (inf-pat-at t) inf-pat.Post
 unfolding pat.infixPat plan choose chosen
-infix-pat-returns t c =
+inf-pat-returns t c =
     let falls = c .before .before .before .before .before .before .before .before .pre .0 in
     let pre0 = c .before .before .before .before .before .before .before .before .pre .1 .0 in
     let pre1 = c .before .before .before .before .before .before .before .before .pre .1 .1 in
@@ -4921,7 +4195,7 @@ infix-pat-returns t c =
     let refuse = c .refuse .ensures in
     in-steps pre0 (s-deep if1 refuse s-end)
 
-infix-pat-mark-requires : (t : ℕ) → infix-pat-lts.Need-mark-requires (
+inf-pat-mark-requires : (t : ℕ) → inf-pat-lts.Need-mark-requires (
   refuse-reads.Asked,
   refuse-reads.Learnt,
   mark-reads.Asked,
@@ -4932,15 +4206,11 @@ infix-pat-mark-requires : (t : ℕ) → infix-pat-lts.Need-mark-requires (
   pat-must.Post,
   close-reads.Asked,
   close-reads.Learnt,
-) (infix-pat-at t) infix-pat.Post
-infix-pat-mark-requires t c κs =
-    let falls = c .before .before .before .before .before .before .before .before .pre .0 in
-    let pre0 = c .before .before .before .before .before .before .before .before .pre .1 .0 in
-    let pre1 = c .before .before .before .before .before .before .before .before .pre .1 .1 in
-    let if1 = c .before .if1 .left in
-    search asks depth 8
+) (inf-pat-at t) inf-pat.Post
+inf-pat-mark-requires t c κs =
+    tt
 
-infix-pat-bump-requires : (t : ℕ) → infix-pat-lts.Need-bump-requires (
+inf-pat-bump-requires : (t : ℕ) → inf-pat-lts.Need-bump-requires (
   refuse-reads.Asked,
   refuse-reads.Learnt,
   mark-reads.Asked,
@@ -4951,17 +4221,14 @@ infix-pat-bump-requires : (t : ℕ) → infix-pat-lts.Need-bump-requires (
   pat-must.Post,
   close-reads.Asked,
   close-reads.Learnt,
-) (infix-pat-at t) infix-pat.Post
-infix-pat-bump-requires t c κs =
-    let falls = c .before .before .before .before .before .before .before .before .before .pre .0 in
+) (inf-pat-at t) inf-pat.Post
+inf-pat-bump-requires t c κs =
     let pre0 = c .before .before .before .before .before .before .before .before .before .pre .1 .0 in
-    let pre1 = c .before .before .before .before .before .before .before .before .before .pre .1 .1 in
-    let if1 = c .before .before .if1 .left in
     let mark = c .mark .ensures in
     let mark-ok = ok-marks mark pre0 in
-    search asks depth 8
+    (mark-ok .reads, mark-ok .logs)
 
-infix-pat-sub-pat-must : (t : ℕ) → infix-pat-lts.Need-sub-pat-must (
+inf-pat-sub-pat-must : (t : ℕ) → inf-pat-lts.Need-sub-pat-must (
   refuse-reads.Asked,
   refuse-reads.Learnt,
   mark-reads.Asked,
@@ -4972,15 +4239,15 @@ infix-pat-sub-pat-must : (t : ℕ) → infix-pat-lts.Need-sub-pat-must (
   pat-must.Post,
   close-reads.Asked,
   close-reads.Learnt,
-) (infix-pat-at t) infix-pat.Post
-infix-pat-sub-pat-must t c =
+) (inf-pat-at t) inf-pat.Post
+inf-pat-sub-pat-must t c =
     let falls = c .before .before .before .before .before .before .before .before .before .before .before .before .before .before .pre .0 in
     let pre0 = c .before .before .before .before .before .before .before .before .before .before .before .before .before .before .pre .1 .0 in
     let pre1 = c .before .before .before .before .before .before .before .before .before .before .before .before .before .before .pre .1 .1 in
     let if1 = c .before .before .before .before .before .before .before .if1 .left in
     search needs
 
-infix-pat-pat-must-requires : (t : ℕ) → infix-pat-lts.Need-pat-must-requires (
+inf-pat-pat-must-requires : (t : ℕ) → inf-pat-lts.Need-pat-must-requires (
   refuse-reads.Asked,
   refuse-reads.Learnt,
   mark-reads.Asked,
@@ -4991,8 +4258,8 @@ infix-pat-pat-must-requires : (t : ℕ) → infix-pat-lts.Need-pat-must-requires
   pat-must.Post,
   close-reads.Asked,
   close-reads.Learnt,
-) (infix-pat-at t) infix-pat.Post
-infix-pat-pat-must-requires t c κs =
+) (inf-pat-at t) inf-pat.Post
+inf-pat-pat-must-requires t c κs =
     let falls = c .before .before .before .before .before .before .before .before .before .before .before .before .before .before .pre .0 in
     let pre0 = c .before .before .before .before .before .before .before .before .before .before .before .before .before .before .pre .1 .0 in
     let pre1 = c .before .before .before .before .before .before .before .before .before .before .before .before .before .before .pre .1 .1 in
@@ -5001,9 +4268,9 @@ infix-pat-pat-must-requires t c κs =
     let mark-ok = ok-marks mark pre0 in
     let bump = c .before .before .before .before .bump .ensures in
     let bump-ok = ok-bumps bump mark-ok in
-    search asks depth 8
+    (omega arith, bump-ok)
 
-infix-pat-close-requires : (t : ℕ) → infix-pat-lts.Need-close-requires (
+inf-pat-close-requires : (t : ℕ) → inf-pat-lts.Need-close-requires (
   refuse-reads.Asked,
   refuse-reads.Learnt,
   mark-reads.Asked,
@@ -5014,21 +4281,14 @@ infix-pat-close-requires : (t : ℕ) → infix-pat-lts.Need-close-requires (
   pat-must.Post,
   close-reads.Asked,
   close-reads.Learnt,
-) (infix-pat-at t) infix-pat.Post
-infix-pat-close-requires t c κs =
-    let falls = c .before .before .before .before .before .before .before .before .before .before .before .before .before .before .before .before .before .before .before .before .pre .0 in
-    let pre0 = c .before .before .before .before .before .before .before .before .before .before .before .before .before .before .before .before .before .before .before .before .pre .1 .0 in
+) (inf-pat-at t) inf-pat.Post
+inf-pat-close-requires t c κs =
     let pre1 = c .before .before .before .before .before .before .before .before .before .before .before .before .before .before .before .before .before .before .before .before .pre .1 .1 in
-    let if1 = c .before .before .before .before .before .before .before .before .before .before .before .before .before .if1 .left in
-    let mark = c .before .before .before .before .before .before .before .before .before .before .before .mark .ensures in
-    let mark-ok = ok-marks mark pre0 in
-    let bump = c .before .before .before .before .before .before .before .before .before .before .bump .ensures in
-    let bump-ok = ok-bumps bump mark-ok in
     let pat-must = c .before .before .before .before .before .pat-must .ensures in
     let pat-must-ok = pat-must .ok in
-    search asks depth 8
+    (pat-must-ok .logs, pre1)
 
-infix-pat-same-length : (t : ℕ) → infix-pat-lts.Need-same-length (
+inf-pat-same-length : (t : ℕ) → inf-pat-lts.Need-same-length (
   refuse-reads.Asked,
   refuse-reads.Learnt,
   mark-reads.Asked,
@@ -5039,11 +4299,11 @@ infix-pat-same-length : (t : ℕ) → infix-pat-lts.Need-same-length (
   pat-must.Post,
   close-reads.Asked,
   close-reads.Learnt,
-) (infix-pat-at t) infix-pat.Post
-infix-pat-same-length t c =
+) (inf-pat-at t) inf-pat.Post
+inf-pat-same-length t c =
     c .before .before .close .kept .0 ∙ c .before .before .before .before .before .before .before .before .pat-must .kept .1 .1 .1 .1 .0 ∙ c .before .before .before .before .before .before .before .before .before .before .before .before .before .bump .kept .1 .0
 
-infix-pat-same-length-2 : (t : ℕ) → infix-pat-lts.Need-same-length-2 (
+inf-pat-same-length-2 : (t : ℕ) → inf-pat-lts.Need-same-length-2 (
   refuse-reads.Asked,
   refuse-reads.Learnt,
   mark-reads.Asked,
@@ -5054,11 +4314,11 @@ infix-pat-same-length-2 : (t : ℕ) → infix-pat-lts.Need-same-length-2 (
   pat-must.Post,
   close-reads.Asked,
   close-reads.Learnt,
-) (infix-pat-at t) infix-pat.Post
-infix-pat-same-length-2 t c =
+) (inf-pat-at t) inf-pat.Post
+inf-pat-same-length-2 t c =
     c .before .before .before .before .before .before .before .before .pat-must .kept .1 .1 .1 .1 .1 .0
 
-infix-pat-returns-2 : (t : ℕ) → infix-pat-lts.Need-returns-2 (
+inf-pat-returns-2 : (t : ℕ) → inf-pat-lts.Need-returns-2 (
   refuse-reads.Asked,
   refuse-reads.Learnt,
   mark-reads.Asked,
@@ -5069,9 +4329,9 @@ infix-pat-returns-2 : (t : ℕ) → infix-pat-lts.Need-returns-2 (
   pat-must.Post,
   close-reads.Asked,
   close-reads.Learnt,
-) (infix-pat-at t) infix-pat.Post
+) (inf-pat-at t) inf-pat.Post
 unfolding pat.infixPat plan choose chosen
-infix-pat-returns-2 t c =
+inf-pat-returns-2 t c =
     let falls = c .before .before .before .before .before .before .before .before .before .before .before .before .before .before .before .before .before .before .before .before .before .before .before .pre .0 in
     let pre0 = c .before .before .before .before .before .before .before .before .before .before .before .before .before .before .before .before .before .before .before .before .before .before .before .pre .1 .0 in
     let pre1 = c .before .before .before .before .before .before .before .before .before .before .before .before .before .before .before .before .before .before .before .before .before .before .before .pre .1 .1 in
@@ -5091,14 +4351,12 @@ op-step-fixity-at-requires : (t : ℕ) → op-step-lts.Need-fixity-at-requires (
   report-reads.Learnt,
   should-break-pat-reads.Asked,
   should-break-pat-reads.Learnt,
-  infix-pat-below t,
-  infix-pat.Post,
+  inf-pat-below t,
+  inf-pat.Post,
 ) (op-step-at t) op-step.Post
 op-step-fixity-at-requires t c κs =
-    let falls = c .before .before .before .before .before .before .pre .0 in
     let pre0 = c .before .before .before .before .before .before .pre .1 .0 in
-    let pre1 = c .before .before .before .before .before .before .pre .1 .1 in
-    search asks depth 8
+    (pre0 .reads, pre0 .names, pre0 .stands)
 
 op-step-enum-told : (t : ℕ) → op-step-lts.Need-enum-told (
   fixity-at-reads.Asked,
@@ -5109,8 +4367,8 @@ op-step-enum-told : (t : ℕ) → op-step-lts.Need-enum-told (
   report-reads.Learnt,
   should-break-pat-reads.Asked,
   should-break-pat-reads.Learnt,
-  infix-pat-below t,
-  infix-pat.Post,
+  inf-pat-below t,
+  inf-pat.Post,
 ) (op-step-at t) op-step.Post
 op-step-enum-told t c =
     let falls = c .before .before .before .before .before .before .before .before .pre .0 in
@@ -5127,15 +4385,11 @@ op-step-index-requires : (t : ℕ) → op-step-lts.Need-index-requires (
   report-reads.Learnt,
   should-break-pat-reads.Asked,
   should-break-pat-reads.Learnt,
-  infix-pat-below t,
-  infix-pat.Post,
+  inf-pat-below t,
+  inf-pat.Post,
 ) (op-step-at t) op-step.Post
 op-step-index-requires t c κs =
-    let falls = c .before .before .before .before .before .before .before .before .before .pre .0 in
-    let pre0 = c .before .before .before .before .before .before .before .before .before .pre .1 .0 in
-    let pre1 = c .before .before .before .before .before .before .before .before .before .pre .1 .1 in
-    let fixity-at = rw (c .enum-told .given .1) at (c .before .before .fixity-at .ensures) in
-    search asks depth 8
+    tt
 
 op-step-report-requires : (t : ℕ) → op-step-lts.Need-report-requires (
   fixity-at-reads.Asked,
@@ -5146,17 +4400,16 @@ op-step-report-requires : (t : ℕ) → op-step-lts.Need-report-requires (
   report-reads.Learnt,
   should-break-pat-reads.Asked,
   should-break-pat-reads.Learnt,
-  infix-pat-below t,
-  infix-pat.Post,
+  inf-pat-below t,
+  inf-pat.Post,
 ) (op-step-at t) op-step.Post
 op-step-report-requires t c κs =
     let falls = c .before .before .before .before .before .before .before .before .before .before .before .pre .0 in
     let pre0 = c .before .before .before .before .before .before .before .before .before .before .before .pre .1 .0 in
     let pre1 = c .before .before .before .before .before .before .before .before .before .before .before .pre .1 .1 in
-    let fixity-at = rw (c .before .before .enum-told .given .1) at (c .before .before .before .before .fixity-at .ensures) in
     let index = c .before .index .ensures in
     let index-small = small-index index pre0 in
-    search asks depth 8
+    (pre0 .holds, (let few = pre0 .reads .few in let inside = pre0 .reads .inside in omega arith), omega arith)
 
 op-step-enum-known-fix : (t : ℕ) → op-step-lts.Need-enum-known-fix (
   fixity-at-reads.Asked,
@@ -5167,8 +4420,8 @@ op-step-enum-known-fix : (t : ℕ) → op-step-lts.Need-enum-known-fix (
   report-reads.Learnt,
   should-break-pat-reads.Asked,
   should-break-pat-reads.Learnt,
-  infix-pat-below t,
-  infix-pat.Post,
+  inf-pat-below t,
+  inf-pat.Post,
 ) (op-step-at t) op-step.Post
 op-step-enum-known-fix t c =
     let falls = c .before .before .before .before .before .before .before .before .pre .0 in
@@ -5185,15 +4438,12 @@ op-step-should-break-pat-requires : (t : ℕ) → op-step-lts.Need-should-break-
   report-reads.Learnt,
   should-break-pat-reads.Asked,
   should-break-pat-reads.Learnt,
-  infix-pat-below t,
-  infix-pat.Post,
+  inf-pat-below t,
+  inf-pat.Post,
 ) (op-step-at t) op-step.Post
 op-step-should-break-pat-requires t c κs =
-    let falls = c .before .before .before .before .before .before .before .before .before .before .before .before .pre .0 in
     let pre0 = c .before .before .before .before .before .before .before .before .before .before .before .before .pre .1 .0 in
-    let pre1 = c .before .before .before .before .before .before .before .before .before .before .before .before .pre .1 .1 in
-    let fixity-at = rw (c .before .before .before .fix .given .1) at (c .before .before .before .before .before .fixity-at .ensures) in
-    search asks depth 8
+    pre0
 
 op-step-enum-known-ends : (t : ℕ) → op-step-lts.Need-enum-known-ends (
   fixity-at-reads.Asked,
@@ -5204,8 +4454,8 @@ op-step-enum-known-ends : (t : ℕ) → op-step-lts.Need-enum-known-ends (
   report-reads.Learnt,
   should-break-pat-reads.Asked,
   should-break-pat-reads.Learnt,
-  infix-pat-below t,
-  infix-pat.Post,
+  inf-pat-below t,
+  inf-pat.Post,
 ) (op-step-at t) op-step.Post
 op-step-enum-known-ends t c =
     let falls = c .before .before .before .before .before .before .before .before .before .before .before .before .before .before .before .before .before .before .pre .0 in
@@ -5222,8 +4472,8 @@ op-step-enum-known-ends-2 : (t : ℕ) → op-step-lts.Need-enum-known-ends-2 (
   report-reads.Learnt,
   should-break-pat-reads.Asked,
   should-break-pat-reads.Learnt,
-  infix-pat-below t,
-  infix-pat.Post,
+  inf-pat-below t,
+  inf-pat.Post,
 ) (op-step-at t) op-step.Post
 op-step-enum-known-ends-2 t c =
     let falls = c .before .before .before .before .before .before .before .before .before .before .before .before .before .before .before .before .before .before .pre .0 in
@@ -5231,7 +4481,7 @@ op-step-enum-known-ends-2 t c =
     let pre1 = c .before .before .before .before .before .before .before .before .before .before .before .before .before .before .before .before .before .before .pre .1 .1 in
     search needs
 
-op-step-infix-pat-requires : (t : ℕ) → op-step-lts.Need-infix-pat-requires (
+op-step-inf-pat-requires : (t : ℕ) → op-step-lts.Need-inf-pat-requires (
   fixity-at-reads.Asked,
   fixity-at-reads.Learnt,
   index-reads.Asked,
@@ -5240,17 +4490,15 @@ op-step-infix-pat-requires : (t : ℕ) → op-step-lts.Need-infix-pat-requires (
   report-reads.Learnt,
   should-break-pat-reads.Asked,
   should-break-pat-reads.Learnt,
-  infix-pat-below t,
-  infix-pat.Post,
+  inf-pat-below t,
+  inf-pat.Post,
 ) (op-step-at t) op-step.Post
-op-step-infix-pat-requires t c κs =
+op-step-inf-pat-requires t c κs =
     let falls = c .before .before .before .before .before .before .before .before .before .before .before .before .before .before .before .before .before .before .before .before .before .before .pre .0 in
-    let pre0 = c .before .before .before .before .before .before .before .before .before .before .before .before .before .before .before .before .before .before .before .before .before .before .pre .1 .0 in
     let pre1 = c .before .before .before .before .before .before .before .before .before .before .before .before .before .before .before .before .before .before .before .before .before .before .pre .1 .1 in
-    let fixity-at = rw (c .before .before .before .before .before .before .before .before .before .before .before .before .before .fix .given .1) at (c .before .before .before .before .before .before .before .before .before .before .before .before .before .before .before .fixity-at .ensures) in
     let should-break-pat = rw (c .before .before .before .ends2 .given .1) at (c .before .before .before .before .before .before .before .before .before .should-break-pat .ensures) in
     let should-break-pat-ok = should-break-pat true .ok in
-    search asks depth 8
+    (omega arith, (should-break-pat-ok, pre1))
 
 op-step-same-length : (t : ℕ) → op-step-lts.Need-same-length (
   fixity-at-reads.Asked,
@@ -5261,8 +4509,8 @@ op-step-same-length : (t : ℕ) → op-step-lts.Need-same-length (
   report-reads.Learnt,
   should-break-pat-reads.Asked,
   should-break-pat-reads.Learnt,
-  infix-pat-below t,
-  infix-pat.Post,
+  inf-pat-below t,
+  inf-pat.Post,
 ) (op-step-at t) op-step.Post
 op-step-same-length t c =
     c .before .before .report .kept .0
@@ -5276,8 +4524,8 @@ op-step-returns : (t : ℕ) → op-step-lts.Need-returns (
   report-reads.Learnt,
   should-break-pat-reads.Asked,
   should-break-pat-reads.Learnt,
-  infix-pat-below t,
-  infix-pat.Post,
+  inf-pat-below t,
+  inf-pat.Post,
 ) (op-step-at t) op-step.Post
 unfolding pat.opStep plan choose chosen
 op-step-returns t c =
@@ -5298,8 +4546,8 @@ op-step-same-length-2 : (t : ℕ) → op-step-lts.Need-same-length-2 (
   report-reads.Learnt,
   should-break-pat-reads.Asked,
   should-break-pat-reads.Learnt,
-  infix-pat-below t,
-  infix-pat.Post,
+  inf-pat-below t,
+  inf-pat.Post,
 ) (op-step-at t) op-step.Post
 op-step-same-length-2 t c =
     c .before .before .before .before .before .before .before .should-break-pat .kept .1 .1 .1 .1 .0
@@ -5313,8 +4561,8 @@ op-step-same-length-3 : (t : ℕ) → op-step-lts.Need-same-length-3 (
   report-reads.Learnt,
   should-break-pat-reads.Asked,
   should-break-pat-reads.Learnt,
-  infix-pat-below t,
-  infix-pat.Post,
+  inf-pat-below t,
+  inf-pat.Post,
 ) (op-step-at t) op-step.Post
 op-step-same-length-3 t c =
     c .before .before .before .before .before .before .before .should-break-pat .kept .1 .1 .1 .1 .1 .0
@@ -5328,8 +4576,8 @@ op-step-returns-2 : (t : ℕ) → op-step-lts.Need-returns-2 (
   report-reads.Learnt,
   should-break-pat-reads.Asked,
   should-break-pat-reads.Learnt,
-  infix-pat-below t,
-  infix-pat.Post,
+  inf-pat-below t,
+  inf-pat.Post,
 ) (op-step-at t) op-step.Post
 unfolding pat.opStep plan choose chosen
 op-step-returns-2 t c =
@@ -5349,11 +4597,11 @@ op-step-same-length-4 : (t : ℕ) → op-step-lts.Need-same-length-4 (
   report-reads.Learnt,
   should-break-pat-reads.Asked,
   should-break-pat-reads.Learnt,
-  infix-pat-below t,
-  infix-pat.Post,
+  inf-pat-below t,
+  inf-pat.Post,
 ) (op-step-at t) op-step.Post
 op-step-same-length-4 t c =
-    c .before .before .before .before .infix-pat .kept .1 .1 .1 .1 .0 ∙ c .before .before .before .before .before .before .before .before .before .before .before .before .before .before .should-break-pat .kept .1 .1 .1 .1 .0
+    c .before .before .before .before .inf-pat .kept .1 .1 .1 .1 .0 ∙ c .before .before .before .before .before .before .before .before .before .before .before .before .before .before .should-break-pat .kept .1 .1 .1 .1 .0
 
 op-step-same-length-5 : (t : ℕ) → op-step-lts.Need-same-length-5 (
   fixity-at-reads.Asked,
@@ -5364,11 +4612,11 @@ op-step-same-length-5 : (t : ℕ) → op-step-lts.Need-same-length-5 (
   report-reads.Learnt,
   should-break-pat-reads.Asked,
   should-break-pat-reads.Learnt,
-  infix-pat-below t,
-  infix-pat.Post,
+  inf-pat-below t,
+  inf-pat.Post,
 ) (op-step-at t) op-step.Post
 op-step-same-length-5 t c =
-    c .before .before .before .before .infix-pat .kept .1 .1 .1 .1 .1 .0 ∙ c .before .before .before .before .before .before .before .before .before .before .before .before .before .before .should-break-pat .kept .1 .1 .1 .1 .1 .0
+    c .before .before .before .before .inf-pat .kept .1 .1 .1 .1 .1 .0 ∙ c .before .before .before .before .before .before .before .before .before .before .before .before .before .before .should-break-pat .kept .1 .1 .1 .1 .1 .0
 
 op-step-returns-3 : (t : ℕ) → op-step-lts.Need-returns-3 (
   fixity-at-reads.Asked,
@@ -5379,8 +4627,8 @@ op-step-returns-3 : (t : ℕ) → op-step-lts.Need-returns-3 (
   report-reads.Learnt,
   should-break-pat-reads.Asked,
   should-break-pat-reads.Learnt,
-  infix-pat-below t,
-  infix-pat.Post,
+  inf-pat-below t,
+  inf-pat.Post,
 ) (op-step-at t) op-step.Post
 unfolding pat.opStep plan choose chosen
 op-step-returns-3 t c =
@@ -5389,26 +4637,24 @@ op-step-returns-3 t c =
     let pre1 = c .before .before .before .before .before .before .before .before .before .before .before .before .before .before .before .before .before .before .before .before .before .before .before .before .before .before .before .pre .1 .1 in
     let fixity-at = rw (c .before .before .before .before .before .before .before .before .before .before .before .before .before .before .before .before .before .before .fix .given .1) at (c .before .before .before .before .before .before .before .before .before .before .before .before .before .before .before .before .before .before .before .before .fixity-at .ensures) in
     let should-break-pat = rw (c .before .before .before .before .before .before .before .before .ends2 .given .1) at (c .before .before .before .before .before .before .before .before .before .before .before .before .before .before .should-break-pat .ensures) in
-    let infix-pat = c .before .before .before .before .infix-pat .ensures in
-    in-steps pre0 (s-fixed fixity-at (s-by _ (runs-always (should-break-pat _)) (s-by _ infix-pat s-end)))
+    let inf-pat = c .before .before .before .before .inf-pat .ensures in
+    in-steps pre0 (s-fixed fixity-at (s-by _ (runs-always (should-break-pat _)) (s-by _ inf-pat s-end)))
 
 op-tail-fixity-at-requires : (t : ℕ) → op-tail-lts.Need-fixity-at-requires (
   fixity-at-reads.Asked,
   fixity-at-reads.Learnt,
-  infix-pat-below t,
-  infix-pat.Post,
+  inf-pat-below t,
+  inf-pat.Post,
 ) (op-tail-at t) op-tail.Post
 op-tail-fixity-at-requires t c κs =
-    let falls = c .before .before .before .before .before .before .pre .0 in
     let pre0 = c .before .before .before .before .before .before .pre .1 .0 in
-    let pre1 = c .before .before .before .before .before .before .pre .1 .1 in
-    search asks depth 8
+    (pre0 .reads, pre0 .names, pre0 .stands)
 
 op-tail-enum-told : (t : ℕ) → op-tail-lts.Need-enum-told (
   fixity-at-reads.Asked,
   fixity-at-reads.Learnt,
-  infix-pat-below t,
-  infix-pat.Post,
+  inf-pat-below t,
+  inf-pat.Post,
 ) (op-tail-at t) op-tail.Post
 op-tail-enum-told t c =
     let falls = c .before .before .before .before .before .before .before .before .pre .0 in
@@ -5419,8 +4665,8 @@ op-tail-enum-told t c =
 op-tail-enum-known-fix : (t : ℕ) → op-tail-lts.Need-enum-known-fix (
   fixity-at-reads.Asked,
   fixity-at-reads.Learnt,
-  infix-pat-below t,
-  infix-pat.Post,
+  inf-pat-below t,
+  inf-pat.Post,
 ) (op-tail-at t) op-tail.Post
 op-tail-enum-known-fix t c =
     let falls = c .before .before .before .before .before .before .before .before .pre .0 in
@@ -5428,24 +4674,23 @@ op-tail-enum-known-fix t c =
     let pre1 = c .before .before .before .before .before .before .before .before .pre .1 .1 in
     search needs
 
-op-tail-infix-pat-requires : (t : ℕ) → op-tail-lts.Need-infix-pat-requires (
+op-tail-inf-pat-requires : (t : ℕ) → op-tail-lts.Need-inf-pat-requires (
   fixity-at-reads.Asked,
   fixity-at-reads.Learnt,
-  infix-pat-below t,
-  infix-pat.Post,
+  inf-pat-below t,
+  inf-pat.Post,
 ) (op-tail-at t) op-tail.Post
-op-tail-infix-pat-requires t c κs =
+op-tail-inf-pat-requires t c κs =
     let falls = c .before .before .before .before .before .before .before .before .before .before .before .before .pre .0 in
     let pre0 = c .before .before .before .before .before .before .before .before .before .before .before .before .pre .1 .0 in
     let pre1 = c .before .before .before .before .before .before .before .before .before .before .before .before .pre .1 .1 in
-    let fixity-at = rw (c .before .before .before .fix .given .1) at (c .before .before .before .before .before .fixity-at .ensures) in
-    search asks depth 8
+    (omega arith, (pre0, pre1))
 
 op-tail-returns : (t : ℕ) → op-tail-lts.Need-returns (
   fixity-at-reads.Asked,
   fixity-at-reads.Learnt,
-  infix-pat-below t,
-  infix-pat.Post,
+  inf-pat-below t,
+  inf-pat.Post,
 ) (op-tail-at t) op-tail.Post
 unfolding pat.opTail plan choose chosen
 op-tail-returns t c =
@@ -5458,26 +4703,26 @@ op-tail-returns t c =
 op-tail-same-length : (t : ℕ) → op-tail-lts.Need-same-length (
   fixity-at-reads.Asked,
   fixity-at-reads.Learnt,
-  infix-pat-below t,
-  infix-pat.Post,
+  inf-pat-below t,
+  inf-pat.Post,
 ) (op-tail-at t) op-tail.Post
 op-tail-same-length t c =
-    c .before .before .before .before .infix-pat .kept .1 .1 .1 .1 .0
+    c .before .before .before .before .inf-pat .kept .1 .1 .1 .1 .0
 
 op-tail-same-length-2 : (t : ℕ) → op-tail-lts.Need-same-length-2 (
   fixity-at-reads.Asked,
   fixity-at-reads.Learnt,
-  infix-pat-below t,
-  infix-pat.Post,
+  inf-pat-below t,
+  inf-pat.Post,
 ) (op-tail-at t) op-tail.Post
 op-tail-same-length-2 t c =
-    c .before .before .before .before .infix-pat .kept .1 .1 .1 .1 .1 .0
+    c .before .before .before .before .inf-pat .kept .1 .1 .1 .1 .1 .0
 
 op-tail-returns-2 : (t : ℕ) → op-tail-lts.Need-returns-2 (
   fixity-at-reads.Asked,
   fixity-at-reads.Learnt,
-  infix-pat-below t,
-  infix-pat.Post,
+  inf-pat-below t,
+  inf-pat.Post,
 ) (op-tail-at t) op-tail.Post
 unfolding pat.opTail plan choose chosen
 op-tail-returns-2 t c =
@@ -5485,8 +4730,8 @@ op-tail-returns-2 t c =
     let pre0 = c .before .before .before .before .before .before .before .before .before .before .before .before .before .before .before .before .before .pre .1 .0 in
     let pre1 = c .before .before .before .before .before .before .before .before .before .before .before .before .before .before .before .before .before .pre .1 .1 in
     let fixity-at = rw (c .before .before .before .before .before .before .before .before .fix .given .1) at (c .before .before .before .before .before .before .before .before .before .before .fixity-at .ensures) in
-    let infix-pat = c .before .before .before .before .infix-pat .ensures in
-    in-steps pre0 (s-fixed fixity-at (s-by _ infix-pat s-end))
+    let inf-pat = c .before .before .before .before .inf-pat .ensures in
+    in-steps pre0 (s-fixed fixity-at (s-by _ inf-pat s-end))
 
 or-step-is-min-requires : (t : ℕ) → or-step-lts.Need-is-min-requires (
   is-min-reads.Asked,
@@ -5503,10 +4748,7 @@ or-step-is-min-requires : (t : ℕ) → or-step-lts.Need-is-min-requires (
   close-reads.Learnt,
 ) (or-step-at t) or-step.Post
 or-step-is-min-requires t c κs =
-    let falls = c .before .before .before .before .before .before .pre .0 in
-    let pre0 = c .before .before .before .before .before .before .pre .1 .0 in
-    let pre1 = c .before .before .before .before .before .before .pre .1 .1 in
-    search asks depth 8
+    tt
 
 or-step-refuse-requires : (t : ℕ) → or-step-lts.Need-refuse-requires (
   is-min-reads.Asked,
@@ -5523,13 +4765,7 @@ or-step-refuse-requires : (t : ℕ) → or-step-lts.Need-refuse-requires (
   close-reads.Learnt,
 ) (or-step-at t) or-step.Post
 or-step-refuse-requires t c κs =
-    let falls = c .before .before .before .before .before .before .before .before .before .pre .0 in
-    let pre0 = c .before .before .before .before .before .before .before .before .before .pre .1 .0 in
-    let pre1 = c .before .before .before .before .before .before .before .before .before .pre .1 .1 in
-    let is-min = c .before .before .is-min .ensures in
-    let if1 = c .before .if1 .taken in
-    let if2 = c .if2 .taken in
-    search asks depth 8
+    tt
 
 or-step-returns : (t : ℕ) → or-step-lts.Need-returns (
   is-min-reads.Asked,
@@ -5571,13 +4807,7 @@ or-step-mark-requires : (t : ℕ) → or-step-lts.Need-mark-requires (
   close-reads.Learnt,
 ) (or-step-at t) or-step.Post
 or-step-mark-requires t c κs =
-    let falls = c .before .before .before .before .before .before .before .before .before .before .pre .0 in
-    let pre0 = c .before .before .before .before .before .before .before .before .before .before .pre .1 .0 in
-    let pre1 = c .before .before .before .before .before .before .before .before .before .before .pre .1 .1 in
-    let is-min = c .before .before .before .is-min .ensures in
-    let if1 = c .before .before .if1 .taken in
-    let if2 = c .before .if2 .left in
-    search asks depth 8
+    tt
 
 or-step-bump-requires : (t : ℕ) → or-step-lts.Need-bump-requires (
   is-min-reads.Asked,
@@ -5594,15 +4824,10 @@ or-step-bump-requires : (t : ℕ) → or-step-lts.Need-bump-requires (
   close-reads.Learnt,
 ) (or-step-at t) or-step.Post
 or-step-bump-requires t c κs =
-    let falls = c .before .before .before .before .before .before .before .before .before .before .before .pre .0 in
     let pre0 = c .before .before .before .before .before .before .before .before .before .before .before .pre .1 .0 in
-    let pre1 = c .before .before .before .before .before .before .before .before .before .before .before .pre .1 .1 in
-    let is-min = c .before .before .before .before .is-min .ensures in
-    let if1 = c .before .before .before .if1 .taken in
-    let if2 = c .before .before .if2 .left in
     let mark = c .mark .ensures in
     let mark-ok = ok-marks mark pre0 in
-    search asks depth 8
+    (mark-ok .reads, mark-ok .logs)
 
 or-step-sub-pat-must : (t : ℕ) → or-step-lts.Need-sub-pat-must (
   is-min-reads.Asked,
@@ -5644,14 +4869,13 @@ or-step-pat-must-requires t c κs =
     let falls = c .before .before .before .before .before .before .before .before .before .before .before .before .before .before .before .before .pre .0 in
     let pre0 = c .before .before .before .before .before .before .before .before .before .before .before .before .before .before .before .before .pre .1 .0 in
     let pre1 = c .before .before .before .before .before .before .before .before .before .before .before .before .before .before .before .before .pre .1 .1 in
-    let is-min = c .before .before .before .before .before .before .before .before .before .is-min .ensures in
     let if1 = c .before .before .before .before .before .before .before .before .if1 .taken in
     let if2 = c .before .before .before .before .before .before .before .if2 .left in
     let mark = c .before .before .before .before .before .mark .ensures in
     let mark-ok = ok-marks mark pre0 in
     let bump = c .before .before .before .before .bump .ensures in
     let bump-ok = ok-bumps bump mark-ok in
-    search asks depth 8
+    (omega arith, bump-ok)
 
 or-step-close-requires : (t : ℕ) → or-step-lts.Need-close-requires (
   is-min-reads.Asked,
@@ -5668,19 +4892,10 @@ or-step-close-requires : (t : ℕ) → or-step-lts.Need-close-requires (
   close-reads.Learnt,
 ) (or-step-at t) or-step.Post
 or-step-close-requires t c κs =
-    let falls = c .before .before .before .before .before .before .before .before .before .before .before .before .before .before .before .before .before .before .before .before .before .before .pre .0 in
-    let pre0 = c .before .before .before .before .before .before .before .before .before .before .before .before .before .before .before .before .before .before .before .before .before .before .pre .1 .0 in
     let pre1 = c .before .before .before .before .before .before .before .before .before .before .before .before .before .before .before .before .before .before .before .before .before .before .pre .1 .1 in
-    let is-min = c .before .before .before .before .before .before .before .before .before .before .before .before .before .before .before .is-min .ensures in
-    let if1 = c .before .before .before .before .before .before .before .before .before .before .before .before .before .before .if1 .taken in
-    let if2 = c .before .before .before .before .before .before .before .before .before .before .before .before .before .if2 .left in
-    let mark = c .before .before .before .before .before .before .before .before .before .before .before .mark .ensures in
-    let mark-ok = ok-marks mark pre0 in
-    let bump = c .before .before .before .before .before .before .before .before .before .before .bump .ensures in
-    let bump-ok = ok-bumps bump mark-ok in
     let pat-must = c .before .before .before .before .before .pat-must .ensures in
     let pat-must-ok = pat-must .ok in
-    search asks depth 8
+    (pat-must-ok .logs, pre1)
 
 or-step-same-length : (t : ℕ) → or-step-lts.Need-same-length (
   is-min-reads.Asked,
@@ -5784,10 +4999,7 @@ pat-arg-refuse-requires : (t : ℕ) → pat-arg-lts.Need-refuse-requires (
   close-reads.Learnt,
 ) (pat-arg-at t) pat-arg.Post
 pat-arg-refuse-requires t c κs =
-    let falls = c .before .before .before .before .before .before .before .pre .0 in
-    let pre0 = c .before .before .before .before .before .before .before .pre .1 in
-    let if1 = c .if1 .taken in
-    search asks depth 8
+    tt
 
 pat-arg-returns : (t : ℕ) → pat-arg-lts.Need-returns (
   refuse-reads.Asked,
@@ -5830,10 +5042,7 @@ pat-arg-mark-requires : (t : ℕ) → pat-arg-lts.Need-mark-requires (
   close-reads.Learnt,
 ) (pat-arg-at t) pat-arg.Post
 pat-arg-mark-requires t c κs =
-    let falls = c .before .before .before .before .before .before .before .pre .0 in
-    let pre0 = c .before .before .before .before .before .before .before .pre .1 in
-    let if1 = c .if1 .left in
-    search asks depth 8
+    tt
 
 pat-arg-sub-pat-must : (t : ℕ) → pat-arg-lts.Need-sub-pat-must (
   refuse-reads.Asked,
@@ -5879,7 +5088,7 @@ pat-arg-pat-must-requires t c κs =
     let if1 = c .before .before .before .if1 .left in
     let mark = c .before .before .mark .ensures in
     let mark-ok = ok-marks mark pre0 in
-    search asks depth 8
+    (omega arith, mark-ok)
 
 pat-arg-at-requires : (t : ℕ) → pat-arg-lts.Need-at-requires (
   refuse-reads.Asked,
@@ -5898,14 +5107,9 @@ pat-arg-at-requires : (t : ℕ) → pat-arg-lts.Need-at-requires (
   close-reads.Learnt,
 ) (pat-arg-at t) pat-arg.Post
 pat-arg-at-requires t c κs =
-    let falls = c .before .before .before .before .before .before .before .before .before .before .before .before .before .before .before .pre .0 in
-    let pre0 = c .before .before .before .before .before .before .before .before .before .before .before .before .before .before .before .pre .1 in
-    let if1 = c .before .before .before .before .before .before .before .before .if1 .left in
-    let mark = c .before .before .before .before .before .before .before .mark .ensures in
-    let mark-ok = ok-marks mark pre0 in
     let pat-must = c .before .before .before .before .pat-must .ensures in
     let pat-must-ok = pat-must .ok in
-    search asks depth 8
+    pat-must-ok .reads
 
 pat-arg-same-length : (t : ℕ) → pat-arg-lts.Need-same-length (
   refuse-reads.Asked,
@@ -5990,15 +5194,11 @@ pat-arg-eat-requires : (t : ℕ) → pat-arg-lts.Need-eat-requires (
 ) (pat-arg-at t) pat-arg.Post
 pat-arg-eat-requires t c κs =
     let falls = c .before .before .before .before .before .before .before .before .before .before .before .before .before .before .before .before .before .before .before .pre .0 in
-    let pre0 = c .before .before .before .before .before .before .before .before .before .before .before .before .before .before .before .before .before .before .before .pre .1 in
     let if1 = c .before .before .before .before .before .before .before .before .before .before .before .before .if1 .left in
-    let mark = c .before .before .before .before .before .before .before .before .before .before .before .mark .ensures in
-    let mark-ok = ok-marks mark pre0 in
     let pat-must = c .before .before .before .before .before .before .before .before .pat-must .ensures in
     let pat-must-ok = pat-must .ok in
-    let at = c .before .before .before .at .ensures in
     let if2 = c .before .before .if2 .left in
-    search asks depth 8
+    (pat-must-ok, omega arith)
 
 pat-arg-state-requires : (t : ℕ) → pat-arg-lts.Need-state-requires (
   refuse-reads.Asked,
@@ -6017,18 +5217,7 @@ pat-arg-state-requires : (t : ℕ) → pat-arg-lts.Need-state-requires (
   close-reads.Learnt,
 ) (pat-arg-at t) pat-arg.Post
 pat-arg-state-requires t c κs =
-    let falls = c .before .before .before .before .before .before .before .before .before .before .before .before .before .before .before .before .before .before .before .before .before .before .before .before .pre .0 in
-    let pre0 = c .before .before .before .before .before .before .before .before .before .before .before .before .before .before .before .before .before .before .before .before .before .before .before .before .pre .1 in
-    let if1 = c .before .before .before .before .before .before .before .before .before .before .before .before .before .before .before .before .before .if1 .left in
-    let mark = c .before .before .before .before .before .before .before .before .before .before .before .before .before .before .before .before .mark .ensures in
-    let mark-ok = ok-marks mark pre0 in
-    let pat-must = c .before .before .before .before .before .before .before .before .before .before .before .before .before .pat-must .ensures in
-    let pat-must-ok = pat-must .ok in
-    let at = c .before .before .before .before .before .before .before .before .at .ensures in
-    let if2 = c .before .before .before .before .before .before .before .if2 .left in
-    let eat = c .before .before .before .before .eat .ensures in
-    let eat-ok = eat .ok in
-    search asks depth 8
+    tt
 
 pat-arg-close-requires : (t : ℕ) → pat-arg-lts.Need-close-requires (
   refuse-reads.Asked,
@@ -6047,20 +5236,14 @@ pat-arg-close-requires : (t : ℕ) → pat-arg-lts.Need-close-requires (
   close-reads.Learnt,
 ) (pat-arg-at t) pat-arg.Post
 pat-arg-close-requires t c κs =
-    let falls = c .before .before .before .before .before .before .before .before .before .before .before .before .before .before .before .before .before .before .before .before .before .before .before .before .before .before .pre .0 in
     let pre0 = c .before .before .before .before .before .before .before .before .before .before .before .before .before .before .before .before .before .before .before .before .before .before .before .before .before .before .pre .1 in
-    let if1 = c .before .before .before .before .before .before .before .before .before .before .before .before .before .before .before .before .before .before .before .if1 .left in
     let mark = c .before .before .before .before .before .before .before .before .before .before .before .before .before .before .before .before .before .before .mark .ensures in
     let mark-ok = ok-marks mark pre0 in
-    let pat-must = c .before .before .before .before .before .before .before .before .before .before .before .before .before .before .before .pat-must .ensures in
-    let pat-must-ok = pat-must .ok in
-    let at = c .before .before .before .before .before .before .before .before .before .before .at .ensures in
-    let if2 = c .before .before .before .before .before .before .before .before .before .if2 .left in
     let eat = c .before .before .before .before .before .before .eat .ensures in
     let eat-ok = eat .ok in
     let state = c .before .state .ensures in
     let state-ok = ok-state state eat-ok in
-    search asks depth 8
+    (state-ok .logs, small-len mark-ok)
 
 pat-arg-same-length-3 : (t : ℕ) → pat-arg-lts.Need-same-length-3 (
   refuse-reads.Asked,
@@ -6130,112 +5313,6 @@ pat-arg-returns-3 t c =
     let close = c .before .before .close .ensures in
     by-steps pre0 (λ b. s-mark if1 mark (s-by _ (runs-in pat-must) (s-kind (s-false _ _ (kind-off _ _ _ _ at if2) (s-by _ (settled state (runs-always eat)) (s-close close s-end))))))
 
-abbrev pat-args-Inv-loop : pat-args-lts.InvT-loop
-pat-args-Inv-loop text toks env table scratch₀ finds₀ left end e b s1₀ scratch finds s1 =
-    Loops left b (util.endTurn {g = true} SK.PatArg SK.Comma end (pat.patMust Prec.Min (errOf e))) (mem text toks env table scratch₀ finds₀ s1₀) (mem text toks env table scratch finds s1) × (length scratch ≡ length scratch₀) × (length finds ≡ length finds₀)
-
-abbrev pat-args-μ-loop : pat-args-lts.MeasureT-loop
-pat-args-μ-loop text toks env table scratch₀ finds₀ left end e b s1₀ scratch finds s1 = turns (mem text toks env table scratch finds s1)
-
-pat-args-loop-holds :
-    (t : ℕ) →
-    pat-args-lts.Need-loop-holds
-    (arg-turn-below t, arg-turn.Post)
-    (pat-args-at t)
-    pat-args.Post
-    pat-args-Inv-loop
-    pat-args-μ-loop
-pat-args-loop-holds t c =
-    let falls = c .before .before .before .before .before .before .pre .0 in
-    let pre0 = c .before .before .before .before .before .before .pre .1 .0 in
-    let pre1 = c .before .before .before .before .before .before .pre .1 .1 in
-    (loop-starts pre0, refl, refl)
-
-pat-args-arg-turn-requires : (t : ℕ) → pat-args-lts.Need-arg-turn-requires (
-  arg-turn-below t,
-  arg-turn.Post,
-) (pat-args-at t) pat-args.Post pat-args-Inv-loop pat-args-μ-loop
-pat-args-arg-turn-requires t c κs =
-    let falls = c .before .before .before .before .before .before .before .before .before .pre .0 in
-    let pre0 = c .before .before .before .before .before .before .before .before .before .pre .1 .0 in
-    let pre1 = c .before .before .before .before .before .before .before .before .before .pre .1 .1 in
-    let inv = c .before .before .loop .inv .0 .ok in
-    search asks depth 8
-
-pat-args-enum-known-turn : (t : ℕ) → pat-args-lts.Need-enum-known-turn (
-  arg-turn-below t,
-  arg-turn.Post,
-) (pat-args-at t) pat-args.Post pat-args-Inv-loop pat-args-μ-loop
-pat-args-enum-known-turn t c =
-    let falls = c .before .before .before .before .before .before .before .before .before .before .before .before .before .before .before .pre .0 in
-    let pre0 = c .before .before .before .before .before .before .before .before .before .before .before .before .before .before .before .pre .1 .0 in
-    let pre1 = c .before .before .before .before .before .before .before .before .before .before .before .before .before .before .before .pre .1 .1 in
-    search needs
-
-pat-args-loop-less :
-    (t : ℕ) →
-    pat-args-lts.Need-loop-less
-    (arg-turn-below t, arg-turn.Post)
-    (pat-args-at t)
-    pat-args.Post
-    pat-args-Inv-loop
-    pat-args-μ-loop
-pat-args-loop-less t c =
-    let arg-turn = runs-in {b = 0} (rw (c .before .turn .given .1) at (c .before .before .before .before .before .before .before .arg-turn .ensures)) in
-    loop-falls (end-turn-advances true _ _ _ _ _ _) arg-turn
-
-pat-args-loop-again :
-    (t : ℕ) →
-    pat-args-lts.Need-loop-again
-    (arg-turn-below t, arg-turn.Post)
-    (pat-args-at t)
-    pat-args.Post
-    pat-args-Inv-loop
-    pat-args-μ-loop
-pat-args-loop-again t c =
-    let arg-turn = runs-in (rw (c .before .turn .given .1) at (c .before .before .before .before .before .before .before .arg-turn .ensures)) in
-    (loop-goes (end-turn-advances true _ _ _ _ _ _) (c .before .before .before .before .before .before .before .before .before .before .loop .inv .0) arg-turn, c .before .before .before .before .before .before .before .arg-turn .kept .1 .1 .1 .1 .0 ∙ c .before .before .before .before .before .before .before .before .before .before .loop .inv .1, c .before .before .before .before .before .before .before .arg-turn .kept .1 .1 .1 .1 .1 .0 ∙ c .before .before .before .before .before .before .before .before .before .before .loop .inv .2)
-
-pat-args-enum-known-turn-2 : (t : ℕ) → pat-args-lts.Need-enum-known-turn-2 (
-  arg-turn-below t,
-  arg-turn.Post,
-) (pat-args-at t) pat-args.Post pat-args-Inv-loop pat-args-μ-loop
-pat-args-enum-known-turn-2 t c =
-    let falls = c .before .before .before .before .before .before .before .before .before .before .before .before .before .before .before .pre .0 in
-    let pre0 = c .before .before .before .before .before .before .before .before .before .before .before .before .before .before .before .pre .1 .0 in
-    let pre1 = c .before .before .before .before .before .before .before .before .before .before .before .before .before .before .before .pre .1 .1 in
-    search needs
-
-pat-args-same-length :
-    (t : ℕ) →
-    pat-args-lts.Need-same-length
-    (arg-turn-below t, arg-turn.Post)
-    (pat-args-at t)
-    pat-args.Post
-    pat-args-Inv-loop
-    pat-args-μ-loop
-pat-args-same-length t c =
-    c .before .before .before .before .before .before .before .arg-turn .kept .1 .1 .1 .1 .0 ∙ c .before .before .before .before .before .before .before .before .before .before .loop .inv .1
-
-pat-args-same-length-2 : (t : ℕ) → pat-args-lts.Need-same-length-2 (
-  arg-turn-below t,
-  arg-turn.Post,
-) (pat-args-at t) pat-args.Post pat-args-Inv-loop pat-args-μ-loop
-pat-args-same-length-2 t c =
-    c .before .before .before .before .before .before .before .arg-turn .kept .1 .1 .1 .1 .1 .0 ∙ c .before .before .before .before .before .before .before .before .before .before .loop .inv .2
-
-pat-args-returns :
-    (t : ℕ) →
-    pat-args-lts.Need-returns
-    (arg-turn-below t, arg-turn.Post)
-    (pat-args-at t)
-    pat-args.Post
-    pat-args-Inv-loop
-    pat-args-μ-loop
-pat-args-returns t c =
-    let arg-turn = runs-in (rw (c .before .turn2 .given .1) at (c .before .before .before .before .before .before .before .arg-turn .ensures)) in
-    loop-ends (end-turn-advances true _ _ _ _ _ _) (c .before .before .before .before .before .before .before .before .before .before .loop .inv .0) arg-turn
-
 pat-must-pat-prec-requires : (t : ℕ) → pat-must-lts.Need-pat-prec-requires (
   pat-prec-below t,
   pat-prec.Post,
@@ -6245,7 +5322,7 @@ pat-must-pat-prec-requires : (t : ℕ) → pat-must-lts.Need-pat-prec-requires (
 pat-must-pat-prec-requires t c κs =
     let falls = c .before .before .before .before .before .before .before .before .pre .0 in
     let pre0 = c .before .before .before .before .before .before .before .before .pre .1 in
-    search asks depth 8
+    (omega arith, pre0)
 
 pat-must-enum-known-got : (t : ℕ) → pat-must-lts.Need-enum-known-got (
   pat-prec-below t,
@@ -6277,10 +5354,9 @@ pat-must-report-requires : (t : ℕ) → pat-must-lts.Need-report-requires (
 ) (pat-must-at t) pat-must.Post
 pat-must-report-requires t c κs =
     let falls = c .before .before .before .before .before .before .before .before .before .before .before .before .before .before .before .before .before .pre .0 in
-    let pre0 = c .before .before .before .before .before .before .before .before .before .before .before .before .before .before .before .before .before .pre .1 in
     let pat-prec = rw (c .before .before .got2 .given .1) at (c .before .before .before .before .before .before .before .before .pat-prec .ensures) in
     let pat-prec-ok = pat-prec .ok in
-    search asks depth 8
+    (pat-prec-ok .holds, (let few = pat-prec-ok .reads .few in let inside = pat-prec-ok .reads .inside in omega arith), omega arith)
 
 pat-must-same-length : (t : ℕ) → pat-must-lts.Need-same-length (
   pat-prec-below t,
@@ -6348,29 +5424,28 @@ pat-must-returns-2 t c =
 pat-prec-peek-requires : (t : ℕ) → pat-prec-lts.Need-peek-requires (
   peek-reads.Asked,
   peek-reads.Learnt,
-  atom-pat-below t,
-  atom-pat.Post,
+  atom-below t,
+  atom.Post,
   name-star-reads.Asked,
   name-star-reads.Learnt,
-  con-pat-below t,
-  con-pat.Post,
+  con-below t,
+  con.Post,
   peek-n-reads.Asked,
   peek-n-reads.Learnt,
 ) (pat-prec-at t) pat-prec.Post
 pat-prec-peek-requires t c κs =
-    let falls = c .before .before .before .before .before .before .pre .0 in
     let pre0 = c .before .before .before .before .before .before .pre .1 in
-    search asks depth 8
+    pre0 .reads
 
 pat-prec-enum-known-k : (t : ℕ) → pat-prec-lts.Need-enum-known-k (
   peek-reads.Asked,
   peek-reads.Learnt,
-  atom-pat-below t,
-  atom-pat.Post,
+  atom-below t,
+  atom.Post,
   name-star-reads.Asked,
   name-star-reads.Learnt,
-  con-pat-below t,
-  con-pat.Post,
+  con-below t,
+  con.Post,
   peek-n-reads.Asked,
   peek-n-reads.Learnt,
 ) (pat-prec-at t) pat-prec.Post
@@ -6382,12 +5457,12 @@ pat-prec-enum-known-k t c =
 pat-prec-enum-told : (t : ℕ) → pat-prec-lts.Need-enum-told (
   peek-reads.Asked,
   peek-reads.Learnt,
-  atom-pat-below t,
-  atom-pat.Post,
+  atom-below t,
+  atom.Post,
   name-star-reads.Asked,
   name-star-reads.Learnt,
-  con-pat-below t,
-  con-pat.Post,
+  con-below t,
+  con.Post,
   peek-n-reads.Asked,
   peek-n-reads.Learnt,
 ) (pat-prec-at t) pat-prec.Post
@@ -6396,63 +5471,62 @@ pat-prec-enum-told t c =
     let pre0 = c .before .before .before .before .before .before .before .before .pre .1 in
     search needs
 
-pat-prec-atom-pat-requires : (t : ℕ) → pat-prec-lts.Need-atom-pat-requires (
+pat-prec-atom-requires : (t : ℕ) → pat-prec-lts.Need-atom-requires (
   peek-reads.Asked,
   peek-reads.Learnt,
-  atom-pat-below t,
-  atom-pat.Post,
+  atom-below t,
+  atom.Post,
   name-star-reads.Asked,
   name-star-reads.Learnt,
-  con-pat-below t,
-  con-pat.Post,
+  con-below t,
+  con.Post,
   peek-n-reads.Asked,
   peek-n-reads.Learnt,
 ) (pat-prec-at t) pat-prec.Post
-pat-prec-atom-pat-requires t c κs =
+pat-prec-atom-requires t c κs =
     let falls = c .before .before .before .before .before .before .before .before .before .before .before .pre .0 in
     let pre0 = c .before .before .before .before .before .before .before .before .before .before .before .pre .1 in
-    let peek = rw (c .before .before .enum-told .given .1) at (c .before .before .before .before .peek .ensures) in
-    search asks depth 8
+    (omega arith, (pre0, small-len pre0))
 
 pat-prec-same-length : (t : ℕ) → pat-prec-lts.Need-same-length (
   peek-reads.Asked,
   peek-reads.Learnt,
-  atom-pat-below t,
-  atom-pat.Post,
+  atom-below t,
+  atom.Post,
   name-star-reads.Asked,
   name-star-reads.Learnt,
-  con-pat-below t,
-  con-pat.Post,
+  con-below t,
+  con.Post,
   peek-n-reads.Asked,
   peek-n-reads.Learnt,
 ) (pat-prec-at t) pat-prec.Post
 pat-prec-same-length t c =
-    c .before .before .before .before .atom-pat .kept .1 .1 .1 .1 .0
+    c .before .before .before .before .atom .kept .1 .1 .1 .1 .0
 
 pat-prec-same-length-2 : (t : ℕ) → pat-prec-lts.Need-same-length-2 (
   peek-reads.Asked,
   peek-reads.Learnt,
-  atom-pat-below t,
-  atom-pat.Post,
+  atom-below t,
+  atom.Post,
   name-star-reads.Asked,
   name-star-reads.Learnt,
-  con-pat-below t,
-  con-pat.Post,
+  con-below t,
+  con.Post,
   peek-n-reads.Asked,
   peek-n-reads.Learnt,
 ) (pat-prec-at t) pat-prec.Post
 pat-prec-same-length-2 t c =
-    c .before .before .before .before .atom-pat .kept .1 .1 .1 .1 .1 .0
+    c .before .before .before .before .atom .kept .1 .1 .1 .1 .1 .0
 
 pat-prec-returns : (t : ℕ) → pat-prec-lts.Need-returns (
   peek-reads.Asked,
   peek-reads.Learnt,
-  atom-pat-below t,
-  atom-pat.Post,
+  atom-below t,
+  atom.Post,
   name-star-reads.Asked,
   name-star-reads.Learnt,
-  con-pat-below t,
-  con-pat.Post,
+  con-below t,
+  con.Post,
   peek-n-reads.Asked,
   peek-n-reads.Learnt,
 ) (pat-prec-at t) pat-prec.Post
@@ -6461,86 +5535,81 @@ pat-prec-returns t c =
     let falls = c .before .before .before .before .before .before .before .before .before .before .before .before .before .before .before .before .pre .0 in
     let pre0 = c .before .before .before .before .before .before .before .before .before .before .before .before .before .before .before .before .pre .1 in
     let peek = rw (c .before .before .before .before .before .before .before .enum-told .given .1) at (c .before .before .before .before .before .before .before .before .before .peek .ensures) in
-    let atom-pat = c .before .before .before .before .atom-pat .ensures in
-    by-steps pre0 (λ b. s-rule (s-look peek (s-by _ atom-pat s-end)))
+    let atom = c .before .before .before .before .atom .ensures in
+    by-steps pre0 (λ b. s-rule (s-look peek (s-by _ atom s-end)))
 
 pat-prec-name-star-requires : (t : ℕ) → pat-prec-lts.Need-name-star-requires (
   peek-reads.Asked,
   peek-reads.Learnt,
-  atom-pat-below t,
-  atom-pat.Post,
+  atom-below t,
+  atom.Post,
   name-star-reads.Asked,
   name-star-reads.Learnt,
-  con-pat-below t,
-  con-pat.Post,
+  con-below t,
+  con.Post,
   peek-n-reads.Asked,
   peek-n-reads.Learnt,
 ) (pat-prec-at t) pat-prec.Post
 pat-prec-name-star-requires t c κs =
-    let falls = c .before .before .before .before .before .before .before .before .before .before .pre .0 in
-    let pre0 = c .before .before .before .before .before .before .before .before .before .before .pre .1 in
-    let peek = rw (c .before .k .given .1) at (c .before .before .before .peek .ensures) in
-    search asks depth 8
+    tt
 
-pat-prec-con-pat-requires : (t : ℕ) → pat-prec-lts.Need-con-pat-requires (
+pat-prec-con-requires : (t : ℕ) → pat-prec-lts.Need-con-requires (
   peek-reads.Asked,
   peek-reads.Learnt,
-  atom-pat-below t,
-  atom-pat.Post,
+  atom-below t,
+  atom.Post,
   name-star-reads.Asked,
   name-star-reads.Learnt,
-  con-pat-below t,
-  con-pat.Post,
+  con-below t,
+  con.Post,
   peek-n-reads.Asked,
   peek-n-reads.Learnt,
 ) (pat-prec-at t) pat-prec.Post
-pat-prec-con-pat-requires t c κs =
+pat-prec-con-requires t c κs =
     let falls = c .before .before .before .before .before .before .before .before .before .before .before .before .before .before .pre .0 in
     let pre0 = c .before .before .before .before .before .before .before .before .before .before .before .before .before .before .pre .1 in
-    let peek = rw (c .before .before .before .before .before .k .given .1) at (c .before .before .before .before .before .before .before .peek .ensures) in
-    let name-star = c .before .before .before .name-star .ensures in
     let if1 = c .before .before .if1 .taken in
-    search asks depth 8
+    (omega arith, (pre0, small-len pre0))
 
 pat-prec-same-length-3 : (t : ℕ) → pat-prec-lts.Need-same-length-3 (
   peek-reads.Asked,
   peek-reads.Learnt,
-  atom-pat-below t,
-  atom-pat.Post,
+  atom-below t,
+  atom.Post,
   name-star-reads.Asked,
   name-star-reads.Learnt,
-  con-pat-below t,
-  con-pat.Post,
+  con-below t,
+  con.Post,
   peek-n-reads.Asked,
   peek-n-reads.Learnt,
 ) (pat-prec-at t) pat-prec.Post
 pat-prec-same-length-3 t c =
-    c .before .before .before .before .con-pat .kept .1 .1 .1 .1 .0
+    c .before .before .before .before .con .kept .1 .1 .1 .1 .0
 
 pat-prec-same-length-4 : (t : ℕ) → pat-prec-lts.Need-same-length-4 (
   peek-reads.Asked,
   peek-reads.Learnt,
-  atom-pat-below t,
-  atom-pat.Post,
+  atom-below t,
+  atom.Post,
   name-star-reads.Asked,
   name-star-reads.Learnt,
-  con-pat-below t,
-  con-pat.Post,
+  con-below t,
+  con.Post,
   peek-n-reads.Asked,
   peek-n-reads.Learnt,
 ) (pat-prec-at t) pat-prec.Post
 pat-prec-same-length-4 t c =
-    c .before .before .before .before .con-pat .kept .1 .1 .1 .1 .1 .0
+    c .before .before .before .before .con .kept .1 .1 .1 .1 .1 .0
 
 pat-prec-returns-2 : (t : ℕ) → pat-prec-lts.Need-returns-2 (
   peek-reads.Asked,
   peek-reads.Learnt,
-  atom-pat-below t,
-  atom-pat.Post,
+  atom-below t,
+  atom.Post,
   name-star-reads.Asked,
   name-star-reads.Learnt,
-  con-pat-below t,
-  con-pat.Post,
+  con-below t,
+  con.Post,
   peek-n-reads.Asked,
   peek-n-reads.Learnt,
 ) (pat-prec-at t) pat-prec.Post
@@ -6551,39 +5620,34 @@ pat-prec-returns-2 t c =
     let peek = rw (c .before .before .before .before .before .before .before .before .before .before .k .given .1) at (c .before .before .before .before .before .before .before .before .before .before .before .before .peek .ensures) in
     let name-star = c .before .before .before .before .before .before .before .before .name-star .ensures in
     let if1 = c .before .before .before .before .before .before .before .if1 .taken in
-    let con-pat = c .before .before .before .before .con-pat .ensures in
-    by-steps pre0 (λ b. s-rule (s-look peek (s-true _ _ (test-true name-star if1) (s-by _ con-pat s-end))))
+    let con = c .before .before .before .before .con .ensures in
+    by-steps pre0 (λ b. s-rule (s-look peek (s-true _ _ (test-true name-star if1) (s-by _ con s-end))))
 
 pat-prec-peek-n-requires : (t : ℕ) → pat-prec-lts.Need-peek-n-requires (
   peek-reads.Asked,
   peek-reads.Learnt,
-  atom-pat-below t,
-  atom-pat.Post,
+  atom-below t,
+  atom.Post,
   name-star-reads.Asked,
   name-star-reads.Learnt,
-  con-pat-below t,
-  con-pat.Post,
+  con-below t,
+  con.Post,
   peek-n-reads.Asked,
   peek-n-reads.Learnt,
 ) (pat-prec-at t) pat-prec.Post
 pat-prec-peek-n-requires t c κs =
-    let falls = c .before .before .before .before .before .before .before .before .before .before .before .before .before .pre .0 in
     let pre0 = c .before .before .before .before .before .before .before .before .before .before .before .before .before .pre .1 in
-    let peek = rw (c .before .before .before .before .k .given .1) at (c .before .before .before .before .before .before .peek .ensures) in
-    let name-star = c .before .before .name-star .ensures in
-    let if1 = c .before .if1 .left in
-    let if2 = c .if2 .taken in
-    search asks depth 8
+    pre0 .reads
 
 pat-prec-enum-known-k1 : (t : ℕ) → pat-prec-lts.Need-enum-known-k1 (
   peek-reads.Asked,
   peek-reads.Learnt,
-  atom-pat-below t,
-  atom-pat.Post,
+  atom-below t,
+  atom.Post,
   name-star-reads.Asked,
   name-star-reads.Learnt,
-  con-pat-below t,
-  con-pat.Post,
+  con-below t,
+  con.Post,
   peek-n-reads.Asked,
   peek-n-reads.Learnt,
 ) (pat-prec-at t) pat-prec.Post
@@ -6597,12 +5661,12 @@ pat-prec-enum-known-k1 t c =
 pat-prec-enum-told-2 : (t : ℕ) → pat-prec-lts.Need-enum-told-2 (
   peek-reads.Asked,
   peek-reads.Learnt,
-  atom-pat-below t,
-  atom-pat.Post,
+  atom-below t,
+  atom.Post,
   name-star-reads.Asked,
   name-star-reads.Learnt,
-  con-pat-below t,
-  con-pat.Post,
+  con-below t,
+  con.Post,
   peek-n-reads.Asked,
   peek-n-reads.Learnt,
 ) (pat-prec-at t) pat-prec.Post
@@ -6613,67 +5677,64 @@ pat-prec-enum-told-2 t c =
     let if2 = c .before .before .if2 .taken in
     search needs
 
-pat-prec-atom-pat-requires-2 : (t : ℕ) → pat-prec-lts.Need-atom-pat-requires-2 (
+pat-prec-atom-requires-2 : (t : ℕ) → pat-prec-lts.Need-atom-requires-2 (
   peek-reads.Asked,
   peek-reads.Learnt,
-  atom-pat-below t,
-  atom-pat.Post,
+  atom-below t,
+  atom.Post,
   name-star-reads.Asked,
   name-star-reads.Learnt,
-  con-pat-below t,
-  con-pat.Post,
+  con-below t,
+  con.Post,
   peek-n-reads.Asked,
   peek-n-reads.Learnt,
 ) (pat-prec-at t) pat-prec.Post
-pat-prec-atom-pat-requires-2 t c κs =
+pat-prec-atom-requires-2 t c κs =
     let falls = c .before .before .before .before .before .before .before .before .before .before .before .before .before .before .before .before .before .before .pre .0 in
     let pre0 = c .before .before .before .before .before .before .before .before .before .before .before .before .before .before .before .before .before .before .pre .1 in
-    let peek = rw (c .before .before .before .before .before .before .before .before .before .k .given .1) at (c .before .before .before .before .before .before .before .before .before .before .before .peek .ensures) in
-    let name-star = c .before .before .before .before .before .before .before .name-star .ensures in
     let if1 = c .before .before .before .before .before .before .if1 .left in
     let if2 = c .before .before .before .before .before .if2 .taken in
-    let peek-n = rw (c .before .before .enum-told2 .given .1) at (c .before .before .before .before .peek-n .ensures) in
-    search asks depth 8
+    (omega arith, (pre0, small-len pre0))
 
 pat-prec-same-length-5 : (t : ℕ) → pat-prec-lts.Need-same-length-5 (
   peek-reads.Asked,
   peek-reads.Learnt,
-  atom-pat-below t,
-  atom-pat.Post,
+  atom-below t,
+  atom.Post,
   name-star-reads.Asked,
   name-star-reads.Learnt,
-  con-pat-below t,
-  con-pat.Post,
+  con-below t,
+  con.Post,
   peek-n-reads.Asked,
   peek-n-reads.Learnt,
 ) (pat-prec-at t) pat-prec.Post
 pat-prec-same-length-5 t c =
-    c .before .before .before .before .atom-pat2 .kept .1 .1 .1 .1 .0
+    c .before .before .before .before .atom2 .kept .1 .1 .1 .1 .0
 
 pat-prec-same-length-6 : (t : ℕ) → pat-prec-lts.Need-same-length-6 (
   peek-reads.Asked,
   peek-reads.Learnt,
-  atom-pat-below t,
-  atom-pat.Post,
+  atom-below t,
+  atom.Post,
   name-star-reads.Asked,
   name-star-reads.Learnt,
-  con-pat-below t,
-  con-pat.Post,
+  con-below t,
+  con.Post,
   peek-n-reads.Asked,
   peek-n-reads.Learnt,
 ) (pat-prec-at t) pat-prec.Post
 pat-prec-same-length-6 t c =
-    c .before .before .before .before .atom-pat2 .kept .1 .1 .1 .1 .1 .0
+    c .before .before .before .before .atom2 .kept .1 .1 .1 .1 .1 .0
 
 pat-prec-returns-3 : (t : ℕ) → pat-prec-lts.Need-returns-3 (
   peek-reads.Asked,
   peek-reads.Learnt,
-  atom-pat-below t,
-  atom-pat.Post,
+  atom-below t,
+  atom.Post,
   name-star-reads.Asked,
   name-star-reads.Learnt,
-  con-pat-below t,
-  con-pat.Post,
+  con-below t,
+  con.Post,
   peek-n-reads.Asked,
   peek-n-reads.Learnt,
 ) (pat-prec-at t) pat-prec.Post
@@ -6686,94 +5747,83 @@ pat-prec-returns-3 t c =
     let if1 = c .before .before .before .before .before .before .before .before .before .before .before .if1 .left in
     let if2 = c .before .before .before .before .before .before .before .before .before .before .if2 .taken in
     let peek-n = rw (c .before .before .before .before .before .before .before .enum-told2 .given .1) at (c .before .before .before .before .before .before .before .before .before .peek-n .ensures) in
-    let atom-pat2 = c .before .before .before .before .atom-pat2 .ensures in
-    by-steps pre0 (λ b. s-rule (s-look peek (s-false _ _ (test-false name-star if1) (s-true _ _ (kind-is if2) (s-look peek-n (s-by _ atom-pat2 s-end))))))
+    let atom2 = c .before .before .before .before .atom2 .ensures in
+    by-steps pre0 (λ b. s-rule (s-look peek (s-false _ _ (test-false name-star if1) (s-true _ _ (kind-is if2) (s-look peek-n (s-by _ atom2 s-end))))))
 
 pat-prec-name-star-requires-2 : (t : ℕ) → pat-prec-lts.Need-name-star-requires-2 (
   peek-reads.Asked,
   peek-reads.Learnt,
-  atom-pat-below t,
-  atom-pat.Post,
+  atom-below t,
+  atom.Post,
   name-star-reads.Asked,
   name-star-reads.Learnt,
-  con-pat-below t,
-  con-pat.Post,
+  con-below t,
+  con.Post,
   peek-n-reads.Asked,
   peek-n-reads.Learnt,
 ) (pat-prec-at t) pat-prec.Post
 pat-prec-name-star-requires-2 t c κs =
-    let falls = c .before .before .before .before .before .before .before .before .before .before .before .before .before .before .before .before .before .pre .0 in
-    let pre0 = c .before .before .before .before .before .before .before .before .before .before .before .before .before .before .before .before .before .pre .1 in
-    let peek = rw (c .before .before .before .before .before .before .before .before .k .given .1) at (c .before .before .before .before .before .before .before .before .before .before .peek .ensures) in
-    let name-star = c .before .before .before .before .before .before .name-star .ensures in
-    let if1 = c .before .before .before .before .before .if1 .left in
-    let if2 = c .before .before .before .before .if2 .taken in
-    let peek-n = rw (c .before .k1 .given .1) at (c .before .before .before .peek-n .ensures) in
-    search asks depth 8
+    tt
 
-pat-prec-con-pat-requires-2 : (t : ℕ) → pat-prec-lts.Need-con-pat-requires-2 (
+pat-prec-con-requires-2 : (t : ℕ) → pat-prec-lts.Need-con-requires-2 (
   peek-reads.Asked,
   peek-reads.Learnt,
-  atom-pat-below t,
-  atom-pat.Post,
+  atom-below t,
+  atom.Post,
   name-star-reads.Asked,
   name-star-reads.Learnt,
-  con-pat-below t,
-  con-pat.Post,
+  con-below t,
+  con.Post,
   peek-n-reads.Asked,
   peek-n-reads.Learnt,
 ) (pat-prec-at t) pat-prec.Post
-pat-prec-con-pat-requires-2 t c κs =
+pat-prec-con-requires-2 t c κs =
     let falls = c .before .before .before .before .before .before .before .before .before .before .before .before .before .before .before .before .before .before .before .before .before .pre .0 in
     let pre0 = c .before .before .before .before .before .before .before .before .before .before .before .before .before .before .before .before .before .before .before .before .before .pre .1 in
-    let peek = rw (c .before .before .before .before .before .before .before .before .before .before .before .before .k .given .1) at (c .before .before .before .before .before .before .before .before .before .before .before .before .before .before .peek .ensures) in
-    let name-star = c .before .before .before .before .before .before .before .before .before .before .name-star .ensures in
     let if1 = c .before .before .before .before .before .before .before .before .before .if1 .left in
     let if2 = c .before .before .before .before .before .before .before .before .if2 .taken in
-    let peek-n = rw (c .before .before .before .before .before .k1 .given .1) at (c .before .before .before .before .before .before .before .peek-n .ensures) in
-    let name-star2 = c .before .before .before .name-star2 .ensures in
     let if3 = c .before .before .if3 .taken in
-    search asks depth 8
+    (omega arith, (pre0, small-len pre0))
 
 pat-prec-same-length-7 : (t : ℕ) → pat-prec-lts.Need-same-length-7 (
   peek-reads.Asked,
   peek-reads.Learnt,
-  atom-pat-below t,
-  atom-pat.Post,
+  atom-below t,
+  atom.Post,
   name-star-reads.Asked,
   name-star-reads.Learnt,
-  con-pat-below t,
-  con-pat.Post,
+  con-below t,
+  con.Post,
   peek-n-reads.Asked,
   peek-n-reads.Learnt,
 ) (pat-prec-at t) pat-prec.Post
 pat-prec-same-length-7 t c =
-    c .before .before .before .before .con-pat2 .kept .1 .1 .1 .1 .0
+    c .before .before .before .before .con2 .kept .1 .1 .1 .1 .0
 
 pat-prec-same-length-8 : (t : ℕ) → pat-prec-lts.Need-same-length-8 (
   peek-reads.Asked,
   peek-reads.Learnt,
-  atom-pat-below t,
-  atom-pat.Post,
+  atom-below t,
+  atom.Post,
   name-star-reads.Asked,
   name-star-reads.Learnt,
-  con-pat-below t,
-  con-pat.Post,
+  con-below t,
+  con.Post,
   peek-n-reads.Asked,
   peek-n-reads.Learnt,
 ) (pat-prec-at t) pat-prec.Post
 pat-prec-same-length-8 t c =
-    c .before .before .before .before .con-pat2 .kept .1 .1 .1 .1 .1 .0
+    c .before .before .before .before .con2 .kept .1 .1 .1 .1 .1 .0
 
 pat-prec-returns-4 : (t : ℕ) → pat-prec-lts.Need-returns-4 (
   peek-reads.Asked,
   peek-reads.Learnt,
-  atom-pat-below t,
-  atom-pat.Post,
+  atom-below t,
+  atom.Post,
   name-star-reads.Asked,
   name-star-reads.Learnt,
-  con-pat-below t,
-  con-pat.Post,
+  con-below t,
+  con.Post,
   peek-n-reads.Asked,
   peek-n-reads.Learnt,
 ) (pat-prec-at t) pat-prec.Post
@@ -6788,72 +5838,68 @@ pat-prec-returns-4 t c =
     let peek-n = rw (c .before .before .before .before .before .before .before .before .before .before .k1 .given .1) at (c .before .before .before .before .before .before .before .before .before .before .before .before .peek-n .ensures) in
     let name-star2 = c .before .before .before .before .before .before .before .before .name-star2 .ensures in
     let if3 = c .before .before .before .before .before .before .before .if3 .taken in
-    let con-pat2 = c .before .before .before .before .con-pat2 .ensures in
-    by-steps pre0 (λ b. s-rule (s-look peek (s-false _ _ (test-false name-star if1) (s-true _ _ (kind-is if2) (s-look peek-n (s-true _ _ (test-true name-star2 if3) (s-by _ con-pat2 s-end)))))))
+    let con2 = c .before .before .before .before .con2 .ensures in
+    by-steps pre0 (λ b. s-rule (s-look peek (s-false _ _ (test-false name-star if1) (s-true _ _ (kind-is if2) (s-look peek-n (s-true _ _ (test-true name-star2 if3) (s-by _ con2 s-end)))))))
 
-pat-prec-atom-pat-requires-3 : (t : ℕ) → pat-prec-lts.Need-atom-pat-requires-3 (
+pat-prec-atom-requires-3 : (t : ℕ) → pat-prec-lts.Need-atom-requires-3 (
   peek-reads.Asked,
   peek-reads.Learnt,
-  atom-pat-below t,
-  atom-pat.Post,
+  atom-below t,
+  atom.Post,
   name-star-reads.Asked,
   name-star-reads.Learnt,
-  con-pat-below t,
-  con-pat.Post,
+  con-below t,
+  con.Post,
   peek-n-reads.Asked,
   peek-n-reads.Learnt,
 ) (pat-prec-at t) pat-prec.Post
-pat-prec-atom-pat-requires-3 t c κs =
+pat-prec-atom-requires-3 t c κs =
     let falls = c .before .before .before .before .before .before .before .before .before .before .before .before .before .before .before .before .before .before .before .before .before .pre .0 in
     let pre0 = c .before .before .before .before .before .before .before .before .before .before .before .before .before .before .before .before .before .before .before .before .before .pre .1 in
-    let peek = rw (c .before .before .before .before .before .before .before .before .before .before .before .before .k .given .1) at (c .before .before .before .before .before .before .before .before .before .before .before .before .before .before .peek .ensures) in
-    let name-star = c .before .before .before .before .before .before .before .before .before .before .name-star .ensures in
     let if1 = c .before .before .before .before .before .before .before .before .before .if1 .left in
     let if2 = c .before .before .before .before .before .before .before .before .if2 .taken in
-    let peek-n = rw (c .before .before .before .before .before .k1 .given .1) at (c .before .before .before .before .before .before .before .peek-n .ensures) in
-    let name-star2 = c .before .before .before .name-star2 .ensures in
     let if3 = c .before .before .if3 .left in
-    search asks depth 8
+    (omega arith, (pre0, small-len pre0))
 
 pat-prec-same-length-9 : (t : ℕ) → pat-prec-lts.Need-same-length-9 (
   peek-reads.Asked,
   peek-reads.Learnt,
-  atom-pat-below t,
-  atom-pat.Post,
+  atom-below t,
+  atom.Post,
   name-star-reads.Asked,
   name-star-reads.Learnt,
-  con-pat-below t,
-  con-pat.Post,
+  con-below t,
+  con.Post,
   peek-n-reads.Asked,
   peek-n-reads.Learnt,
 ) (pat-prec-at t) pat-prec.Post
 pat-prec-same-length-9 t c =
-    c .before .before .before .before .atom-pat3 .kept .1 .1 .1 .1 .0
+    c .before .before .before .before .atom3 .kept .1 .1 .1 .1 .0
 
 pat-prec-same-length-10 : (t : ℕ) → pat-prec-lts.Need-same-length-10 (
   peek-reads.Asked,
   peek-reads.Learnt,
-  atom-pat-below t,
-  atom-pat.Post,
+  atom-below t,
+  atom.Post,
   name-star-reads.Asked,
   name-star-reads.Learnt,
-  con-pat-below t,
-  con-pat.Post,
+  con-below t,
+  con.Post,
   peek-n-reads.Asked,
   peek-n-reads.Learnt,
 ) (pat-prec-at t) pat-prec.Post
 pat-prec-same-length-10 t c =
-    c .before .before .before .before .atom-pat3 .kept .1 .1 .1 .1 .1 .0
+    c .before .before .before .before .atom3 .kept .1 .1 .1 .1 .1 .0
 
 pat-prec-returns-5 : (t : ℕ) → pat-prec-lts.Need-returns-5 (
   peek-reads.Asked,
   peek-reads.Learnt,
-  atom-pat-below t,
-  atom-pat.Post,
+  atom-below t,
+  atom.Post,
   name-star-reads.Asked,
   name-star-reads.Learnt,
-  con-pat-below t,
-  con-pat.Post,
+  con-below t,
+  con.Post,
   peek-n-reads.Asked,
   peek-n-reads.Learnt,
 ) (pat-prec-at t) pat-prec.Post
@@ -6868,69 +5914,67 @@ pat-prec-returns-5 t c =
     let peek-n = rw (c .before .before .before .before .before .before .before .before .before .before .k1 .given .1) at (c .before .before .before .before .before .before .before .before .before .before .before .before .peek-n .ensures) in
     let name-star2 = c .before .before .before .before .before .before .before .before .name-star2 .ensures in
     let if3 = c .before .before .before .before .before .before .before .if3 .left in
-    let atom-pat3 = c .before .before .before .before .atom-pat3 .ensures in
-    by-steps pre0 (λ b. s-rule (s-look peek (s-false _ _ (test-false name-star if1) (s-true _ _ (kind-is if2) (s-look peek-n (s-false _ _ (test-false name-star2 if3) (s-by _ atom-pat3 s-end)))))))
+    let atom3 = c .before .before .before .before .atom3 .ensures in
+    by-steps pre0 (λ b. s-rule (s-look peek (s-false _ _ (test-false name-star if1) (s-true _ _ (kind-is if2) (s-look peek-n (s-false _ _ (test-false name-star2 if3) (s-by _ atom3 s-end)))))))
 
-pat-prec-atom-pat-requires-4 : (t : ℕ) → pat-prec-lts.Need-atom-pat-requires-4 (
+pat-prec-atom-requires-4 : (t : ℕ) → pat-prec-lts.Need-atom-requires-4 (
   peek-reads.Asked,
   peek-reads.Learnt,
-  atom-pat-below t,
-  atom-pat.Post,
+  atom-below t,
+  atom.Post,
   name-star-reads.Asked,
   name-star-reads.Learnt,
-  con-pat-below t,
-  con-pat.Post,
+  con-below t,
+  con.Post,
   peek-n-reads.Asked,
   peek-n-reads.Learnt,
 ) (pat-prec-at t) pat-prec.Post
-pat-prec-atom-pat-requires-4 t c κs =
+pat-prec-atom-requires-4 t c κs =
     let falls = c .before .before .before .before .before .before .before .before .before .before .before .before .before .before .before .pre .0 in
     let pre0 = c .before .before .before .before .before .before .before .before .before .before .before .before .before .before .before .pre .1 in
-    let peek = rw (c .before .before .before .before .before .before .k .given .1) at (c .before .before .before .before .before .before .before .before .peek .ensures) in
-    let name-star = c .before .before .before .before .name-star .ensures in
     let if1 = c .before .before .before .if1 .left in
     let if2 = c .before .before .if2 .left in
-    search asks depth 8
+    (omega arith, (pre0, small-len pre0))
 
 pat-prec-same-length-11 : (t : ℕ) → pat-prec-lts.Need-same-length-11 (
   peek-reads.Asked,
   peek-reads.Learnt,
-  atom-pat-below t,
-  atom-pat.Post,
+  atom-below t,
+  atom.Post,
   name-star-reads.Asked,
   name-star-reads.Learnt,
-  con-pat-below t,
-  con-pat.Post,
+  con-below t,
+  con.Post,
   peek-n-reads.Asked,
   peek-n-reads.Learnt,
 ) (pat-prec-at t) pat-prec.Post
 pat-prec-same-length-11 t c =
-    c .before .before .before .before .atom-pat4 .kept .1 .1 .1 .1 .0
+    c .before .before .before .before .atom4 .kept .1 .1 .1 .1 .0
 
 pat-prec-same-length-12 : (t : ℕ) → pat-prec-lts.Need-same-length-12 (
   peek-reads.Asked,
   peek-reads.Learnt,
-  atom-pat-below t,
-  atom-pat.Post,
+  atom-below t,
+  atom.Post,
   name-star-reads.Asked,
   name-star-reads.Learnt,
-  con-pat-below t,
-  con-pat.Post,
+  con-below t,
+  con.Post,
   peek-n-reads.Asked,
   peek-n-reads.Learnt,
 ) (pat-prec-at t) pat-prec.Post
 pat-prec-same-length-12 t c =
-    c .before .before .before .before .atom-pat4 .kept .1 .1 .1 .1 .1 .0
+    c .before .before .before .before .atom4 .kept .1 .1 .1 .1 .1 .0
 
 pat-prec-returns-6 : (t : ℕ) → pat-prec-lts.Need-returns-6 (
   peek-reads.Asked,
   peek-reads.Learnt,
-  atom-pat-below t,
-  atom-pat.Post,
+  atom-below t,
+  atom.Post,
   name-star-reads.Asked,
   name-star-reads.Learnt,
-  con-pat-below t,
-  con-pat.Post,
+  con-below t,
+  con.Post,
   peek-n-reads.Asked,
   peek-n-reads.Learnt,
 ) (pat-prec-at t) pat-prec.Post
@@ -6942,10 +5986,506 @@ pat-prec-returns-6 t c =
     let name-star = c .before .before .before .before .before .before .before .before .before .name-star .ensures in
     let if1 = c .before .before .before .before .before .before .before .before .if1 .left in
     let if2 = c .before .before .before .before .before .before .before .if2 .left in
-    let atom-pat4 = c .before .before .before .before .atom-pat4 .ensures in
-    by-steps pre0 (λ b. s-rule (s-look peek (s-false _ _ (test-false name-star if1) (s-false _ _ (kind-not if2) (s-by _ atom-pat4 s-end)))))
+    let atom4 = c .before .before .before .before .atom4 .ensures in
+    by-steps pre0 (λ b. s-rule (s-look peek (s-false _ _ (test-false name-star if1) (s-false _ _ (kind-not if2) (s-by _ atom4 s-end)))))
 
-pat-row-refuse-requires : (t : ℕ) → pat-row-lts.Need-refuse-requires (
+rest-bump-requires : (t : ℕ) → rest-lts.Need-bump-requires (
+  bump-reads.Asked,
+  bump-reads.Learnt,
+  rows-below t,
+  rows.Post,
+  close-reads.Asked,
+  close-reads.Learnt,
+  at-round-below t,
+  at-round.Post,
+  args-below t,
+  args.Post,
+  vector-below t,
+  vector.Post,
+) (rest-at t) rest.Post
+rest-bump-requires t c κs =
+    let pre0 = c .before .before .before .before .before .before .before .before .pre .1 .0 in
+    (pre0 .reads, pre0 .logs)
+
+rest-rows-requires : (t : ℕ) → rest-lts.Need-rows-requires (
+  bump-reads.Asked,
+  bump-reads.Learnt,
+  rows-below t,
+  rows.Post,
+  close-reads.Asked,
+  close-reads.Learnt,
+  at-round-below t,
+  at-round.Post,
+  args-below t,
+  args.Post,
+  vector-below t,
+  vector.Post,
+) (rest-at t) rest.Post
+rest-rows-requires t c κs =
+    let falls = c .before .before .before .before .before .before .before .before .before .before .before .before .before .pre .0 in
+    let pre0 = c .before .before .before .before .before .before .before .before .before .before .before .before .before .pre .1 .0 in
+    let pre1 = c .before .before .before .before .before .before .before .before .before .before .before .before .before .pre .1 .1 in
+    let if1 = c .before .before .before .before .before .before .if1 .taken in
+    let bump = c .before .before .before .before .bump .ensures in
+    let bump-ok = ok-bumps bump pre0 in
+    (omega arith, bump-ok)
+
+rest-close-requires : (t : ℕ) → rest-lts.Need-close-requires (
+  bump-reads.Asked,
+  bump-reads.Learnt,
+  rows-below t,
+  rows.Post,
+  close-reads.Asked,
+  close-reads.Learnt,
+  at-round-below t,
+  at-round.Post,
+  args-below t,
+  args.Post,
+  vector-below t,
+  vector.Post,
+) (rest-at t) rest.Post
+rest-close-requires t c κs =
+    let pre1 = c .before .before .before .before .before .before .before .before .before .before .before .before .before .before .before .before .before .before .before .pre .1 .1 in
+    let rows = c .before .before .before .before .before .rows .ensures in
+    let rows-ok = rows .ok in
+    (rows-ok .logs, pre1)
+
+rest-same-length : (t : ℕ) → rest-lts.Need-same-length (
+  bump-reads.Asked,
+  bump-reads.Learnt,
+  rows-below t,
+  rows.Post,
+  close-reads.Asked,
+  close-reads.Learnt,
+  at-round-below t,
+  at-round.Post,
+  args-below t,
+  args.Post,
+  vector-below t,
+  vector.Post,
+) (rest-at t) rest.Post
+rest-same-length t c =
+    c .before .before .close .kept .0 ∙ c .before .before .before .before .before .before .before .before .rows .kept .1 .1 .1 .1 .0 ∙ c .before .before .before .before .before .before .before .before .before .before .before .before .before .bump .kept .1 .0
+
+rest-same-length-2 : (t : ℕ) → rest-lts.Need-same-length-2 (
+  bump-reads.Asked,
+  bump-reads.Learnt,
+  rows-below t,
+  rows.Post,
+  close-reads.Asked,
+  close-reads.Learnt,
+  at-round-below t,
+  at-round.Post,
+  args-below t,
+  args.Post,
+  vector-below t,
+  vector.Post,
+) (rest-at t) rest.Post
+rest-same-length-2 t c =
+    c .before .before .before .before .before .before .before .before .rows .kept .1 .1 .1 .1 .1 .0
+
+rest-returns : (t : ℕ) → rest-lts.Need-returns (
+  bump-reads.Asked,
+  bump-reads.Learnt,
+  rows-below t,
+  rows.Post,
+  close-reads.Asked,
+  close-reads.Learnt,
+  at-round-below t,
+  at-round.Post,
+  args-below t,
+  args.Post,
+  vector-below t,
+  vector.Post,
+) (rest-at t) rest.Post
+unfolding pat.atPatRest util.endSep plan choose chosen
+rest-returns t c =
+    let falls = c .before .before .before .before .before .before .before .before .before .before .before .before .before .before .before .before .before .before .before .before .before .before .pre .0 in
+    let pre0 = c .before .before .before .before .before .before .before .before .before .before .before .before .before .before .before .before .before .before .before .before .before .before .pre .1 .0 in
+    let pre1 = c .before .before .before .before .before .before .before .before .before .before .before .before .before .before .before .before .before .before .before .before .before .before .pre .1 .1 in
+    let if1 = c .before .before .before .before .before .before .before .before .before .before .before .before .before .before .before .if1 .taken in
+    let bump = c .before .before .before .before .before .before .before .before .before .before .before .before .before .bump .ensures in
+    let rows = c .before .before .before .before .before .before .before .before .rows .ensures in
+    let close = c .before .before .close .ensures in
+    in-steps pre0 (s-true _ _ (kind-is if1) (s-bump bump (s-run rows (s-close close s-end))))
+
+rest-bump-requires-2 : (t : ℕ) → rest-lts.Need-bump-requires-2 (
+  bump-reads.Asked,
+  bump-reads.Learnt,
+  rows-below t,
+  rows.Post,
+  close-reads.Asked,
+  close-reads.Learnt,
+  at-round-below t,
+  at-round.Post,
+  args-below t,
+  args.Post,
+  vector-below t,
+  vector.Post,
+) (rest-at t) rest.Post
+rest-bump-requires-2 t c κs =
+    let pre0 = c .before .before .before .before .before .before .before .before .before .pre .1 .0 in
+    (pre0 .reads, pre0 .logs)
+
+rest-at-round-requires : (t : ℕ) → rest-lts.Need-at-round-requires (
+  bump-reads.Asked,
+  bump-reads.Learnt,
+  rows-below t,
+  rows.Post,
+  close-reads.Asked,
+  close-reads.Learnt,
+  at-round-below t,
+  at-round.Post,
+  args-below t,
+  args.Post,
+  vector-below t,
+  vector.Post,
+) (rest-at t) rest.Post
+rest-at-round-requires t c κs =
+    let falls = c .before .before .before .before .before .before .before .before .before .before .before .before .before .before .pre .0 in
+    let pre0 = c .before .before .before .before .before .before .before .before .before .before .before .before .before .before .pre .1 .0 in
+    let pre1 = c .before .before .before .before .before .before .before .before .before .before .before .before .before .before .pre .1 .1 in
+    let if1 = c .before .before .before .before .before .before .before .if1 .left in
+    let if2 = c .before .before .before .before .before .before .if2 .taken in
+    let bump2 = c .before .before .before .before .bump2 .ensures in
+    let bump2-ok = ok-bumps bump2 pre0 in
+    (omega arith, (bump2-ok, pre1))
+
+rest-same-length-3 : (t : ℕ) → rest-lts.Need-same-length-3 (
+  bump-reads.Asked,
+  bump-reads.Learnt,
+  rows-below t,
+  rows.Post,
+  close-reads.Asked,
+  close-reads.Learnt,
+  at-round-below t,
+  at-round.Post,
+  args-below t,
+  args.Post,
+  vector-below t,
+  vector.Post,
+) (rest-at t) rest.Post
+rest-same-length-3 t c =
+    c .before .before .before .before .at-round .kept .1 .1 .1 .1 .0 ∙ c .before .before .before .before .before .before .before .before .before .bump2 .kept .1 .0
+
+rest-same-length-4 : (t : ℕ) → rest-lts.Need-same-length-4 (
+  bump-reads.Asked,
+  bump-reads.Learnt,
+  rows-below t,
+  rows.Post,
+  close-reads.Asked,
+  close-reads.Learnt,
+  at-round-below t,
+  at-round.Post,
+  args-below t,
+  args.Post,
+  vector-below t,
+  vector.Post,
+) (rest-at t) rest.Post
+rest-same-length-4 t c =
+    c .before .before .before .before .at-round .kept .1 .1 .1 .1 .1 .0
+
+rest-returns-2 : (t : ℕ) → rest-lts.Need-returns-2 (
+  bump-reads.Asked,
+  bump-reads.Learnt,
+  rows-below t,
+  rows.Post,
+  close-reads.Asked,
+  close-reads.Learnt,
+  at-round-below t,
+  at-round.Post,
+  args-below t,
+  args.Post,
+  vector-below t,
+  vector.Post,
+) (rest-at t) rest.Post
+unfolding pat.atPatRest util.endSep plan choose chosen
+rest-returns-2 t c =
+    let falls = c .before .before .before .before .before .before .before .before .before .before .before .before .before .before .before .before .before .before .before .pre .0 in
+    let pre0 = c .before .before .before .before .before .before .before .before .before .before .before .before .before .before .before .before .before .before .before .pre .1 .0 in
+    let pre1 = c .before .before .before .before .before .before .before .before .before .before .before .before .before .before .before .before .before .before .before .pre .1 .1 in
+    let if1 = c .before .before .before .before .before .before .before .before .before .before .before .before .if1 .left in
+    let if2 = c .before .before .before .before .before .before .before .before .before .before .before .if2 .taken in
+    let bump2 = c .before .before .before .before .before .before .before .before .before .bump2 .ensures in
+    let at-round = c .before .before .before .before .at-round .ensures in
+    in-steps pre0 (s-false _ _ (kind-not if1) (s-true _ _ (kind-is if2) (s-bump bump2 (s-by _ at-round s-end))))
+
+rest-bump-requires-3 : (t : ℕ) → rest-lts.Need-bump-requires-3 (
+  bump-reads.Asked,
+  bump-reads.Learnt,
+  rows-below t,
+  rows.Post,
+  close-reads.Asked,
+  close-reads.Learnt,
+  at-round-below t,
+  at-round.Post,
+  args-below t,
+  args.Post,
+  vector-below t,
+  vector.Post,
+) (rest-at t) rest.Post
+rest-bump-requires-3 t c κs =
+    let pre0 = c .before .before .before .before .before .before .before .before .before .before .pre .1 .0 in
+    (pre0 .reads, pre0 .logs)
+
+rest-args-requires : (t : ℕ) → rest-lts.Need-args-requires (
+  bump-reads.Asked,
+  bump-reads.Learnt,
+  rows-below t,
+  rows.Post,
+  close-reads.Asked,
+  close-reads.Learnt,
+  at-round-below t,
+  at-round.Post,
+  args-below t,
+  args.Post,
+  vector-below t,
+  vector.Post,
+) (rest-at t) rest.Post
+rest-args-requires t c κs =
+    let falls = c .before .before .before .before .before .before .before .before .before .before .before .before .before .before .before .pre .0 in
+    let pre0 = c .before .before .before .before .before .before .before .before .before .before .before .before .before .before .before .pre .1 .0 in
+    let pre1 = c .before .before .before .before .before .before .before .before .before .before .before .before .before .before .before .pre .1 .1 in
+    let if1 = c .before .before .before .before .before .before .before .before .if1 .left in
+    let if2 = c .before .before .before .before .before .before .before .if2 .left in
+    let if3 = c .before .before .before .before .before .before .if3 .taken in
+    let bump3 = c .before .before .before .before .bump3 .ensures in
+    let bump3-ok = ok-bumps bump3 pre0 in
+    (omega arith, (bump3-ok, omega arith))
+
+rest-close-requires-2 : (t : ℕ) → rest-lts.Need-close-requires-2 (
+  bump-reads.Asked,
+  bump-reads.Learnt,
+  rows-below t,
+  rows.Post,
+  close-reads.Asked,
+  close-reads.Learnt,
+  at-round-below t,
+  at-round.Post,
+  args-below t,
+  args.Post,
+  vector-below t,
+  vector.Post,
+) (rest-at t) rest.Post
+rest-close-requires-2 t c κs =
+    let pre1 = c .before .before .before .before .before .before .before .before .before .before .before .before .before .before .before .before .before .before .before .before .before .pre .1 .1 in
+    let args2 = c .before .before .before .before .before .args2 .ensures in
+    let args2-ok = args2 .ok in
+    (args2-ok .logs, pre1)
+
+rest-same-length-5 : (t : ℕ) → rest-lts.Need-same-length-5 (
+  bump-reads.Asked,
+  bump-reads.Learnt,
+  rows-below t,
+  rows.Post,
+  close-reads.Asked,
+  close-reads.Learnt,
+  at-round-below t,
+  at-round.Post,
+  args-below t,
+  args.Post,
+  vector-below t,
+  vector.Post,
+) (rest-at t) rest.Post
+rest-same-length-5 t c =
+    c .before .before .close2 .kept .0 ∙ c .before .before .before .before .before .before .before .before .args2 .kept .1 .1 .1 .1 .0 ∙ c .before .before .before .before .before .before .before .before .before .before .before .before .before .bump3 .kept .1 .0
+
+rest-same-length-6 : (t : ℕ) → rest-lts.Need-same-length-6 (
+  bump-reads.Asked,
+  bump-reads.Learnt,
+  rows-below t,
+  rows.Post,
+  close-reads.Asked,
+  close-reads.Learnt,
+  at-round-below t,
+  at-round.Post,
+  args-below t,
+  args.Post,
+  vector-below t,
+  vector.Post,
+) (rest-at t) rest.Post
+rest-same-length-6 t c =
+    c .before .before .before .before .before .before .before .before .args2 .kept .1 .1 .1 .1 .1 .0
+
+rest-returns-3 : (t : ℕ) → rest-lts.Need-returns-3 (
+  bump-reads.Asked,
+  bump-reads.Learnt,
+  rows-below t,
+  rows.Post,
+  close-reads.Asked,
+  close-reads.Learnt,
+  at-round-below t,
+  at-round.Post,
+  args-below t,
+  args.Post,
+  vector-below t,
+  vector.Post,
+) (rest-at t) rest.Post
+unfolding pat.atPatRest util.endSep plan choose chosen
+rest-returns-3 t c =
+    let falls = c .before .before .before .before .before .before .before .before .before .before .before .before .before .before .before .before .before .before .before .before .before .before .before .before .pre .0 in
+    let pre0 = c .before .before .before .before .before .before .before .before .before .before .before .before .before .before .before .before .before .before .before .before .before .before .before .before .pre .1 .0 in
+    let pre1 = c .before .before .before .before .before .before .before .before .before .before .before .before .before .before .before .before .before .before .before .before .before .before .before .before .pre .1 .1 in
+    let if1 = c .before .before .before .before .before .before .before .before .before .before .before .before .before .before .before .before .before .if1 .left in
+    let if2 = c .before .before .before .before .before .before .before .before .before .before .before .before .before .before .before .before .if2 .left in
+    let if3 = c .before .before .before .before .before .before .before .before .before .before .before .before .before .before .before .if3 .taken in
+    let bump3 = c .before .before .before .before .before .before .before .before .before .before .before .before .before .bump3 .ensures in
+    let args2 = c .before .before .before .before .before .before .before .before .args2 .ensures in
+    let close2 = c .before .before .close2 .ensures in
+    in-steps pre0 (s-false _ _ (kind-not if1) (s-false _ _ (kind-not if2) (s-true _ _ (kind-is if3) (s-bump bump3 (s-run args2 (s-close close2 s-end))))))
+
+rest-bump-requires-4 : (t : ℕ) → rest-lts.Need-bump-requires-4 (
+  bump-reads.Asked,
+  bump-reads.Learnt,
+  rows-below t,
+  rows.Post,
+  close-reads.Asked,
+  close-reads.Learnt,
+  at-round-below t,
+  at-round.Post,
+  args-below t,
+  args.Post,
+  vector-below t,
+  vector.Post,
+) (rest-at t) rest.Post
+rest-bump-requires-4 t c κs =
+    let pre0 = c .before .before .before .before .before .before .before .before .before .before .before .pre .1 .0 in
+    (pre0 .reads, pre0 .logs)
+
+rest-vector-requires : (t : ℕ) → rest-lts.Need-vector-requires (
+  bump-reads.Asked,
+  bump-reads.Learnt,
+  rows-below t,
+  rows.Post,
+  close-reads.Asked,
+  close-reads.Learnt,
+  at-round-below t,
+  at-round.Post,
+  args-below t,
+  args.Post,
+  vector-below t,
+  vector.Post,
+) (rest-at t) rest.Post
+rest-vector-requires t c κs =
+    let falls = c .before .before .before .before .before .before .before .before .before .before .before .before .before .before .before .before .pre .0 in
+    let pre0 = c .before .before .before .before .before .before .before .before .before .before .before .before .before .before .before .before .pre .1 .0 in
+    let pre1 = c .before .before .before .before .before .before .before .before .before .before .before .before .before .before .before .before .pre .1 .1 in
+    let if1 = c .before .before .before .before .before .before .before .before .before .if1 .left in
+    let if2 = c .before .before .before .before .before .before .before .before .if2 .left in
+    let if3 = c .before .before .before .before .before .before .before .if3 .left in
+    let if4 = c .before .before .before .before .before .before .if4 .taken in
+    let bump4 = c .before .before .before .before .bump4 .ensures in
+    let bump4-ok = ok-bumps bump4 pre0 in
+    (omega arith, bump4-ok)
+
+rest-close-requires-3 : (t : ℕ) → rest-lts.Need-close-requires-3 (
+  bump-reads.Asked,
+  bump-reads.Learnt,
+  rows-below t,
+  rows.Post,
+  close-reads.Asked,
+  close-reads.Learnt,
+  at-round-below t,
+  at-round.Post,
+  args-below t,
+  args.Post,
+  vector-below t,
+  vector.Post,
+) (rest-at t) rest.Post
+rest-close-requires-3 t c κs =
+    let pre1 = c .before .before .before .before .before .before .before .before .before .before .before .before .before .before .before .before .before .before .before .before .before .before .pre .1 .1 in
+    let vector = c .before .before .before .before .before .vector .ensures in
+    let vector-ok = vector .ok in
+    (vector-ok .logs, pre1)
+
+rest-same-length-7 : (t : ℕ) → rest-lts.Need-same-length-7 (
+  bump-reads.Asked,
+  bump-reads.Learnt,
+  rows-below t,
+  rows.Post,
+  close-reads.Asked,
+  close-reads.Learnt,
+  at-round-below t,
+  at-round.Post,
+  args-below t,
+  args.Post,
+  vector-below t,
+  vector.Post,
+) (rest-at t) rest.Post
+rest-same-length-7 t c =
+    c .before .before .close3 .kept .0 ∙ c .before .before .before .before .before .before .before .before .vector .kept .1 .1 .1 .1 .0 ∙ c .before .before .before .before .before .before .before .before .before .before .before .before .before .bump4 .kept .1 .0
+
+rest-same-length-8 : (t : ℕ) → rest-lts.Need-same-length-8 (
+  bump-reads.Asked,
+  bump-reads.Learnt,
+  rows-below t,
+  rows.Post,
+  close-reads.Asked,
+  close-reads.Learnt,
+  at-round-below t,
+  at-round.Post,
+  args-below t,
+  args.Post,
+  vector-below t,
+  vector.Post,
+) (rest-at t) rest.Post
+rest-same-length-8 t c =
+    c .before .before .before .before .before .before .before .before .vector .kept .1 .1 .1 .1 .1 .0
+
+rest-returns-4 : (t : ℕ) → rest-lts.Need-returns-4 (
+  bump-reads.Asked,
+  bump-reads.Learnt,
+  rows-below t,
+  rows.Post,
+  close-reads.Asked,
+  close-reads.Learnt,
+  at-round-below t,
+  at-round.Post,
+  args-below t,
+  args.Post,
+  vector-below t,
+  vector.Post,
+) (rest-at t) rest.Post
+unfolding pat.atPatRest util.endSep plan choose chosen
+rest-returns-4 t c =
+    let falls = c .before .before .before .before .before .before .before .before .before .before .before .before .before .before .before .before .before .before .before .before .before .before .before .before .before .pre .0 in
+    let pre0 = c .before .before .before .before .before .before .before .before .before .before .before .before .before .before .before .before .before .before .before .before .before .before .before .before .before .pre .1 .0 in
+    let pre1 = c .before .before .before .before .before .before .before .before .before .before .before .before .before .before .before .before .before .before .before .before .before .before .before .before .before .pre .1 .1 in
+    let if1 = c .before .before .before .before .before .before .before .before .before .before .before .before .before .before .before .before .before .before .if1 .left in
+    let if2 = c .before .before .before .before .before .before .before .before .before .before .before .before .before .before .before .before .before .if2 .left in
+    let if3 = c .before .before .before .before .before .before .before .before .before .before .before .before .before .before .before .before .if3 .left in
+    let if4 = c .before .before .before .before .before .before .before .before .before .before .before .before .before .before .before .if4 .taken in
+    let bump4 = c .before .before .before .before .before .before .before .before .before .before .before .before .before .bump4 .ensures in
+    let vector = c .before .before .before .before .before .before .before .before .vector .ensures in
+    let close3 = c .before .before .close3 .ensures in
+    in-steps pre0 (s-false _ _ (kind-not if1) (s-false _ _ (kind-not if2) (s-false _ _ (kind-not if3) (s-true _ _ (kind-is if4) (s-bump bump4 (s-by _ (runs-in vector) (s-close close3 s-end)))))))
+
+rest-returns-5 : (t : ℕ) → rest-lts.Need-returns-5 (
+  bump-reads.Asked,
+  bump-reads.Learnt,
+  rows-below t,
+  rows.Post,
+  close-reads.Asked,
+  close-reads.Learnt,
+  at-round-below t,
+  at-round.Post,
+  args-below t,
+  args.Post,
+  vector-below t,
+  vector.Post,
+) (rest-at t) rest.Post
+unfolding pat.atPatRest util.endSep plan choose chosen
+rest-returns-5 t c =
+    let falls = c .before .before .before .before .before .before .before .before .before .before .pre .0 in
+    let pre0 = c .before .before .before .before .before .before .before .before .before .before .pre .1 .0 in
+    let pre1 = c .before .before .before .before .before .before .before .before .before .before .pre .1 .1 in
+    let if1 = c .before .before .before .if1 .left in
+    let if2 = c .before .before .if2 .left in
+    let if3 = c .before .if3 .left in
+    let if4 = c .if4 .left in
+    in-steps pre0 (s-false _ _ (kind-not if1) (s-false _ _ (kind-not if2) (s-false _ _ (kind-not if3) (s-false _ _ (kind-not if4) s-end))))
+
+row-refuse-requires : (t : ℕ) → row-lts.Need-refuse-requires (
   refuse-reads.Asked,
   refuse-reads.Learnt,
   mark-reads.Asked,
@@ -6972,14 +6512,11 @@ pat-row-refuse-requires : (t : ℕ) → pat-row-lts.Need-refuse-requires (
   ty-annotation-reads.Learnt,
   as-pat-tl-below t,
   as-pat-tl.Post,
-) (pat-row-at t) pat-row.Post
-pat-row-refuse-requires t c κs =
-    let falls = c .before .before .before .before .before .before .before .pre .0 in
-    let pre0 = c .before .before .before .before .before .before .before .pre .1 in
-    let if1 = c .if1 .taken in
-    search asks depth 8
+) (row-at t) row.Post
+row-refuse-requires t c κs =
+    tt
 
-pat-row-returns : (t : ℕ) → pat-row-lts.Need-returns (
+row-returns : (t : ℕ) → row-lts.Need-returns (
   refuse-reads.Asked,
   refuse-reads.Learnt,
   mark-reads.Asked,
@@ -7006,16 +6543,16 @@ pat-row-returns : (t : ℕ) → pat-row-lts.Need-returns (
   ty-annotation-reads.Learnt,
   as-pat-tl-below t,
   as-pat-tl.Post,
-) (pat-row-at t) pat-row.Post
+) (row-at t) row.Post
 unfolding pat.patRow plan choose chosen
-pat-row-returns t c =
+row-returns t c =
     let falls = c .before .before .before .before .before .before .before .before .pre .0 in
     let pre0 = c .before .before .before .before .before .before .before .before .pre .1 in
     let if1 = c .before .if1 .taken in
     let refuse = c .refuse .ensures in
     by-steps pre0 (λ b. s-deep if1 refuse s-end)
 
-pat-row-mark-requires : (t : ℕ) → pat-row-lts.Need-mark-requires (
+row-mark-requires : (t : ℕ) → row-lts.Need-mark-requires (
   refuse-reads.Asked,
   refuse-reads.Learnt,
   mark-reads.Asked,
@@ -7042,14 +6579,11 @@ pat-row-mark-requires : (t : ℕ) → pat-row-lts.Need-mark-requires (
   ty-annotation-reads.Learnt,
   as-pat-tl-below t,
   as-pat-tl.Post,
-) (pat-row-at t) pat-row.Post
-pat-row-mark-requires t c κs =
-    let falls = c .before .before .before .before .before .before .before .pre .0 in
-    let pre0 = c .before .before .before .before .before .before .before .pre .1 in
-    let if1 = c .if1 .left in
-    search asks depth 8
+) (row-at t) row.Post
+row-mark-requires t c κs =
+    tt
 
-pat-row-at-requires : (t : ℕ) → pat-row-lts.Need-at-requires (
+row-at-requires : (t : ℕ) → row-lts.Need-at-requires (
   refuse-reads.Asked,
   refuse-reads.Learnt,
   mark-reads.Asked,
@@ -7076,16 +6610,14 @@ pat-row-at-requires : (t : ℕ) → pat-row-lts.Need-at-requires (
   ty-annotation-reads.Learnt,
   as-pat-tl-below t,
   as-pat-tl.Post,
-) (pat-row-at t) pat-row.Post
-pat-row-at-requires t c κs =
-    let falls = c .before .before .before .before .before .before .before .before .pre .0 in
+) (row-at t) row.Post
+row-at-requires t c κs =
     let pre0 = c .before .before .before .before .before .before .before .before .pre .1 in
-    let if1 = c .before .if1 .left in
     let mark = c .mark .ensures in
     let mark-ok = ok-marks mark pre0 in
-    search asks depth 8
+    mark-ok .reads
 
-pat-row-bump-requires : (t : ℕ) → pat-row-lts.Need-bump-requires (
+row-bump-requires : (t : ℕ) → row-lts.Need-bump-requires (
   refuse-reads.Asked,
   refuse-reads.Learnt,
   mark-reads.Asked,
@@ -7112,18 +6644,14 @@ pat-row-bump-requires : (t : ℕ) → pat-row-lts.Need-bump-requires (
   ty-annotation-reads.Learnt,
   as-pat-tl-below t,
   as-pat-tl.Post,
-) (pat-row-at t) pat-row.Post
-pat-row-bump-requires t c κs =
-    let falls = c .before .before .before .before .before .before .before .before .before .before .before .pre .0 in
+) (row-at t) row.Post
+row-bump-requires t c κs =
     let pre0 = c .before .before .before .before .before .before .before .before .before .before .before .pre .1 in
-    let if1 = c .before .before .before .before .if1 .left in
     let mark = c .before .before .before .mark .ensures in
     let mark-ok = ok-marks mark pre0 in
-    let at = c .before .before .at .ensures in
-    let if2 = c .before .if2 .taken in
-    search asks depth 8
+    (mark-ok .reads, mark-ok .logs)
 
-pat-row-close-requires : (t : ℕ) → pat-row-lts.Need-close-requires (
+row-close-requires : (t : ℕ) → row-lts.Need-close-requires (
   refuse-reads.Asked,
   refuse-reads.Learnt,
   mark-reads.Asked,
@@ -7150,20 +6678,16 @@ pat-row-close-requires : (t : ℕ) → pat-row-lts.Need-close-requires (
   ty-annotation-reads.Learnt,
   as-pat-tl-below t,
   as-pat-tl.Post,
-) (pat-row-at t) pat-row.Post
-pat-row-close-requires t c κs =
-    let falls = c .before .before .before .before .before .before .before .before .before .before .before .before .before .before .before .pre .0 in
+) (row-at t) row.Post
+row-close-requires t c κs =
     let pre0 = c .before .before .before .before .before .before .before .before .before .before .before .before .before .before .before .pre .1 in
-    let if1 = c .before .before .before .before .before .before .before .before .if1 .left in
     let mark = c .before .before .before .before .before .before .before .mark .ensures in
     let mark-ok = ok-marks mark pre0 in
-    let at = c .before .before .before .before .before .before .at .ensures in
-    let if2 = c .before .before .before .before .before .if2 .taken in
     let bump = c .before .before .before .bump .ensures in
     let bump-ok = ok-bumps bump mark-ok in
-    search asks depth 8
+    (bump-ok .logs, small-len mark-ok)
 
-pat-row-same-length : (t : ℕ) → pat-row-lts.Need-same-length (
+row-same-length : (t : ℕ) → row-lts.Need-same-length (
   refuse-reads.Asked,
   refuse-reads.Learnt,
   mark-reads.Asked,
@@ -7190,11 +6714,11 @@ pat-row-same-length : (t : ℕ) → pat-row-lts.Need-same-length (
   ty-annotation-reads.Learnt,
   as-pat-tl-below t,
   as-pat-tl.Post,
-) (pat-row-at t) pat-row.Post
-pat-row-same-length t c =
+) (row-at t) row.Post
+row-same-length t c =
     c .before .before .close .kept .0 ∙ c .before .before .before .before .before .before .bump .kept .1 .0
 
-pat-row-returns-2 : (t : ℕ) → pat-row-lts.Need-returns-2 (
+row-returns-2 : (t : ℕ) → row-lts.Need-returns-2 (
   refuse-reads.Asked,
   refuse-reads.Learnt,
   mark-reads.Asked,
@@ -7221,9 +6745,9 @@ pat-row-returns-2 : (t : ℕ) → pat-row-lts.Need-returns-2 (
   ty-annotation-reads.Learnt,
   as-pat-tl-below t,
   as-pat-tl.Post,
-) (pat-row-at t) pat-row.Post
+) (row-at t) row.Post
 unfolding pat.patRow plan choose chosen
-pat-row-returns-2 t c =
+row-returns-2 t c =
     let falls = c .before .before .before .before .before .before .before .before .before .before .before .before .before .before .before .before .before .before .pre .0 in
     let pre0 = c .before .before .before .before .before .before .before .before .before .before .before .before .before .before .before .before .before .before .pre .1 in
     let if1 = c .before .before .before .before .before .before .before .before .before .before .before .if1 .left in
@@ -7234,7 +6758,7 @@ pat-row-returns-2 t c =
     let close = c .before .before .close .ensures in
     by-steps pre0 (λ b. s-mark if1 mark (s-kind (s-true _ _ (kind-at _ _ _ _ at if2) (s-bump bump (s-close close s-end)))))
 
-pat-row-at-n-requires : (t : ℕ) → pat-row-lts.Need-at-n-requires (
+row-at-n-requires : (t : ℕ) → row-lts.Need-at-n-requires (
   refuse-reads.Asked,
   refuse-reads.Learnt,
   mark-reads.Asked,
@@ -7261,18 +6785,14 @@ pat-row-at-n-requires : (t : ℕ) → pat-row-lts.Need-at-n-requires (
   ty-annotation-reads.Learnt,
   as-pat-tl-below t,
   as-pat-tl.Post,
-) (pat-row-at t) pat-row.Post
-pat-row-at-n-requires t c κs =
-    let falls = c .before .before .before .before .before .before .before .before .before .before .pre .0 in
+) (row-at t) row.Post
+row-at-n-requires t c κs =
     let pre0 = c .before .before .before .before .before .before .before .before .before .before .pre .1 in
-    let if1 = c .before .before .before .if1 .left in
     let mark = c .before .before .mark .ensures in
     let mark-ok = ok-marks mark pre0 in
-    let at = c .before .at .ensures in
-    let if2 = c .if2 .left in
-    search asks depth 8
+    mark-ok .reads
 
-pat-row-lab-requires : (t : ℕ) → pat-row-lts.Need-lab-requires (
+row-lab-requires : (t : ℕ) → row-lts.Need-lab-requires (
   refuse-reads.Asked,
   refuse-reads.Learnt,
   mark-reads.Asked,
@@ -7299,20 +6819,14 @@ pat-row-lab-requires : (t : ℕ) → pat-row-lts.Need-lab-requires (
   ty-annotation-reads.Learnt,
   as-pat-tl-below t,
   as-pat-tl.Post,
-) (pat-row-at t) pat-row.Post
-pat-row-lab-requires t c κs =
-    let falls = c .before .before .before .before .before .before .before .before .before .before .before .before .before .before .pre .0 in
+) (row-at t) row.Post
+row-lab-requires t c κs =
     let pre0 = c .before .before .before .before .before .before .before .before .before .before .before .before .before .before .pre .1 in
-    let if1 = c .before .before .before .before .before .before .before .if1 .left in
     let mark = c .before .before .before .before .before .before .mark .ensures in
     let mark-ok = ok-marks mark pre0 in
-    let at = c .before .before .before .before .before .at .ensures in
-    let if2 = c .before .before .before .before .if2 .left in
-    let at-n = c .before .before .before .at-n .ensures in
-    let if3 = c .before .before .if3 .taken in
-    search asks depth 8
+    mark-ok
 
-pat-row-eat-requires : (t : ℕ) → pat-row-lts.Need-eat-requires (
+row-eat-requires : (t : ℕ) → row-lts.Need-eat-requires (
   refuse-reads.Asked,
   refuse-reads.Learnt,
   mark-reads.Asked,
@@ -7339,22 +6853,17 @@ pat-row-eat-requires : (t : ℕ) → pat-row-lts.Need-eat-requires (
   ty-annotation-reads.Learnt,
   as-pat-tl-below t,
   as-pat-tl.Post,
-) (pat-row-at t) pat-row.Post
-pat-row-eat-requires t c κs =
+) (row-at t) row.Post
+row-eat-requires t c κs =
     let falls = c .before .before .before .before .before .before .before .before .before .before .before .before .before .before .before .before .before .before .before .before .before .pre .0 in
-    let pre0 = c .before .before .before .before .before .before .before .before .before .before .before .before .before .before .before .before .before .before .before .before .before .pre .1 in
     let if1 = c .before .before .before .before .before .before .before .before .before .before .before .before .before .before .if1 .left in
-    let mark = c .before .before .before .before .before .before .before .before .before .before .before .before .before .mark .ensures in
-    let mark-ok = ok-marks mark pre0 in
-    let at = c .before .before .before .before .before .before .before .before .before .before .before .before .at .ensures in
     let if2 = c .before .before .before .before .before .before .before .before .before .before .before .if2 .left in
-    let at-n = c .before .before .before .before .before .before .before .before .before .before .at-n .ensures in
     let if3 = c .before .before .before .before .before .before .before .before .before .if3 .taken in
     let lab = c .before .before .before .before .before .before .lab .ensures in
     let lab-ok = lab .ok in
-    search asks depth 8
+    (lab-ok, omega arith)
 
-pat-row-state-requires : (t : ℕ) → pat-row-lts.Need-state-requires (
+row-state-requires : (t : ℕ) → row-lts.Need-state-requires (
   refuse-reads.Asked,
   refuse-reads.Learnt,
   mark-reads.Asked,
@@ -7381,24 +6890,11 @@ pat-row-state-requires : (t : ℕ) → pat-row-lts.Need-state-requires (
   ty-annotation-reads.Learnt,
   as-pat-tl-below t,
   as-pat-tl.Post,
-) (pat-row-at t) pat-row.Post
-pat-row-state-requires t c κs =
-    let falls = c .before .before .before .before .before .before .before .before .before .before .before .before .before .before .before .before .before .before .before .before .before .before .before .before .before .before .pre .0 in
-    let pre0 = c .before .before .before .before .before .before .before .before .before .before .before .before .before .before .before .before .before .before .before .before .before .before .before .before .before .before .pre .1 in
-    let if1 = c .before .before .before .before .before .before .before .before .before .before .before .before .before .before .before .before .before .before .before .if1 .left in
-    let mark = c .before .before .before .before .before .before .before .before .before .before .before .before .before .before .before .before .before .before .mark .ensures in
-    let mark-ok = ok-marks mark pre0 in
-    let at = c .before .before .before .before .before .before .before .before .before .before .before .before .before .before .before .before .before .at .ensures in
-    let if2 = c .before .before .before .before .before .before .before .before .before .before .before .before .before .before .before .before .if2 .left in
-    let at-n = c .before .before .before .before .before .before .before .before .before .before .before .before .before .before .before .at-n .ensures in
-    let if3 = c .before .before .before .before .before .before .before .before .before .before .before .before .before .before .if3 .taken in
-    let lab = c .before .before .before .before .before .before .before .before .before .before .before .lab .ensures in
-    let lab-ok = lab .ok in
-    let eat = c .before .before .before .before .eat .ensures in
-    let eat-ok = eat .ok in
-    search asks depth 8
+) (row-at t) row.Post
+row-state-requires t c κs =
+    tt
 
-pat-row-sub-pat-must : (t : ℕ) → pat-row-lts.Need-sub-pat-must (
+row-sub-pat-must : (t : ℕ) → row-lts.Need-sub-pat-must (
   refuse-reads.Asked,
   refuse-reads.Learnt,
   mark-reads.Asked,
@@ -7425,8 +6921,8 @@ pat-row-sub-pat-must : (t : ℕ) → pat-row-lts.Need-sub-pat-must (
   ty-annotation-reads.Learnt,
   as-pat-tl-below t,
   as-pat-tl.Post,
-) (pat-row-at t) pat-row.Post
-pat-row-sub-pat-must t c =
+) (row-at t) row.Post
+row-sub-pat-must t c =
     let falls = c .before .before .before .before .before .before .before .before .before .before .before .before .before .before .before .before .before .before .before .before .before .before .before .before .before .before .before .before .before .pre .0 in
     let pre0 = c .before .before .before .before .before .before .before .before .before .before .before .before .before .before .before .before .before .before .before .before .before .before .before .before .before .before .before .before .before .pre .1 in
     let if1 = c .before .before .before .before .before .before .before .before .before .before .before .before .before .before .before .before .before .before .before .before .before .before .if1 .left in
@@ -7434,7 +6930,7 @@ pat-row-sub-pat-must t c =
     let if3 = c .before .before .before .before .before .before .before .before .before .before .before .before .before .before .before .before .before .if3 .taken in
     search needs
 
-pat-row-pat-must-requires : (t : ℕ) → pat-row-lts.Need-pat-must-requires (
+row-pat-must-requires : (t : ℕ) → row-lts.Need-pat-must-requires (
   refuse-reads.Asked,
   refuse-reads.Learnt,
   mark-reads.Asked,
@@ -7461,26 +6957,19 @@ pat-row-pat-must-requires : (t : ℕ) → pat-row-lts.Need-pat-must-requires (
   ty-annotation-reads.Learnt,
   as-pat-tl-below t,
   as-pat-tl.Post,
-) (pat-row-at t) pat-row.Post
-pat-row-pat-must-requires t c κs =
+) (row-at t) row.Post
+row-pat-must-requires t c κs =
     let falls = c .before .before .before .before .before .before .before .before .before .before .before .before .before .before .before .before .before .before .before .before .before .before .before .before .before .before .before .before .before .pre .0 in
-    let pre0 = c .before .before .before .before .before .before .before .before .before .before .before .before .before .before .before .before .before .before .before .before .before .before .before .before .before .before .before .before .before .pre .1 in
     let if1 = c .before .before .before .before .before .before .before .before .before .before .before .before .before .before .before .before .before .before .before .before .before .before .if1 .left in
-    let mark = c .before .before .before .before .before .before .before .before .before .before .before .before .before .before .before .before .before .before .before .before .before .mark .ensures in
-    let mark-ok = ok-marks mark pre0 in
-    let at = c .before .before .before .before .before .before .before .before .before .before .before .before .before .before .before .before .before .before .before .before .at .ensures in
     let if2 = c .before .before .before .before .before .before .before .before .before .before .before .before .before .before .before .before .before .before .before .if2 .left in
-    let at-n = c .before .before .before .before .before .before .before .before .before .before .before .before .before .before .before .before .before .before .at-n .ensures in
     let if3 = c .before .before .before .before .before .before .before .before .before .before .before .before .before .before .before .before .before .if3 .taken in
-    let lab = c .before .before .before .before .before .before .before .before .before .before .before .before .before .before .lab .ensures in
-    let lab-ok = lab .ok in
     let eat = c .before .before .before .before .before .before .before .eat .ensures in
     let eat-ok = eat .ok in
     let state = c .before .before .state .ensures in
     let state-ok = ok-state state eat-ok in
-    search asks depth 8
+    (omega arith, state-ok)
 
-pat-row-close-requires-2 : (t : ℕ) → pat-row-lts.Need-close-requires-2 (
+row-close-requires-2 : (t : ℕ) → row-lts.Need-close-requires-2 (
   refuse-reads.Asked,
   refuse-reads.Learnt,
   mark-reads.Asked,
@@ -7507,28 +6996,16 @@ pat-row-close-requires-2 : (t : ℕ) → pat-row-lts.Need-close-requires-2 (
   ty-annotation-reads.Learnt,
   as-pat-tl-below t,
   as-pat-tl.Post,
-) (pat-row-at t) pat-row.Post
-pat-row-close-requires-2 t c κs =
-    let falls = c .before .before .before .before .before .before .before .before .before .before .before .before .before .before .before .before .before .before .before .before .before .before .before .before .before .before .before .before .before .before .before .before .before .before .before .pre .0 in
+) (row-at t) row.Post
+row-close-requires-2 t c κs =
     let pre0 = c .before .before .before .before .before .before .before .before .before .before .before .before .before .before .before .before .before .before .before .before .before .before .before .before .before .before .before .before .before .before .before .before .before .before .before .pre .1 in
-    let if1 = c .before .before .before .before .before .before .before .before .before .before .before .before .before .before .before .before .before .before .before .before .before .before .before .before .before .before .before .before .if1 .left in
     let mark = c .before .before .before .before .before .before .before .before .before .before .before .before .before .before .before .before .before .before .before .before .before .before .before .before .before .before .before .mark .ensures in
     let mark-ok = ok-marks mark pre0 in
-    let at = c .before .before .before .before .before .before .before .before .before .before .before .before .before .before .before .before .before .before .before .before .before .before .before .before .before .before .at .ensures in
-    let if2 = c .before .before .before .before .before .before .before .before .before .before .before .before .before .before .before .before .before .before .before .before .before .before .before .before .before .if2 .left in
-    let at-n = c .before .before .before .before .before .before .before .before .before .before .before .before .before .before .before .before .before .before .before .before .before .before .before .before .at-n .ensures in
-    let if3 = c .before .before .before .before .before .before .before .before .before .before .before .before .before .before .before .before .before .before .before .before .before .before .before .if3 .taken in
-    let lab = c .before .before .before .before .before .before .before .before .before .before .before .before .before .before .before .before .before .before .before .before .lab .ensures in
-    let lab-ok = lab .ok in
-    let eat = c .before .before .before .before .before .before .before .before .before .before .before .before .before .eat .ensures in
-    let eat-ok = eat .ok in
-    let state = c .before .before .before .before .before .before .before .before .state .ensures in
-    let state-ok = ok-state state eat-ok in
     let pat-must = c .before .before .before .before .before .pat-must .ensures in
     let pat-must-ok = pat-must .ok in
-    search asks depth 8
+    (pat-must-ok .logs, small-len mark-ok)
 
-pat-row-same-length-2 : (t : ℕ) → pat-row-lts.Need-same-length-2 (
+row-same-length-2 : (t : ℕ) → row-lts.Need-same-length-2 (
   refuse-reads.Asked,
   refuse-reads.Learnt,
   mark-reads.Asked,
@@ -7555,11 +7032,11 @@ pat-row-same-length-2 : (t : ℕ) → pat-row-lts.Need-same-length-2 (
   ty-annotation-reads.Learnt,
   as-pat-tl-below t,
   as-pat-tl.Post,
-) (pat-row-at t) pat-row.Post
-pat-row-same-length-2 t c =
+) (row-at t) row.Post
+row-same-length-2 t c =
     c .before .before .close2 .kept .0 ∙ c .before .before .before .before .before .before .before .before .pat-must .kept .1 .1 .1 .1 .0 ∙ c .before .before .before .before .before .before .before .before .before .before .before .before .before .before .before .before .eat .kept .1 .1 .1 .1 .0 ∙ c .before .before .before .before .before .before .before .before .before .before .before .before .before .before .before .before .before .before .before .before .before .before .before .lab .kept .1 .1 .1 .1 .0
 
-pat-row-same-length-3 : (t : ℕ) → pat-row-lts.Need-same-length-3 (
+row-same-length-3 : (t : ℕ) → row-lts.Need-same-length-3 (
   refuse-reads.Asked,
   refuse-reads.Learnt,
   mark-reads.Asked,
@@ -7586,11 +7063,11 @@ pat-row-same-length-3 : (t : ℕ) → pat-row-lts.Need-same-length-3 (
   ty-annotation-reads.Learnt,
   as-pat-tl-below t,
   as-pat-tl.Post,
-) (pat-row-at t) pat-row.Post
-pat-row-same-length-3 t c =
+) (row-at t) row.Post
+row-same-length-3 t c =
     c .before .before .before .before .before .before .before .before .pat-must .kept .1 .1 .1 .1 .1 .0 ∙ c .before .before .before .before .before .before .before .before .before .before .before .before .before .before .before .before .eat .kept .1 .1 .1 .1 .1 .0 ∙ c .before .before .before .before .before .before .before .before .before .before .before .before .before .before .before .before .before .before .before .before .before .before .before .lab .kept .1 .1 .1 .1 .1 .0
 
-pat-row-returns-3 : (t : ℕ) → pat-row-lts.Need-returns-3 (
+row-returns-3 : (t : ℕ) → row-lts.Need-returns-3 (
   refuse-reads.Asked,
   refuse-reads.Learnt,
   mark-reads.Asked,
@@ -7617,9 +7094,9 @@ pat-row-returns-3 : (t : ℕ) → pat-row-lts.Need-returns-3 (
   ty-annotation-reads.Learnt,
   as-pat-tl-below t,
   as-pat-tl.Post,
-) (pat-row-at t) pat-row.Post
+) (row-at t) row.Post
 unfolding pat.patRow plan choose chosen
-pat-row-returns-3 t c =
+row-returns-3 t c =
     let falls = c .before .before .before .before .before .before .before .before .before .before .before .before .before .before .before .before .before .before .before .before .before .before .before .before .before .before .before .before .before .before .before .before .before .before .before .before .before .before .pre .0 in
     let pre0 = c .before .before .before .before .before .before .before .before .before .before .before .before .before .before .before .before .before .before .before .before .before .before .before .before .before .before .before .before .before .before .before .before .before .before .before .before .before .before .pre .1 in
     let if1 = c .before .before .before .before .before .before .before .before .before .before .before .before .before .before .before .before .before .before .before .before .before .before .before .before .before .before .before .before .before .before .before .if1 .left in
@@ -7635,7 +7112,7 @@ pat-row-returns-3 t c =
     let close2 = c .before .before .close2 .ensures in
     by-steps pre0 (λ b. s-mark if1 mark (s-kind (s-false _ _ (kind-off _ _ _ _ at if2) (s-kind (s-true _ _ (kind-at _ _ _ _ at-n if3) (s-by _ (runs-always lab) (s-by _ (settled state (runs-always eat)) (s-by _ (runs-in pat-must) (s-close close2 s-end)))))))))
 
-pat-row-eat-name-star-requires : (t : ℕ) → pat-row-lts.Need-eat-name-star-requires (
+row-eat-name-star-requires : (t : ℕ) → row-lts.Need-eat-name-star-requires (
   refuse-reads.Asked,
   refuse-reads.Learnt,
   mark-reads.Asked,
@@ -7662,20 +7139,14 @@ pat-row-eat-name-star-requires : (t : ℕ) → pat-row-lts.Need-eat-name-star-re
   ty-annotation-reads.Learnt,
   as-pat-tl-below t,
   as-pat-tl.Post,
-) (pat-row-at t) pat-row.Post
-pat-row-eat-name-star-requires t c κs =
-    let falls = c .before .before .before .before .before .before .before .before .before .before .before .before .before .before .pre .0 in
+) (row-at t) row.Post
+row-eat-name-star-requires t c κs =
     let pre0 = c .before .before .before .before .before .before .before .before .before .before .before .before .before .before .pre .1 in
-    let if1 = c .before .before .before .before .before .before .before .if1 .left in
     let mark = c .before .before .before .before .before .before .mark .ensures in
     let mark-ok = ok-marks mark pre0 in
-    let at = c .before .before .before .before .before .at .ensures in
-    let if2 = c .before .before .before .before .if2 .left in
-    let at-n = c .before .before .before .at-n .ensures in
-    let if3 = c .before .before .if3 .left in
-    search asks depth 8
+    mark-ok
 
-pat-row-state-requires-2 : (t : ℕ) → pat-row-lts.Need-state-requires-2 (
+row-state-requires-2 : (t : ℕ) → row-lts.Need-state-requires-2 (
   refuse-reads.Asked,
   refuse-reads.Learnt,
   mark-reads.Asked,
@@ -7702,22 +7173,11 @@ pat-row-state-requires-2 : (t : ℕ) → pat-row-lts.Need-state-requires-2 (
   ty-annotation-reads.Learnt,
   as-pat-tl-below t,
   as-pat-tl.Post,
-) (pat-row-at t) pat-row.Post
-pat-row-state-requires-2 t c κs =
-    let falls = c .before .before .before .before .before .before .before .before .before .before .before .before .before .before .before .before .before .before .before .pre .0 in
-    let pre0 = c .before .before .before .before .before .before .before .before .before .before .before .before .before .before .before .before .before .before .before .pre .1 in
-    let if1 = c .before .before .before .before .before .before .before .before .before .before .before .before .if1 .left in
-    let mark = c .before .before .before .before .before .before .before .before .before .before .before .mark .ensures in
-    let mark-ok = ok-marks mark pre0 in
-    let at = c .before .before .before .before .before .before .before .before .before .before .at .ensures in
-    let if2 = c .before .before .before .before .before .before .before .before .before .if2 .left in
-    let at-n = c .before .before .before .before .before .before .before .before .at-n .ensures in
-    let if3 = c .before .before .before .before .before .before .before .if3 .left in
-    let eat-name-star = c .before .before .before .before .eat-name-star .ensures in
-    let eat-name-star-ok = eat-name-star .ok in
-    search asks depth 8
+) (row-at t) row.Post
+row-state-requires-2 t c κs =
+    tt
 
-pat-row-sub-ty-annotation : (t : ℕ) → pat-row-lts.Need-sub-ty-annotation (
+row-sub-ty-annotation : (t : ℕ) → row-lts.Need-sub-ty-annotation (
   refuse-reads.Asked,
   refuse-reads.Learnt,
   mark-reads.Asked,
@@ -7744,8 +7204,8 @@ pat-row-sub-ty-annotation : (t : ℕ) → pat-row-lts.Need-sub-ty-annotation (
   ty-annotation-reads.Learnt,
   as-pat-tl-below t,
   as-pat-tl.Post,
-) (pat-row-at t) pat-row.Post
-pat-row-sub-ty-annotation t c =
+) (row-at t) row.Post
+row-sub-ty-annotation t c =
     let falls = c .before .before .before .before .before .before .before .before .before .before .before .before .before .before .before .before .before .before .before .before .before .before .pre .0 in
     let pre0 = c .before .before .before .before .before .before .before .before .before .before .before .before .before .before .before .before .before .before .before .before .before .before .pre .1 in
     let if1 = c .before .before .before .before .before .before .before .before .before .before .before .before .before .before .before .if1 .left in
@@ -7753,7 +7213,7 @@ pat-row-sub-ty-annotation t c =
     let if3 = c .before .before .before .before .before .before .before .before .before .before .if3 .left in
     search needs
 
-pat-row-ty-annotation-requires : (t : ℕ) → pat-row-lts.Need-ty-annotation-requires (
+row-ty-annotation-requires : (t : ℕ) → row-lts.Need-ty-annotation-requires (
   refuse-reads.Asked,
   refuse-reads.Learnt,
   mark-reads.Asked,
@@ -7780,24 +7240,15 @@ pat-row-ty-annotation-requires : (t : ℕ) → pat-row-lts.Need-ty-annotation-re
   ty-annotation-reads.Learnt,
   as-pat-tl-below t,
   as-pat-tl.Post,
-) (pat-row-at t) pat-row.Post
-pat-row-ty-annotation-requires t c κs =
-    let falls = c .before .before .before .before .before .before .before .before .before .before .before .before .before .before .before .before .before .before .before .before .before .before .pre .0 in
-    let pre0 = c .before .before .before .before .before .before .before .before .before .before .before .before .before .before .before .before .before .before .before .before .before .before .pre .1 in
-    let if1 = c .before .before .before .before .before .before .before .before .before .before .before .before .before .before .before .if1 .left in
-    let mark = c .before .before .before .before .before .before .before .before .before .before .before .before .before .before .mark .ensures in
-    let mark-ok = ok-marks mark pre0 in
-    let at = c .before .before .before .before .before .before .before .before .before .before .before .before .before .at .ensures in
-    let if2 = c .before .before .before .before .before .before .before .before .before .before .before .before .if2 .left in
-    let at-n = c .before .before .before .before .before .before .before .before .before .before .before .at-n .ensures in
-    let if3 = c .before .before .before .before .before .before .before .before .before .before .if3 .left in
+) (row-at t) row.Post
+row-ty-annotation-requires t c κs =
     let eat-name-star = c .before .before .before .before .before .before .before .eat-name-star .ensures in
     let eat-name-star-ok = eat-name-star .ok in
     let state2 = c .before .before .state2 .ensures in
     let state2-ok = ok-state state2 eat-name-star-ok in
-    search asks depth 8
+    state2-ok
 
-pat-row-state-requires-3 : (t : ℕ) → pat-row-lts.Need-state-requires-3 (
+row-state-requires-3 : (t : ℕ) → row-lts.Need-state-requires-3 (
   refuse-reads.Asked,
   refuse-reads.Learnt,
   mark-reads.Asked,
@@ -7824,26 +7275,11 @@ pat-row-state-requires-3 : (t : ℕ) → pat-row-lts.Need-state-requires-3 (
   ty-annotation-reads.Learnt,
   as-pat-tl-below t,
   as-pat-tl.Post,
-) (pat-row-at t) pat-row.Post
-pat-row-state-requires-3 t c κs =
-    let falls = c .before .before .before .before .before .before .before .before .before .before .before .before .before .before .before .before .before .before .before .before .before .before .before .before .before .before .before .pre .0 in
-    let pre0 = c .before .before .before .before .before .before .before .before .before .before .before .before .before .before .before .before .before .before .before .before .before .before .before .before .before .before .before .pre .1 in
-    let if1 = c .before .before .before .before .before .before .before .before .before .before .before .before .before .before .before .before .before .before .before .before .if1 .left in
-    let mark = c .before .before .before .before .before .before .before .before .before .before .before .before .before .before .before .before .before .before .before .mark .ensures in
-    let mark-ok = ok-marks mark pre0 in
-    let at = c .before .before .before .before .before .before .before .before .before .before .before .before .before .before .before .before .before .before .at .ensures in
-    let if2 = c .before .before .before .before .before .before .before .before .before .before .before .before .before .before .before .before .before .if2 .left in
-    let at-n = c .before .before .before .before .before .before .before .before .before .before .before .before .before .before .before .before .at-n .ensures in
-    let if3 = c .before .before .before .before .before .before .before .before .before .before .before .before .before .before .before .if3 .left in
-    let eat-name-star = c .before .before .before .before .before .before .before .before .before .before .before .before .eat-name-star .ensures in
-    let eat-name-star-ok = eat-name-star .ok in
-    let state2 = c .before .before .before .before .before .before .before .state2 .ensures in
-    let state2-ok = ok-state state2 eat-name-star-ok in
-    let ty-annotation = c .before .before .before .before .ty-annotation .ensures in
-    let ty-annotation-ok = ty-annotation .ok in
-    search asks depth 8
+) (row-at t) row.Post
+row-state-requires-3 t c κs =
+    tt
 
-pat-row-sub-as-pat-tl : (t : ℕ) → pat-row-lts.Need-sub-as-pat-tl (
+row-sub-as-pat-tl : (t : ℕ) → row-lts.Need-sub-as-pat-tl (
   refuse-reads.Asked,
   refuse-reads.Learnt,
   mark-reads.Asked,
@@ -7870,8 +7306,8 @@ pat-row-sub-as-pat-tl : (t : ℕ) → pat-row-lts.Need-sub-as-pat-tl (
   ty-annotation-reads.Learnt,
   as-pat-tl-below t,
   as-pat-tl.Post,
-) (pat-row-at t) pat-row.Post
-pat-row-sub-as-pat-tl t c =
+) (row-at t) row.Post
+row-sub-as-pat-tl t c =
     let falls = c .before .before .before .before .before .before .before .before .before .before .before .before .before .before .before .before .before .before .before .before .before .before .before .before .before .before .before .before .before .before .pre .0 in
     let pre0 = c .before .before .before .before .before .before .before .before .before .before .before .before .before .before .before .before .before .before .before .before .before .before .before .before .before .before .before .before .before .before .pre .1 in
     let if1 = c .before .before .before .before .before .before .before .before .before .before .before .before .before .before .before .before .before .before .before .before .before .before .before .if1 .left in
@@ -7879,7 +7315,7 @@ pat-row-sub-as-pat-tl t c =
     let if3 = c .before .before .before .before .before .before .before .before .before .before .before .before .before .before .before .before .before .before .if3 .left in
     search needs
 
-pat-row-as-pat-tl-requires : (t : ℕ) → pat-row-lts.Need-as-pat-tl-requires (
+row-as-pat-tl-requires : (t : ℕ) → row-lts.Need-as-pat-tl-requires (
   refuse-reads.Asked,
   refuse-reads.Learnt,
   mark-reads.Asked,
@@ -7906,28 +7342,19 @@ pat-row-as-pat-tl-requires : (t : ℕ) → pat-row-lts.Need-as-pat-tl-requires (
   ty-annotation-reads.Learnt,
   as-pat-tl-below t,
   as-pat-tl.Post,
-) (pat-row-at t) pat-row.Post
-pat-row-as-pat-tl-requires t c κs =
+) (row-at t) row.Post
+row-as-pat-tl-requires t c κs =
     let falls = c .before .before .before .before .before .before .before .before .before .before .before .before .before .before .before .before .before .before .before .before .before .before .before .before .before .before .before .before .before .before .pre .0 in
-    let pre0 = c .before .before .before .before .before .before .before .before .before .before .before .before .before .before .before .before .before .before .before .before .before .before .before .before .before .before .before .before .before .before .pre .1 in
     let if1 = c .before .before .before .before .before .before .before .before .before .before .before .before .before .before .before .before .before .before .before .before .before .before .before .if1 .left in
-    let mark = c .before .before .before .before .before .before .before .before .before .before .before .before .before .before .before .before .before .before .before .before .before .before .mark .ensures in
-    let mark-ok = ok-marks mark pre0 in
-    let at = c .before .before .before .before .before .before .before .before .before .before .before .before .before .before .before .before .before .before .before .before .before .at .ensures in
     let if2 = c .before .before .before .before .before .before .before .before .before .before .before .before .before .before .before .before .before .before .before .before .if2 .left in
-    let at-n = c .before .before .before .before .before .before .before .before .before .before .before .before .before .before .before .before .before .before .before .at-n .ensures in
     let if3 = c .before .before .before .before .before .before .before .before .before .before .before .before .before .before .before .before .before .before .if3 .left in
-    let eat-name-star = c .before .before .before .before .before .before .before .before .before .before .before .before .before .before .before .eat-name-star .ensures in
-    let eat-name-star-ok = eat-name-star .ok in
-    let state2 = c .before .before .before .before .before .before .before .before .before .before .state2 .ensures in
-    let state2-ok = ok-state state2 eat-name-star-ok in
     let ty-annotation = c .before .before .before .before .before .before .before .ty-annotation .ensures in
     let ty-annotation-ok = ty-annotation .ok in
     let state3 = c .before .before .state3 .ensures in
     let state3-ok = ok-state state3 ty-annotation-ok in
-    search asks depth 8
+    (omega arith, state3-ok)
 
-pat-row-state-requires-4 : (t : ℕ) → pat-row-lts.Need-state-requires-4 (
+row-state-requires-4 : (t : ℕ) → row-lts.Need-state-requires-4 (
   refuse-reads.Asked,
   refuse-reads.Learnt,
   mark-reads.Asked,
@@ -7954,30 +7381,11 @@ pat-row-state-requires-4 : (t : ℕ) → pat-row-lts.Need-state-requires-4 (
   ty-annotation-reads.Learnt,
   as-pat-tl-below t,
   as-pat-tl.Post,
-) (pat-row-at t) pat-row.Post
-pat-row-state-requires-4 t c κs =
-    let falls = c .before .before .before .before .before .before .before .before .before .before .before .before .before .before .before .before .before .before .before .before .before .before .before .before .before .before .before .before .before .before .before .before .before .before .before .pre .0 in
-    let pre0 = c .before .before .before .before .before .before .before .before .before .before .before .before .before .before .before .before .before .before .before .before .before .before .before .before .before .before .before .before .before .before .before .before .before .before .before .pre .1 in
-    let if1 = c .before .before .before .before .before .before .before .before .before .before .before .before .before .before .before .before .before .before .before .before .before .before .before .before .before .before .before .before .if1 .left in
-    let mark = c .before .before .before .before .before .before .before .before .before .before .before .before .before .before .before .before .before .before .before .before .before .before .before .before .before .before .before .mark .ensures in
-    let mark-ok = ok-marks mark pre0 in
-    let at = c .before .before .before .before .before .before .before .before .before .before .before .before .before .before .before .before .before .before .before .before .before .before .before .before .before .before .at .ensures in
-    let if2 = c .before .before .before .before .before .before .before .before .before .before .before .before .before .before .before .before .before .before .before .before .before .before .before .before .before .if2 .left in
-    let at-n = c .before .before .before .before .before .before .before .before .before .before .before .before .before .before .before .before .before .before .before .before .before .before .before .before .at-n .ensures in
-    let if3 = c .before .before .before .before .before .before .before .before .before .before .before .before .before .before .before .before .before .before .before .before .before .before .before .if3 .left in
-    let eat-name-star = c .before .before .before .before .before .before .before .before .before .before .before .before .before .before .before .before .before .before .before .before .eat-name-star .ensures in
-    let eat-name-star-ok = eat-name-star .ok in
-    let state2 = c .before .before .before .before .before .before .before .before .before .before .before .before .before .before .before .state2 .ensures in
-    let state2-ok = ok-state state2 eat-name-star-ok in
-    let ty-annotation = c .before .before .before .before .before .before .before .before .before .before .before .before .ty-annotation .ensures in
-    let ty-annotation-ok = ty-annotation .ok in
-    let state3 = c .before .before .before .before .before .before .before .state3 .ensures in
-    let state3-ok = ok-state state3 ty-annotation-ok in
-    let as-pat-tl = c .before .before .before .before .as-pat-tl .ensures in
-    let as-pat-tl-ok = as-pat-tl .ok in
-    search asks depth 8
+) (row-at t) row.Post
+row-state-requires-4 t c κs =
+    tt
 
-pat-row-close-requires-3 : (t : ℕ) → pat-row-lts.Need-close-requires-3 (
+row-close-requires-3 : (t : ℕ) → row-lts.Need-close-requires-3 (
   refuse-reads.Asked,
   refuse-reads.Learnt,
   mark-reads.Asked,
@@ -8004,32 +7412,18 @@ pat-row-close-requires-3 : (t : ℕ) → pat-row-lts.Need-close-requires-3 (
   ty-annotation-reads.Learnt,
   as-pat-tl-below t,
   as-pat-tl.Post,
-) (pat-row-at t) pat-row.Post
-pat-row-close-requires-3 t c κs =
-    let falls = c .before .before .before .before .before .before .before .before .before .before .before .before .before .before .before .before .before .before .before .before .before .before .before .before .before .before .before .before .before .before .before .before .before .before .before .before .before .pre .0 in
+) (row-at t) row.Post
+row-close-requires-3 t c κs =
     let pre0 = c .before .before .before .before .before .before .before .before .before .before .before .before .before .before .before .before .before .before .before .before .before .before .before .before .before .before .before .before .before .before .before .before .before .before .before .before .before .pre .1 in
-    let if1 = c .before .before .before .before .before .before .before .before .before .before .before .before .before .before .before .before .before .before .before .before .before .before .before .before .before .before .before .before .before .before .if1 .left in
     let mark = c .before .before .before .before .before .before .before .before .before .before .before .before .before .before .before .before .before .before .before .before .before .before .before .before .before .before .before .before .before .mark .ensures in
     let mark-ok = ok-marks mark pre0 in
-    let at = c .before .before .before .before .before .before .before .before .before .before .before .before .before .before .before .before .before .before .before .before .before .before .before .before .before .before .before .before .at .ensures in
-    let if2 = c .before .before .before .before .before .before .before .before .before .before .before .before .before .before .before .before .before .before .before .before .before .before .before .before .before .before .before .if2 .left in
-    let at-n = c .before .before .before .before .before .before .before .before .before .before .before .before .before .before .before .before .before .before .before .before .before .before .before .before .before .before .at-n .ensures in
-    let if3 = c .before .before .before .before .before .before .before .before .before .before .before .before .before .before .before .before .before .before .before .before .before .before .before .before .before .if3 .left in
-    let eat-name-star = c .before .before .before .before .before .before .before .before .before .before .before .before .before .before .before .before .before .before .before .before .before .before .eat-name-star .ensures in
-    let eat-name-star-ok = eat-name-star .ok in
-    let state2 = c .before .before .before .before .before .before .before .before .before .before .before .before .before .before .before .before .before .state2 .ensures in
-    let state2-ok = ok-state state2 eat-name-star-ok in
-    let ty-annotation = c .before .before .before .before .before .before .before .before .before .before .before .before .before .before .ty-annotation .ensures in
-    let ty-annotation-ok = ty-annotation .ok in
-    let state3 = c .before .before .before .before .before .before .before .before .before .state3 .ensures in
-    let state3-ok = ok-state state3 ty-annotation-ok in
     let as-pat-tl = c .before .before .before .before .before .before .as-pat-tl .ensures in
     let as-pat-tl-ok = as-pat-tl .ok in
     let state4 = c .before .state4 .ensures in
     let state4-ok = ok-state state4 as-pat-tl-ok in
-    search asks depth 8
+    (state4-ok .logs, small-len mark-ok)
 
-pat-row-same-length-4 : (t : ℕ) → pat-row-lts.Need-same-length-4 (
+row-same-length-4 : (t : ℕ) → row-lts.Need-same-length-4 (
   refuse-reads.Asked,
   refuse-reads.Learnt,
   mark-reads.Asked,
@@ -8056,11 +7450,11 @@ pat-row-same-length-4 : (t : ℕ) → pat-row-lts.Need-same-length-4 (
   ty-annotation-reads.Learnt,
   as-pat-tl-below t,
   as-pat-tl.Post,
-) (pat-row-at t) pat-row.Post
-pat-row-same-length-4 t c =
+) (row-at t) row.Post
+row-same-length-4 t c =
     c .before .before .close3 .kept .0 ∙ c .before .before .before .before .before .before .before .before .before .as-pat-tl .kept .1 .1 .1 .1 .0 ∙ c .before .before .before .before .before .before .before .before .before .before .before .before .before .before .before .before .before .ty-annotation .kept .1 .1 .1 .1 .0 ∙ c .before .before .before .before .before .before .before .before .before .before .before .before .before .before .before .before .before .before .before .before .before .before .before .before .before .eat-name-star .kept .1 .1 .1 .1 .0
 
-pat-row-same-length-5 : (t : ℕ) → pat-row-lts.Need-same-length-5 (
+row-same-length-5 : (t : ℕ) → row-lts.Need-same-length-5 (
   refuse-reads.Asked,
   refuse-reads.Learnt,
   mark-reads.Asked,
@@ -8087,11 +7481,11 @@ pat-row-same-length-5 : (t : ℕ) → pat-row-lts.Need-same-length-5 (
   ty-annotation-reads.Learnt,
   as-pat-tl-below t,
   as-pat-tl.Post,
-) (pat-row-at t) pat-row.Post
-pat-row-same-length-5 t c =
+) (row-at t) row.Post
+row-same-length-5 t c =
     c .before .before .before .before .before .before .before .before .before .as-pat-tl .kept .1 .1 .1 .1 .1 .0 ∙ c .before .before .before .before .before .before .before .before .before .before .before .before .before .before .before .before .before .ty-annotation .kept .1 .1 .1 .1 .1 .0 ∙ c .before .before .before .before .before .before .before .before .before .before .before .before .before .before .before .before .before .before .before .before .before .before .before .before .before .eat-name-star .kept .1 .1 .1 .1 .1 .0
 
-pat-row-returns-4 : (t : ℕ) → pat-row-lts.Need-returns-4 (
+row-returns-4 : (t : ℕ) → row-lts.Need-returns-4 (
   refuse-reads.Asked,
   refuse-reads.Learnt,
   mark-reads.Asked,
@@ -8118,9 +7512,9 @@ pat-row-returns-4 : (t : ℕ) → pat-row-lts.Need-returns-4 (
   ty-annotation-reads.Learnt,
   as-pat-tl-below t,
   as-pat-tl.Post,
-) (pat-row-at t) pat-row.Post
+) (row-at t) row.Post
 unfolding pat.patRow plan choose chosen
-pat-row-returns-4 t c =
+row-returns-4 t c =
     let falls = c .before .before .before .before .before .before .before .before .before .before .before .before .before .before .before .before .before .before .before .before .before .before .before .before .before .before .before .before .before .before .before .before .before .before .before .before .before .before .before .before .pre .0 in
     let pre0 = c .before .before .before .before .before .before .before .before .before .before .before .before .before .before .before .before .before .before .before .before .before .before .before .before .before .before .before .before .before .before .before .before .before .before .before .before .before .before .before .before .pre .1 in
     let if1 = c .before .before .before .before .before .before .before .before .before .before .before .before .before .before .before .before .before .before .before .before .before .before .before .before .before .before .before .before .before .before .before .before .before .if1 .left in
@@ -8138,766 +7532,13 @@ pat-row-returns-4 t c =
     let close3 = c .before .before .close3 .ensures in
     by-steps pre0 (λ b. s-mark if1 mark (s-kind (s-false _ _ (kind-off _ _ _ _ at if2) (s-kind (s-false _ _ (kind-off _ _ _ _ at-n if3) (s-by _ (settled state2 (runs-always eat-name-star)) (s-by _ (settled state3 (runs-in ty-annotation)) (s-by _ (settled state4 (runs-in as-pat-tl)) (s-close close3 s-end)))))))))
 
-abbrev pat-rows-Inv-loop : pat-rows-lts.InvT-loop
-pat-rows-Inv-loop text toks env table scratch₀ finds₀ left e b s1₀ scratch finds s1 =
-    Loops left b (util.endTurn {g = true} SK.PatRow SK.Comma SK.RCurly (pat.patRow (errOf e))) (mem text toks env table scratch₀ finds₀ s1₀) (mem text toks env table scratch finds s1) × (length scratch ≡ length scratch₀) × (length finds ≡ length finds₀)
-
-abbrev pat-rows-μ-loop : pat-rows-lts.MeasureT-loop
-pat-rows-μ-loop text toks env table scratch₀ finds₀ left e b s1₀ scratch finds s1 = turns (mem text toks env table scratch finds s1)
-
-pat-rows-loop-holds :
-    (t : ℕ) →
-    pat-rows-lts.Need-loop-holds
-    (row-turn-below t, row-turn.Post)
-    (pat-rows-at t)
-    pat-rows.Post
-    pat-rows-Inv-loop
-    pat-rows-μ-loop
-pat-rows-loop-holds t c =
-    let falls = c .before .before .before .before .before .before .pre .0 in
-    let pre0 = c .before .before .before .before .before .before .pre .1 in
-    (loop-starts pre0, refl, refl)
-
-pat-rows-row-turn-requires : (t : ℕ) → pat-rows-lts.Need-row-turn-requires (
-  row-turn-below t,
-  row-turn.Post,
-) (pat-rows-at t) pat-rows.Post pat-rows-Inv-loop pat-rows-μ-loop
-pat-rows-row-turn-requires t c κs =
-    let falls = c .before .before .before .before .before .before .before .before .before .pre .0 in
-    let pre0 = c .before .before .before .before .before .before .before .before .before .pre .1 in
-    let inv = c .before .before .loop .inv .0 .ok in
-    search asks depth 8
-
-pat-rows-enum-known-turn : (t : ℕ) → pat-rows-lts.Need-enum-known-turn (
-  row-turn-below t,
-  row-turn.Post,
-) (pat-rows-at t) pat-rows.Post pat-rows-Inv-loop pat-rows-μ-loop
-pat-rows-enum-known-turn t c =
-    let falls = c .before .before .before .before .before .before .before .before .before .before .before .before .before .before .before .pre .0 in
-    let pre0 = c .before .before .before .before .before .before .before .before .before .before .before .before .before .before .before .pre .1 in
-    search needs
-
-pat-rows-loop-less :
-    (t : ℕ) →
-    pat-rows-lts.Need-loop-less
-    (row-turn-below t, row-turn.Post)
-    (pat-rows-at t)
-    pat-rows.Post
-    pat-rows-Inv-loop
-    pat-rows-μ-loop
-pat-rows-loop-less t c =
-    let row-turn = runs-in {b = 0} (rw (c .before .turn .given .1) at (c .before .before .before .before .before .before .before .row-turn .ensures)) in
-    loop-falls (end-turn-advances true _ _ _ _ _ _) row-turn
-
-pat-rows-loop-again :
-    (t : ℕ) →
-    pat-rows-lts.Need-loop-again
-    (row-turn-below t, row-turn.Post)
-    (pat-rows-at t)
-    pat-rows.Post
-    pat-rows-Inv-loop
-    pat-rows-μ-loop
-pat-rows-loop-again t c =
-    let row-turn = runs-in (rw (c .before .turn .given .1) at (c .before .before .before .before .before .before .before .row-turn .ensures)) in
-    (loop-goes (end-turn-advances true _ _ _ _ _ _) (c .before .before .before .before .before .before .before .before .before .before .loop .inv .0) row-turn, c .before .before .before .before .before .before .before .row-turn .kept .1 .1 .1 .1 .0 ∙ c .before .before .before .before .before .before .before .before .before .before .loop .inv .1, c .before .before .before .before .before .before .before .row-turn .kept .1 .1 .1 .1 .1 .0 ∙ c .before .before .before .before .before .before .before .before .before .before .loop .inv .2)
-
-pat-rows-enum-known-turn-2 : (t : ℕ) → pat-rows-lts.Need-enum-known-turn-2 (
-  row-turn-below t,
-  row-turn.Post,
-) (pat-rows-at t) pat-rows.Post pat-rows-Inv-loop pat-rows-μ-loop
-pat-rows-enum-known-turn-2 t c =
-    let falls = c .before .before .before .before .before .before .before .before .before .before .before .before .before .before .before .pre .0 in
-    let pre0 = c .before .before .before .before .before .before .before .before .before .before .before .before .before .before .before .pre .1 in
-    search needs
-
-pat-rows-same-length :
-    (t : ℕ) →
-    pat-rows-lts.Need-same-length
-    (row-turn-below t, row-turn.Post)
-    (pat-rows-at t)
-    pat-rows.Post
-    pat-rows-Inv-loop
-    pat-rows-μ-loop
-pat-rows-same-length t c =
-    c .before .before .before .before .before .before .before .row-turn .kept .1 .1 .1 .1 .0 ∙ c .before .before .before .before .before .before .before .before .before .before .loop .inv .1
-
-pat-rows-same-length-2 : (t : ℕ) → pat-rows-lts.Need-same-length-2 (
-  row-turn-below t,
-  row-turn.Post,
-) (pat-rows-at t) pat-rows.Post pat-rows-Inv-loop pat-rows-μ-loop
-pat-rows-same-length-2 t c =
-    c .before .before .before .before .before .before .before .row-turn .kept .1 .1 .1 .1 .1 .0 ∙ c .before .before .before .before .before .before .before .before .before .before .loop .inv .2
-
-pat-rows-returns :
-    (t : ℕ) →
-    pat-rows-lts.Need-returns
-    (row-turn-below t, row-turn.Post)
-    (pat-rows-at t)
-    pat-rows.Post
-    pat-rows-Inv-loop
-    pat-rows-μ-loop
-pat-rows-returns t c =
-    let row-turn = runs-in (rw (c .before .turn2 .given .1) at (c .before .before .before .before .before .before .before .row-turn .ensures)) in
-    loop-ends (end-turn-advances true _ _ _ _ _ _) (c .before .before .before .before .before .before .before .before .before .before .loop .inv .0) row-turn
-
-pat-step-peek-requires : (t : ℕ) → pat-step-lts.Need-peek-requires (
-  peek-reads.Asked,
-  peek-reads.Learnt,
-  name-star-reads.Asked,
-  name-star-reads.Learnt,
-  op-step-below t,
-  op-step.Post,
-  or-step-below t,
-  or-step.Post,
-  ascription-reads.Asked,
-  ascription-reads.Learnt,
-  typed-step-reads.Asked,
-  typed-step-reads.Learnt,
-  as-step-below t,
-  as-step.Post,
-) (pat-step-at t) pat-step.Post
-pat-step-peek-requires t c κs =
-    let falls = c .before .before .before .before .before .before .pre .0 in
-    let pre0 = c .before .before .before .before .before .before .pre .1 .0 in
-    let pre1 = c .before .before .before .before .before .before .pre .1 .1 in
-    search asks depth 8
-
-pat-step-enum-known-k : (t : ℕ) → pat-step-lts.Need-enum-known-k (
-  peek-reads.Asked,
-  peek-reads.Learnt,
-  name-star-reads.Asked,
-  name-star-reads.Learnt,
-  op-step-below t,
-  op-step.Post,
-  or-step-below t,
-  or-step.Post,
-  ascription-reads.Asked,
-  ascription-reads.Learnt,
-  typed-step-reads.Asked,
-  typed-step-reads.Learnt,
-  as-step-below t,
-  as-step.Post,
-) (pat-step-at t) pat-step.Post
-pat-step-enum-known-k t c =
-    let falls = c .before .before .before .before .before .before .before .before .pre .0 in
-    let pre0 = c .before .before .before .before .before .before .before .before .pre .1 .0 in
-    let pre1 = c .before .before .before .before .before .before .before .before .pre .1 .1 in
-    search needs
-
-pat-step-enum-told : (t : ℕ) → pat-step-lts.Need-enum-told (
-  peek-reads.Asked,
-  peek-reads.Learnt,
-  name-star-reads.Asked,
-  name-star-reads.Learnt,
-  op-step-below t,
-  op-step.Post,
-  or-step-below t,
-  or-step.Post,
-  ascription-reads.Asked,
-  ascription-reads.Learnt,
-  typed-step-reads.Asked,
-  typed-step-reads.Learnt,
-  as-step-below t,
-  as-step.Post,
-) (pat-step-at t) pat-step.Post
-pat-step-enum-told t c =
-    let falls = c .before .before .before .before .before .before .before .before .pre .0 in
-    let pre0 = c .before .before .before .before .before .before .before .before .pre .1 .0 in
-    let pre1 = c .before .before .before .before .before .before .before .before .pre .1 .1 in
-    search needs
-
-pat-step-returns : (t : ℕ) → pat-step-lts.Need-returns (
-  peek-reads.Asked,
-  peek-reads.Learnt,
-  name-star-reads.Asked,
-  name-star-reads.Learnt,
-  op-step-below t,
-  op-step.Post,
-  or-step-below t,
-  or-step.Post,
-  ascription-reads.Asked,
-  ascription-reads.Learnt,
-  typed-step-reads.Asked,
-  typed-step-reads.Learnt,
-  as-step-below t,
-  as-step.Post,
-) (pat-step-at t) pat-step.Post
-unfolding pat.patStep plan choose chosen
-pat-step-returns t c =
-    let falls = c .before .before .before .before .before .before .before .before .before .pre .0 in
-    let pre0 = c .before .before .before .before .before .before .before .before .before .pre .1 .0 in
-    let pre1 = c .before .before .before .before .before .before .before .before .before .pre .1 .1 in
-    let peek = rw (c .enum-told .given .1) at (c .before .before .peek .ensures) in
-    in-steps pre0 (s-look peek s-end)
-
-pat-step-name-star-requires : (t : ℕ) → pat-step-lts.Need-name-star-requires (
-  peek-reads.Asked,
-  peek-reads.Learnt,
-  name-star-reads.Asked,
-  name-star-reads.Learnt,
-  op-step-below t,
-  op-step.Post,
-  or-step-below t,
-  or-step.Post,
-  ascription-reads.Asked,
-  ascription-reads.Learnt,
-  typed-step-reads.Asked,
-  typed-step-reads.Learnt,
-  as-step-below t,
-  as-step.Post,
-) (pat-step-at t) pat-step.Post
-pat-step-name-star-requires t c κs =
-    let falls = c .before .before .before .before .before .before .before .before .before .before .pre .0 in
-    let pre0 = c .before .before .before .before .before .before .before .before .before .before .pre .1 .0 in
-    let pre1 = c .before .before .before .before .before .before .before .before .before .before .pre .1 .1 in
-    let peek = rw (c .before .k .given .1) at (c .before .before .before .peek .ensures) in
-    search asks depth 8
-
-pat-step-op-step-requires : (t : ℕ) → pat-step-lts.Need-op-step-requires (
-  peek-reads.Asked,
-  peek-reads.Learnt,
-  name-star-reads.Asked,
-  name-star-reads.Learnt,
-  op-step-below t,
-  op-step.Post,
-  or-step-below t,
-  or-step.Post,
-  ascription-reads.Asked,
-  ascription-reads.Learnt,
-  typed-step-reads.Asked,
-  typed-step-reads.Learnt,
-  as-step-below t,
-  as-step.Post,
-) (pat-step-at t) pat-step.Post
-pat-step-op-step-requires t c κs =
-    let falls = c .before .before .before .before .before .before .before .before .before .before .before .before .before .before .pre .0 in
-    let pre0 = c .before .before .before .before .before .before .before .before .before .before .before .before .before .before .pre .1 .0 in
-    let pre1 = c .before .before .before .before .before .before .before .before .before .before .before .before .before .before .pre .1 .1 in
-    let peek = rw (c .before .before .before .before .before .k .given .1) at (c .before .before .before .before .before .before .before .peek .ensures) in
-    let name-star = c .before .before .before .name-star .ensures in
-    let if1 = c .before .before .if1 .taken in
-    search asks depth 8
-
-pat-step-same-length : (t : ℕ) → pat-step-lts.Need-same-length (
-  peek-reads.Asked,
-  peek-reads.Learnt,
-  name-star-reads.Asked,
-  name-star-reads.Learnt,
-  op-step-below t,
-  op-step.Post,
-  or-step-below t,
-  or-step.Post,
-  ascription-reads.Asked,
-  ascription-reads.Learnt,
-  typed-step-reads.Asked,
-  typed-step-reads.Learnt,
-  as-step-below t,
-  as-step.Post,
-) (pat-step-at t) pat-step.Post
-pat-step-same-length t c =
-    c .before .before .before .before .op-step .kept .1 .1 .1 .1 .0
-
-pat-step-same-length-2 : (t : ℕ) → pat-step-lts.Need-same-length-2 (
-  peek-reads.Asked,
-  peek-reads.Learnt,
-  name-star-reads.Asked,
-  name-star-reads.Learnt,
-  op-step-below t,
-  op-step.Post,
-  or-step-below t,
-  or-step.Post,
-  ascription-reads.Asked,
-  ascription-reads.Learnt,
-  typed-step-reads.Asked,
-  typed-step-reads.Learnt,
-  as-step-below t,
-  as-step.Post,
-) (pat-step-at t) pat-step.Post
-pat-step-same-length-2 t c =
-    c .before .before .before .before .op-step .kept .1 .1 .1 .1 .1 .0
-
-pat-step-returns-2 : (t : ℕ) → pat-step-lts.Need-returns-2 (
-  peek-reads.Asked,
-  peek-reads.Learnt,
-  name-star-reads.Asked,
-  name-star-reads.Learnt,
-  op-step-below t,
-  op-step.Post,
-  or-step-below t,
-  or-step.Post,
-  ascription-reads.Asked,
-  ascription-reads.Learnt,
-  typed-step-reads.Asked,
-  typed-step-reads.Learnt,
-  as-step-below t,
-  as-step.Post,
-) (pat-step-at t) pat-step.Post
-unfolding pat.patStep plan choose chosen
-pat-step-returns-2 t c =
-    let falls = c .before .before .before .before .before .before .before .before .before .before .before .before .before .before .before .before .before .before .before .pre .0 in
-    let pre0 = c .before .before .before .before .before .before .before .before .before .before .before .before .before .before .before .before .before .before .before .pre .1 .0 in
-    let pre1 = c .before .before .before .before .before .before .before .before .before .before .before .before .before .before .before .before .before .before .before .pre .1 .1 in
-    let peek = rw (c .before .before .before .before .before .before .before .before .before .before .k .given .1) at (c .before .before .before .before .before .before .before .before .before .before .before .before .peek .ensures) in
-    let name-star = c .before .before .before .before .before .before .before .before .name-star .ensures in
-    let if1 = c .before .before .before .before .before .before .before .if1 .taken in
-    let op-step = c .before .before .before .before .op-step .ensures in
-    in-steps pre0 (s-look peek (s-true _ _ (test-true name-star if1) (s-by _ op-step s-end)))
-
-pat-step-or-step-requires : (t : ℕ) → pat-step-lts.Need-or-step-requires (
-  peek-reads.Asked,
-  peek-reads.Learnt,
-  name-star-reads.Asked,
-  name-star-reads.Learnt,
-  op-step-below t,
-  op-step.Post,
-  or-step-below t,
-  or-step.Post,
-  ascription-reads.Asked,
-  ascription-reads.Learnt,
-  typed-step-reads.Asked,
-  typed-step-reads.Learnt,
-  as-step-below t,
-  as-step.Post,
-) (pat-step-at t) pat-step.Post
-pat-step-or-step-requires t c κs =
-    let falls = c .before .before .before .before .before .before .before .before .before .before .before .before .before .before .before .pre .0 in
-    let pre0 = c .before .before .before .before .before .before .before .before .before .before .before .before .before .before .before .pre .1 .0 in
-    let pre1 = c .before .before .before .before .before .before .before .before .before .before .before .before .before .before .before .pre .1 .1 in
-    let peek = rw (c .before .before .before .before .before .before .k .given .1) at (c .before .before .before .before .before .before .before .before .peek .ensures) in
-    let name-star = c .before .before .before .before .name-star .ensures in
-    let if1 = c .before .before .before .if1 .left in
-    let if2 = c .before .before .if2 .taken in
-    search asks depth 8
-
-pat-step-same-length-3 : (t : ℕ) → pat-step-lts.Need-same-length-3 (
-  peek-reads.Asked,
-  peek-reads.Learnt,
-  name-star-reads.Asked,
-  name-star-reads.Learnt,
-  op-step-below t,
-  op-step.Post,
-  or-step-below t,
-  or-step.Post,
-  ascription-reads.Asked,
-  ascription-reads.Learnt,
-  typed-step-reads.Asked,
-  typed-step-reads.Learnt,
-  as-step-below t,
-  as-step.Post,
-) (pat-step-at t) pat-step.Post
-pat-step-same-length-3 t c =
-    c .before .before .before .before .or-step .kept .1 .1 .1 .1 .0
-
-pat-step-same-length-4 : (t : ℕ) → pat-step-lts.Need-same-length-4 (
-  peek-reads.Asked,
-  peek-reads.Learnt,
-  name-star-reads.Asked,
-  name-star-reads.Learnt,
-  op-step-below t,
-  op-step.Post,
-  or-step-below t,
-  or-step.Post,
-  ascription-reads.Asked,
-  ascription-reads.Learnt,
-  typed-step-reads.Asked,
-  typed-step-reads.Learnt,
-  as-step-below t,
-  as-step.Post,
-) (pat-step-at t) pat-step.Post
-pat-step-same-length-4 t c =
-    c .before .before .before .before .or-step .kept .1 .1 .1 .1 .1 .0
-
-pat-step-returns-3 : (t : ℕ) → pat-step-lts.Need-returns-3 (
-  peek-reads.Asked,
-  peek-reads.Learnt,
-  name-star-reads.Asked,
-  name-star-reads.Learnt,
-  op-step-below t,
-  op-step.Post,
-  or-step-below t,
-  or-step.Post,
-  ascription-reads.Asked,
-  ascription-reads.Learnt,
-  typed-step-reads.Asked,
-  typed-step-reads.Learnt,
-  as-step-below t,
-  as-step.Post,
-) (pat-step-at t) pat-step.Post
-unfolding pat.patStep plan choose chosen
-pat-step-returns-3 t c =
-    let falls = c .before .before .before .before .before .before .before .before .before .before .before .before .before .before .before .before .before .before .before .before .pre .0 in
-    let pre0 = c .before .before .before .before .before .before .before .before .before .before .before .before .before .before .before .before .before .before .before .before .pre .1 .0 in
-    let pre1 = c .before .before .before .before .before .before .before .before .before .before .before .before .before .before .before .before .before .before .before .before .pre .1 .1 in
-    let peek = rw (c .before .before .before .before .before .before .before .before .before .before .before .k .given .1) at (c .before .before .before .before .before .before .before .before .before .before .before .before .before .peek .ensures) in
-    let name-star = c .before .before .before .before .before .before .before .before .before .name-star .ensures in
-    let if1 = c .before .before .before .before .before .before .before .before .if1 .left in
-    let if2 = c .before .before .before .before .before .before .before .if2 .taken in
-    let or-step = c .before .before .before .before .or-step .ensures in
-    in-steps pre0 (s-look peek (s-false _ _ (test-false name-star if1) (s-true _ _ (kind-is if2) (s-by _ or-step s-end))))
-
-pat-step-ascription-requires : (t : ℕ) → pat-step-lts.Need-ascription-requires (
-  peek-reads.Asked,
-  peek-reads.Learnt,
-  name-star-reads.Asked,
-  name-star-reads.Learnt,
-  op-step-below t,
-  op-step.Post,
-  or-step-below t,
-  or-step.Post,
-  ascription-reads.Asked,
-  ascription-reads.Learnt,
-  typed-step-reads.Asked,
-  typed-step-reads.Learnt,
-  as-step-below t,
-  as-step.Post,
-) (pat-step-at t) pat-step.Post
-pat-step-ascription-requires t c κs =
-    let falls = c .before .before .before .before .before .before .before .before .before .before .before .before .before .pre .0 in
-    let pre0 = c .before .before .before .before .before .before .before .before .before .before .before .before .before .pre .1 .0 in
-    let pre1 = c .before .before .before .before .before .before .before .before .before .before .before .before .before .pre .1 .1 in
-    let peek = rw (c .before .before .before .before .k .given .1) at (c .before .before .before .before .before .before .peek .ensures) in
-    let name-star = c .before .before .name-star .ensures in
-    let if1 = c .before .if1 .left in
-    let if2 = c .if2 .left in
-    search asks depth 8
-
-pat-step-typed-step-requires : (t : ℕ) → pat-step-lts.Need-typed-step-requires (
-  peek-reads.Asked,
-  peek-reads.Learnt,
-  name-star-reads.Asked,
-  name-star-reads.Learnt,
-  op-step-below t,
-  op-step.Post,
-  or-step-below t,
-  or-step.Post,
-  ascription-reads.Asked,
-  ascription-reads.Learnt,
-  typed-step-reads.Asked,
-  typed-step-reads.Learnt,
-  as-step-below t,
-  as-step.Post,
-) (pat-step-at t) pat-step.Post
-pat-step-typed-step-requires t c κs =
-    let falls = c .before .before .before .before .before .before .before .before .before .before .before .before .before .before .before .before .before .pre .0 in
-    let pre0 = c .before .before .before .before .before .before .before .before .before .before .before .before .before .before .before .before .before .pre .1 .0 in
-    let pre1 = c .before .before .before .before .before .before .before .before .before .before .before .before .before .before .before .before .before .pre .1 .1 in
-    let peek = rw (c .before .before .before .before .before .before .before .before .k .given .1) at (c .before .before .before .before .before .before .before .before .before .before .peek .ensures) in
-    let name-star = c .before .before .before .before .before .before .name-star .ensures in
-    let if1 = c .before .before .before .before .before .if1 .left in
-    let if2 = c .before .before .before .before .if2 .left in
-    let ascription = c .before .before .before .ascription .ensures in
-    let if3 = c .before .before .if3 .taken in
-    search asks depth 8
-
-pat-step-same-length-5 : (t : ℕ) → pat-step-lts.Need-same-length-5 (
-  peek-reads.Asked,
-  peek-reads.Learnt,
-  name-star-reads.Asked,
-  name-star-reads.Learnt,
-  op-step-below t,
-  op-step.Post,
-  or-step-below t,
-  or-step.Post,
-  ascription-reads.Asked,
-  ascription-reads.Learnt,
-  typed-step-reads.Asked,
-  typed-step-reads.Learnt,
-  as-step-below t,
-  as-step.Post,
-) (pat-step-at t) pat-step.Post
-pat-step-same-length-5 t c =
-    c .before .before .before .before .typed-step .kept .1 .1 .1 .1 .0
-
-pat-step-same-length-6 : (t : ℕ) → pat-step-lts.Need-same-length-6 (
-  peek-reads.Asked,
-  peek-reads.Learnt,
-  name-star-reads.Asked,
-  name-star-reads.Learnt,
-  op-step-below t,
-  op-step.Post,
-  or-step-below t,
-  or-step.Post,
-  ascription-reads.Asked,
-  ascription-reads.Learnt,
-  typed-step-reads.Asked,
-  typed-step-reads.Learnt,
-  as-step-below t,
-  as-step.Post,
-) (pat-step-at t) pat-step.Post
-pat-step-same-length-6 t c =
-    c .before .before .before .before .typed-step .kept .1 .1 .1 .1 .1 .0
-
-pat-step-returns-4 : (t : ℕ) → pat-step-lts.Need-returns-4 (
-  peek-reads.Asked,
-  peek-reads.Learnt,
-  name-star-reads.Asked,
-  name-star-reads.Learnt,
-  op-step-below t,
-  op-step.Post,
-  or-step-below t,
-  or-step.Post,
-  ascription-reads.Asked,
-  ascription-reads.Learnt,
-  typed-step-reads.Asked,
-  typed-step-reads.Learnt,
-  as-step-below t,
-  as-step.Post,
-) (pat-step-at t) pat-step.Post
-unfolding pat.patStep plan choose chosen
-pat-step-returns-4 t c =
-    let falls = c .before .before .before .before .before .before .before .before .before .before .before .before .before .before .before .before .before .before .before .before .before .before .pre .0 in
-    let pre0 = c .before .before .before .before .before .before .before .before .before .before .before .before .before .before .before .before .before .before .before .before .before .before .pre .1 .0 in
-    let pre1 = c .before .before .before .before .before .before .before .before .before .before .before .before .before .before .before .before .before .before .before .before .before .before .pre .1 .1 in
-    let peek = rw (c .before .before .before .before .before .before .before .before .before .before .before .before .before .k .given .1) at (c .before .before .before .before .before .before .before .before .before .before .before .before .before .before .before .peek .ensures) in
-    let name-star = c .before .before .before .before .before .before .before .before .before .before .before .name-star .ensures in
-    let if1 = c .before .before .before .before .before .before .before .before .before .before .if1 .left in
-    let if2 = c .before .before .before .before .before .before .before .before .before .if2 .left in
-    let ascription = c .before .before .before .before .before .before .before .before .ascription .ensures in
-    let if3 = c .before .before .before .before .before .before .before .if3 .taken in
-    let typed-step = c .before .before .before .before .typed-step .ensures in
-    in-steps pre0 (s-look peek (s-false _ _ (test-false name-star if1) (s-false _ _ (kind-not if2) (s-true _ _ (test-true ascription if3) (s-by _ typed-step s-end)))))
-
-pat-step-as-step-requires : (t : ℕ) → pat-step-lts.Need-as-step-requires (
-  peek-reads.Asked,
-  peek-reads.Learnt,
-  name-star-reads.Asked,
-  name-star-reads.Learnt,
-  op-step-below t,
-  op-step.Post,
-  or-step-below t,
-  or-step.Post,
-  ascription-reads.Asked,
-  ascription-reads.Learnt,
-  typed-step-reads.Asked,
-  typed-step-reads.Learnt,
-  as-step-below t,
-  as-step.Post,
-) (pat-step-at t) pat-step.Post
-pat-step-as-step-requires t c κs =
-    let falls = c .before .before .before .before .before .before .before .before .before .before .before .before .before .before .before .before .before .before .pre .0 in
-    let pre0 = c .before .before .before .before .before .before .before .before .before .before .before .before .before .before .before .before .before .before .pre .1 .0 in
-    let pre1 = c .before .before .before .before .before .before .before .before .before .before .before .before .before .before .before .before .before .before .pre .1 .1 in
-    let peek = rw (c .before .before .before .before .before .before .before .before .before .k .given .1) at (c .before .before .before .before .before .before .before .before .before .before .before .peek .ensures) in
-    let name-star = c .before .before .before .before .before .before .before .name-star .ensures in
-    let if1 = c .before .before .before .before .before .before .if1 .left in
-    let if2 = c .before .before .before .before .before .if2 .left in
-    let ascription = c .before .before .before .before .ascription .ensures in
-    let if3 = c .before .before .before .if3 .left in
-    let if4 = c .before .before .if4 .taken in
-    search asks depth 8
-
-pat-step-same-length-7 : (t : ℕ) → pat-step-lts.Need-same-length-7 (
-  peek-reads.Asked,
-  peek-reads.Learnt,
-  name-star-reads.Asked,
-  name-star-reads.Learnt,
-  op-step-below t,
-  op-step.Post,
-  or-step-below t,
-  or-step.Post,
-  ascription-reads.Asked,
-  ascription-reads.Learnt,
-  typed-step-reads.Asked,
-  typed-step-reads.Learnt,
-  as-step-below t,
-  as-step.Post,
-) (pat-step-at t) pat-step.Post
-pat-step-same-length-7 t c =
-    c .before .before .before .before .as-step .kept .1 .1 .1 .1 .0
-
-pat-step-same-length-8 : (t : ℕ) → pat-step-lts.Need-same-length-8 (
-  peek-reads.Asked,
-  peek-reads.Learnt,
-  name-star-reads.Asked,
-  name-star-reads.Learnt,
-  op-step-below t,
-  op-step.Post,
-  or-step-below t,
-  or-step.Post,
-  ascription-reads.Asked,
-  ascription-reads.Learnt,
-  typed-step-reads.Asked,
-  typed-step-reads.Learnt,
-  as-step-below t,
-  as-step.Post,
-) (pat-step-at t) pat-step.Post
-pat-step-same-length-8 t c =
-    c .before .before .before .before .as-step .kept .1 .1 .1 .1 .1 .0
-
-pat-step-returns-5 : (t : ℕ) → pat-step-lts.Need-returns-5 (
-  peek-reads.Asked,
-  peek-reads.Learnt,
-  name-star-reads.Asked,
-  name-star-reads.Learnt,
-  op-step-below t,
-  op-step.Post,
-  or-step-below t,
-  or-step.Post,
-  ascription-reads.Asked,
-  ascription-reads.Learnt,
-  typed-step-reads.Asked,
-  typed-step-reads.Learnt,
-  as-step-below t,
-  as-step.Post,
-) (pat-step-at t) pat-step.Post
-unfolding pat.patStep plan choose chosen
-pat-step-returns-5 t c =
-    let falls = c .before .before .before .before .before .before .before .before .before .before .before .before .before .before .before .before .before .before .before .before .before .before .before .pre .0 in
-    let pre0 = c .before .before .before .before .before .before .before .before .before .before .before .before .before .before .before .before .before .before .before .before .before .before .before .pre .1 .0 in
-    let pre1 = c .before .before .before .before .before .before .before .before .before .before .before .before .before .before .before .before .before .before .before .before .before .before .before .pre .1 .1 in
-    let peek = rw (c .before .before .before .before .before .before .before .before .before .before .before .before .before .before .k .given .1) at (c .before .before .before .before .before .before .before .before .before .before .before .before .before .before .before .before .peek .ensures) in
-    let name-star = c .before .before .before .before .before .before .before .before .before .before .before .before .name-star .ensures in
-    let if1 = c .before .before .before .before .before .before .before .before .before .before .before .if1 .left in
-    let if2 = c .before .before .before .before .before .before .before .before .before .before .if2 .left in
-    let ascription = c .before .before .before .before .before .before .before .before .before .ascription .ensures in
-    let if3 = c .before .before .before .before .before .before .before .before .if3 .left in
-    let if4 = c .before .before .before .before .before .before .before .if4 .taken in
-    let as-step = c .before .before .before .before .as-step .ensures in
-    in-steps pre0 (s-look peek (s-false _ _ (test-false name-star if1) (s-false _ _ (kind-not if2) (s-false _ _ (test-false ascription if3) (s-true _ _ (kind-is if4) (s-by _ as-step s-end))))))
-
-pat-step-returns-6 : (t : ℕ) → pat-step-lts.Need-returns-6 (
-  peek-reads.Asked,
-  peek-reads.Learnt,
-  name-star-reads.Asked,
-  name-star-reads.Learnt,
-  op-step-below t,
-  op-step.Post,
-  or-step-below t,
-  or-step.Post,
-  ascription-reads.Asked,
-  ascription-reads.Learnt,
-  typed-step-reads.Asked,
-  typed-step-reads.Learnt,
-  as-step-below t,
-  as-step.Post,
-) (pat-step-at t) pat-step.Post
-unfolding pat.patStep plan choose chosen
-pat-step-returns-6 t c =
-    let falls = c .before .before .before .before .before .before .before .before .before .before .before .before .before .before .before .before .pre .0 in
-    let pre0 = c .before .before .before .before .before .before .before .before .before .before .before .before .before .before .before .before .pre .1 .0 in
-    let pre1 = c .before .before .before .before .before .before .before .before .before .before .before .before .before .before .before .before .pre .1 .1 in
-    let peek = rw (c .before .before .before .before .before .before .before .k .given .1) at (c .before .before .before .before .before .before .before .before .before .peek .ensures) in
-    let name-star = c .before .before .before .before .before .name-star .ensures in
-    let if1 = c .before .before .before .before .if1 .left in
-    let if2 = c .before .before .before .if2 .left in
-    let ascription = c .before .before .ascription .ensures in
-    let if3 = c .before .if3 .left in
-    let if4 = c .if4 .left in
-    in-steps pre0 (s-look peek (s-false _ _ (test-false name-star if1) (s-false _ _ (kind-not if2) (s-false _ _ (test-false ascription if3) (s-false _ _ (kind-not if4) s-end)))))
-
-abbrev pat-tail-Inv-loop : pat-tail-lts.InvT-loop
-pat-tail-Inv-loop text toks env table scratch₀ finds₀ left min e b s1₀ scratch finds s1 =
-    Loops left b (pat.patStep (precOf min) (errOf e)) (mem text toks env table scratch₀ finds₀ s1₀) (mem text toks env table scratch finds s1) × (length scratch ≡ length scratch₀) × (length finds ≡ length finds₀)
-
-abbrev pat-tail-μ-loop : pat-tail-lts.MeasureT-loop
-pat-tail-μ-loop text toks env table scratch₀ finds₀ left min e b s1₀ scratch finds s1 = turns (mem text toks env table scratch finds s1)
-
-pat-tail-loop-holds :
-    (t : ℕ) →
-    pat-tail-lts.Need-loop-holds
-    (pat-step-below t, pat-step.Post)
-    (pat-tail-at t)
-    pat-tail.Post
-    pat-tail-Inv-loop
-    pat-tail-μ-loop
-pat-tail-loop-holds t c =
-    let falls = c .before .before .before .before .before .before .pre .0 in
-    let pre0 = c .before .before .before .before .before .before .pre .1 .0 in
-    let pre1 = c .before .before .before .before .before .before .pre .1 .1 in
-    (loop-starts pre0, refl, refl)
-
-pat-tail-pat-step-requires : (t : ℕ) → pat-tail-lts.Need-pat-step-requires (
-  pat-step-below t,
-  pat-step.Post,
-) (pat-tail-at t) pat-tail.Post pat-tail-Inv-loop pat-tail-μ-loop
-pat-tail-pat-step-requires t c κs =
-    let falls = c .before .before .before .before .before .before .before .before .before .pre .0 in
-    let pre0 = c .before .before .before .before .before .before .before .before .before .pre .1 .0 in
-    let pre1 = c .before .before .before .before .before .before .before .before .before .pre .1 .1 in
-    let inv = c .before .before .loop .inv .0 .ok in
-    search asks depth 8
-
-pat-tail-enum-known-step : (t : ℕ) → pat-tail-lts.Need-enum-known-step (
-  pat-step-below t,
-  pat-step.Post,
-) (pat-tail-at t) pat-tail.Post pat-tail-Inv-loop pat-tail-μ-loop
-pat-tail-enum-known-step t c =
-    let falls = c .before .before .before .before .before .before .before .before .before .before .before .before .before .before .before .pre .0 in
-    let pre0 = c .before .before .before .before .before .before .before .before .before .before .before .before .before .before .before .pre .1 .0 in
-    let pre1 = c .before .before .before .before .before .before .before .before .before .before .before .before .before .before .before .pre .1 .1 in
-    search needs
-
-pat-tail-loop-less :
-    (t : ℕ) →
-    pat-tail-lts.Need-loop-less
-    (pat-step-below t, pat-step.Post)
-    (pat-tail-at t)
-    pat-tail.Post
-    pat-tail-Inv-loop
-    pat-tail-μ-loop
-pat-tail-loop-less t c =
-    let pat-step = rw (c .before .step .given .1) at (c .before .before .before .before .before .before .before .pat-step .ensures) in
-    loop-falls (pat-step-advances _ _ _ _) pat-step
-
-pat-tail-loop-again :
-    (t : ℕ) →
-    pat-tail-lts.Need-loop-again
-    (pat-step-below t, pat-step.Post)
-    (pat-tail-at t)
-    pat-tail.Post
-    pat-tail-Inv-loop
-    pat-tail-μ-loop
-pat-tail-loop-again t c =
-    let pat-step = rw (c .before .step .given .1) at (c .before .before .before .before .before .before .before .pat-step .ensures) in
-    (loop-goes (pat-step-advances _ _ _ _) (c .before .before .before .before .before .before .before .before .before .before .loop .inv .0) pat-step, c .before .before .before .before .before .before .before .pat-step .kept .1 .1 .1 .1 .0 ∙ c .before .before .before .before .before .before .before .before .before .before .loop .inv .1, c .before .before .before .before .before .before .before .pat-step .kept .1 .1 .1 .1 .1 .0 ∙ c .before .before .before .before .before .before .before .before .before .before .loop .inv .2)
-
-pat-tail-enum-known-step-2 : (t : ℕ) → pat-tail-lts.Need-enum-known-step-2 (
-  pat-step-below t,
-  pat-step.Post,
-) (pat-tail-at t) pat-tail.Post pat-tail-Inv-loop pat-tail-μ-loop
-pat-tail-enum-known-step-2 t c =
-    let falls = c .before .before .before .before .before .before .before .before .before .before .before .before .before .before .before .pre .0 in
-    let pre0 = c .before .before .before .before .before .before .before .before .before .before .before .before .before .before .before .pre .1 .0 in
-    let pre1 = c .before .before .before .before .before .before .before .before .before .before .before .before .before .before .before .pre .1 .1 in
-    search needs
-
-pat-tail-same-length :
-    (t : ℕ) →
-    pat-tail-lts.Need-same-length
-    (pat-step-below t, pat-step.Post)
-    (pat-tail-at t)
-    pat-tail.Post
-    pat-tail-Inv-loop
-    pat-tail-μ-loop
-pat-tail-same-length t c =
-    c .before .before .before .before .before .before .before .pat-step .kept .1 .1 .1 .1 .0 ∙ c .before .before .before .before .before .before .before .before .before .before .loop .inv .1
-
-pat-tail-same-length-2 : (t : ℕ) → pat-tail-lts.Need-same-length-2 (
-  pat-step-below t,
-  pat-step.Post,
-) (pat-tail-at t) pat-tail.Post pat-tail-Inv-loop pat-tail-μ-loop
-pat-tail-same-length-2 t c =
-    c .before .before .before .before .before .before .before .pat-step .kept .1 .1 .1 .1 .1 .0 ∙ c .before .before .before .before .before .before .before .before .before .before .loop .inv .2
-
-pat-tail-returns :
-    (t : ℕ) →
-    pat-tail-lts.Need-returns
-    (pat-step-below t, pat-step.Post)
-    (pat-tail-at t)
-    pat-tail.Post
-    pat-tail-Inv-loop
-    pat-tail-μ-loop
-pat-tail-returns t c =
-    let pat-step = rw (c .before .step2 .given .1) at (c .before .before .before .before .before .before .before .pat-step .ensures) in
-    loop-ends (pat-step-advances _ _ _ _) (c .before .before .before .before .before .before .before .before .before .before .loop .inv .0) pat-step
-
 row-item-refuse-requires : (t : ℕ) → row-item-lts.Need-refuse-requires (
   refuse-reads.Asked,
   refuse-reads.Learnt,
   mark-reads.Asked,
   mark-reads.Learnt,
-  pat-row-below t,
-  pat-row.Post,
+  row-below t,
+  row.Post,
   at-reads.Asked,
   at-reads.Learnt,
   bump-reads.Asked,
@@ -8906,18 +7547,15 @@ row-item-refuse-requires : (t : ℕ) → row-item-lts.Need-refuse-requires (
   close-reads.Learnt,
 ) (row-item-at t) row-item.Post
 row-item-refuse-requires t c κs =
-    let falls = c .before .before .before .before .before .before .before .pre .0 in
-    let pre0 = c .before .before .before .before .before .before .before .pre .1 in
-    let if1 = c .if1 .taken in
-    search asks depth 8
+    tt
 
 row-item-returns : (t : ℕ) → row-item-lts.Need-returns (
   refuse-reads.Asked,
   refuse-reads.Learnt,
   mark-reads.Asked,
   mark-reads.Learnt,
-  pat-row-below t,
-  pat-row.Post,
+  row-below t,
+  row.Post,
   at-reads.Asked,
   at-reads.Learnt,
   bump-reads.Asked,
@@ -8938,8 +7576,8 @@ row-item-mark-requires : (t : ℕ) → row-item-lts.Need-mark-requires (
   refuse-reads.Learnt,
   mark-reads.Asked,
   mark-reads.Learnt,
-  pat-row-below t,
-  pat-row.Post,
+  row-below t,
+  row.Post,
   at-reads.Asked,
   at-reads.Learnt,
   bump-reads.Asked,
@@ -8948,18 +7586,15 @@ row-item-mark-requires : (t : ℕ) → row-item-lts.Need-mark-requires (
   close-reads.Learnt,
 ) (row-item-at t) row-item.Post
 row-item-mark-requires t c κs =
-    let falls = c .before .before .before .before .before .before .before .pre .0 in
-    let pre0 = c .before .before .before .before .before .before .before .pre .1 in
-    let if1 = c .if1 .left in
-    search asks depth 8
+    tt
 
-row-item-sub-pat-row : (t : ℕ) → row-item-lts.Need-sub-pat-row (
+row-item-sub-row : (t : ℕ) → row-item-lts.Need-sub-row (
   refuse-reads.Asked,
   refuse-reads.Learnt,
   mark-reads.Asked,
   mark-reads.Learnt,
-  pat-row-below t,
-  pat-row.Post,
+  row-below t,
+  row.Post,
   at-reads.Asked,
   at-reads.Learnt,
   bump-reads.Asked,
@@ -8967,19 +7602,19 @@ row-item-sub-pat-row : (t : ℕ) → row-item-lts.Need-sub-pat-row (
   close-reads.Asked,
   close-reads.Learnt,
 ) (row-item-at t) row-item.Post
-row-item-sub-pat-row t c =
+row-item-sub-row t c =
     let falls = c .before .before .before .before .before .before .before .before .before .before .pre .0 in
     let pre0 = c .before .before .before .before .before .before .before .before .before .before .pre .1 in
     let if1 = c .before .before .before .if1 .left in
     search needs
 
-row-item-pat-row-requires : (t : ℕ) → row-item-lts.Need-pat-row-requires (
+row-item-row-requires : (t : ℕ) → row-item-lts.Need-row-requires (
   refuse-reads.Asked,
   refuse-reads.Learnt,
   mark-reads.Asked,
   mark-reads.Learnt,
-  pat-row-below t,
-  pat-row.Post,
+  row-below t,
+  row.Post,
   at-reads.Asked,
   at-reads.Learnt,
   bump-reads.Asked,
@@ -8987,21 +7622,21 @@ row-item-pat-row-requires : (t : ℕ) → row-item-lts.Need-pat-row-requires (
   close-reads.Asked,
   close-reads.Learnt,
 ) (row-item-at t) row-item.Post
-row-item-pat-row-requires t c κs =
+row-item-row-requires t c κs =
     let falls = c .before .before .before .before .before .before .before .before .before .before .pre .0 in
     let pre0 = c .before .before .before .before .before .before .before .before .before .before .pre .1 in
     let if1 = c .before .before .before .if1 .left in
     let mark = c .before .before .mark .ensures in
     let mark-ok = ok-marks mark pre0 in
-    search asks depth 8
+    (omega arith, mark-ok)
 
 row-item-at-requires : (t : ℕ) → row-item-lts.Need-at-requires (
   refuse-reads.Asked,
   refuse-reads.Learnt,
   mark-reads.Asked,
   mark-reads.Learnt,
-  pat-row-below t,
-  pat-row.Post,
+  row-below t,
+  row.Post,
   at-reads.Asked,
   at-reads.Learnt,
   bump-reads.Asked,
@@ -9010,22 +7645,17 @@ row-item-at-requires : (t : ℕ) → row-item-lts.Need-at-requires (
   close-reads.Learnt,
 ) (row-item-at t) row-item.Post
 row-item-at-requires t c κs =
-    let falls = c .before .before .before .before .before .before .before .before .before .before .before .before .before .before .before .pre .0 in
-    let pre0 = c .before .before .before .before .before .before .before .before .before .before .before .before .before .before .before .pre .1 in
-    let if1 = c .before .before .before .before .before .before .before .before .if1 .left in
-    let mark = c .before .before .before .before .before .before .before .mark .ensures in
-    let mark-ok = ok-marks mark pre0 in
-    let pat-row = c .before .before .before .before .pat-row .ensures in
-    let pat-row-ok = pat-row .ok in
-    search asks depth 8
+    let row = c .before .before .before .before .row .ensures in
+    let row-ok = row .ok in
+    row-ok .reads
 
 row-item-bump-requires : (t : ℕ) → row-item-lts.Need-bump-requires (
   refuse-reads.Asked,
   refuse-reads.Learnt,
   mark-reads.Asked,
   mark-reads.Learnt,
-  pat-row-below t,
-  pat-row.Post,
+  row-below t,
+  row.Post,
   at-reads.Asked,
   at-reads.Learnt,
   bump-reads.Asked,
@@ -9034,24 +7664,17 @@ row-item-bump-requires : (t : ℕ) → row-item-lts.Need-bump-requires (
   close-reads.Learnt,
 ) (row-item-at t) row-item.Post
 row-item-bump-requires t c κs =
-    let falls = c .before .before .before .before .before .before .before .before .before .before .before .before .before .before .before .before .before .before .pre .0 in
-    let pre0 = c .before .before .before .before .before .before .before .before .before .before .before .before .before .before .before .before .before .before .pre .1 in
-    let if1 = c .before .before .before .before .before .before .before .before .before .before .before .if1 .left in
-    let mark = c .before .before .before .before .before .before .before .before .before .before .mark .ensures in
-    let mark-ok = ok-marks mark pre0 in
-    let pat-row = c .before .before .before .before .before .before .before .pat-row .ensures in
-    let pat-row-ok = pat-row .ok in
-    let at = c .before .before .at .ensures in
-    let if2 = c .before .if2 .taken in
-    search asks depth 8
+    let row = c .before .before .before .before .before .before .before .row .ensures in
+    let row-ok = row .ok in
+    (row-ok .reads, row-ok .logs)
 
 row-item-close-requires : (t : ℕ) → row-item-lts.Need-close-requires (
   refuse-reads.Asked,
   refuse-reads.Learnt,
   mark-reads.Asked,
   mark-reads.Learnt,
-  pat-row-below t,
-  pat-row.Post,
+  row-below t,
+  row.Post,
   at-reads.Asked,
   at-reads.Learnt,
   bump-reads.Asked,
@@ -9060,26 +7683,22 @@ row-item-close-requires : (t : ℕ) → row-item-lts.Need-close-requires (
   close-reads.Learnt,
 ) (row-item-at t) row-item.Post
 row-item-close-requires t c κs =
-    let falls = c .before .before .before .before .before .before .before .before .before .before .before .before .before .before .before .before .before .before .before .before .before .before .pre .0 in
     let pre0 = c .before .before .before .before .before .before .before .before .before .before .before .before .before .before .before .before .before .before .before .before .before .before .pre .1 in
-    let if1 = c .before .before .before .before .before .before .before .before .before .before .before .before .before .before .before .if1 .left in
     let mark = c .before .before .before .before .before .before .before .before .before .before .before .before .before .before .mark .ensures in
     let mark-ok = ok-marks mark pre0 in
-    let pat-row = c .before .before .before .before .before .before .before .before .before .before .before .pat-row .ensures in
-    let pat-row-ok = pat-row .ok in
-    let at = c .before .before .before .before .before .before .at .ensures in
-    let if2 = c .before .before .before .before .before .if2 .taken in
+    let row = c .before .before .before .before .before .before .before .before .before .before .before .row .ensures in
+    let row-ok = row .ok in
     let bump = c .before .before .before .bump .ensures in
-    let bump-ok = ok-bumps bump pat-row-ok in
-    search asks depth 8
+    let bump-ok = ok-bumps bump row-ok in
+    (bump-ok .logs, small-len mark-ok)
 
 row-item-same-length : (t : ℕ) → row-item-lts.Need-same-length (
   refuse-reads.Asked,
   refuse-reads.Learnt,
   mark-reads.Asked,
   mark-reads.Learnt,
-  pat-row-below t,
-  pat-row.Post,
+  row-below t,
+  row.Post,
   at-reads.Asked,
   at-reads.Learnt,
   bump-reads.Asked,
@@ -9088,15 +7707,15 @@ row-item-same-length : (t : ℕ) → row-item-lts.Need-same-length (
   close-reads.Learnt,
 ) (row-item-at t) row-item.Post
 row-item-same-length t c =
-    c .before .before .close .kept .0 ∙ c .before .before .before .before .before .before .bump .kept .1 .0 ∙ c .before .before .before .before .before .before .before .before .before .before .before .before .before .before .pat-row .kept .1 .1 .1 .1 .0
+    c .before .before .close .kept .0 ∙ c .before .before .before .before .before .before .bump .kept .1 .0 ∙ c .before .before .before .before .before .before .before .before .before .before .before .before .before .before .row .kept .1 .1 .1 .1 .0
 
 row-item-same-length-2 : (t : ℕ) → row-item-lts.Need-same-length-2 (
   refuse-reads.Asked,
   refuse-reads.Learnt,
   mark-reads.Asked,
   mark-reads.Learnt,
-  pat-row-below t,
-  pat-row.Post,
+  row-below t,
+  row.Post,
   at-reads.Asked,
   at-reads.Learnt,
   bump-reads.Asked,
@@ -9105,15 +7724,15 @@ row-item-same-length-2 : (t : ℕ) → row-item-lts.Need-same-length-2 (
   close-reads.Learnt,
 ) (row-item-at t) row-item.Post
 row-item-same-length-2 t c =
-    c .before .before .before .before .before .before .before .before .before .before .before .before .before .before .pat-row .kept .1 .1 .1 .1 .1 .0
+    c .before .before .before .before .before .before .before .before .before .before .before .before .before .before .row .kept .1 .1 .1 .1 .1 .0
 
 row-item-returns-2 : (t : ℕ) → row-item-lts.Need-returns-2 (
   refuse-reads.Asked,
   refuse-reads.Learnt,
   mark-reads.Asked,
   mark-reads.Learnt,
-  pat-row-below t,
-  pat-row.Post,
+  row-below t,
+  row.Post,
   at-reads.Asked,
   at-reads.Learnt,
   bump-reads.Asked,
@@ -9127,20 +7746,20 @@ row-item-returns-2 t c =
     let pre0 = c .before .before .before .before .before .before .before .before .before .before .before .before .before .before .before .before .before .before .before .before .before .before .before .before .before .pre .1 in
     let if1 = c .before .before .before .before .before .before .before .before .before .before .before .before .before .before .before .before .before .before .if1 .left in
     let mark = c .before .before .before .before .before .before .before .before .before .before .before .before .before .before .before .before .before .mark .ensures in
-    let pat-row = c .before .before .before .before .before .before .before .before .before .before .before .before .before .before .pat-row .ensures in
+    let row = c .before .before .before .before .before .before .before .before .before .before .before .before .before .before .row .ensures in
     let at = c .before .before .before .before .before .before .before .before .before .at .ensures in
     let if2 = c .before .before .before .before .before .before .before .before .if2 .taken in
     let bump = c .before .before .before .before .before .before .bump .ensures in
     let close = c .before .before .close .ensures in
-    by-steps pre0 (λ b. s-mark if1 mark (s-by _ (runs-in pat-row) (s-kind (s-true _ _ (kind-at _ _ _ _ at if2) (s-bump bump (s-close close s-end))))))
+    by-steps pre0 (λ b. s-mark if1 mark (s-by _ (runs-in row) (s-kind (s-true _ _ (kind-at _ _ _ _ at if2) (s-bump bump (s-close close s-end))))))
 
 row-item-close-requires-2 : (t : ℕ) → row-item-lts.Need-close-requires-2 (
   refuse-reads.Asked,
   refuse-reads.Learnt,
   mark-reads.Asked,
   mark-reads.Learnt,
-  pat-row-below t,
-  pat-row.Post,
+  row-below t,
+  row.Post,
   at-reads.Asked,
   at-reads.Learnt,
   bump-reads.Asked,
@@ -9149,24 +7768,20 @@ row-item-close-requires-2 : (t : ℕ) → row-item-lts.Need-close-requires-2 (
   close-reads.Learnt,
 ) (row-item-at t) row-item.Post
 row-item-close-requires-2 t c κs =
-    let falls = c .before .before .before .before .before .before .before .before .before .before .before .before .before .before .before .before .before .before .pre .0 in
     let pre0 = c .before .before .before .before .before .before .before .before .before .before .before .before .before .before .before .before .before .before .pre .1 in
-    let if1 = c .before .before .before .before .before .before .before .before .before .before .before .if1 .left in
     let mark = c .before .before .before .before .before .before .before .before .before .before .mark .ensures in
     let mark-ok = ok-marks mark pre0 in
-    let pat-row = c .before .before .before .before .before .before .before .pat-row .ensures in
-    let pat-row-ok = pat-row .ok in
-    let at = c .before .before .at .ensures in
-    let if2 = c .before .if2 .left in
-    search asks depth 8
+    let row = c .before .before .before .before .before .before .before .row .ensures in
+    let row-ok = row .ok in
+    (row-ok .logs, small-len mark-ok)
 
 row-item-same-length-3 : (t : ℕ) → row-item-lts.Need-same-length-3 (
   refuse-reads.Asked,
   refuse-reads.Learnt,
   mark-reads.Asked,
   mark-reads.Learnt,
-  pat-row-below t,
-  pat-row.Post,
+  row-below t,
+  row.Post,
   at-reads.Asked,
   at-reads.Learnt,
   bump-reads.Asked,
@@ -9175,15 +7790,15 @@ row-item-same-length-3 : (t : ℕ) → row-item-lts.Need-same-length-3 (
   close-reads.Learnt,
 ) (row-item-at t) row-item.Post
 row-item-same-length-3 t c =
-    c .before .before .close2 .kept .0 ∙ c .before .before .before .before .before .before .before .before .before .before .pat-row .kept .1 .1 .1 .1 .0
+    c .before .before .close2 .kept .0 ∙ c .before .before .before .before .before .before .before .before .before .before .row .kept .1 .1 .1 .1 .0
 
 row-item-same-length-4 : (t : ℕ) → row-item-lts.Need-same-length-4 (
   refuse-reads.Asked,
   refuse-reads.Learnt,
   mark-reads.Asked,
   mark-reads.Learnt,
-  pat-row-below t,
-  pat-row.Post,
+  row-below t,
+  row.Post,
   at-reads.Asked,
   at-reads.Learnt,
   bump-reads.Asked,
@@ -9192,15 +7807,15 @@ row-item-same-length-4 : (t : ℕ) → row-item-lts.Need-same-length-4 (
   close-reads.Learnt,
 ) (row-item-at t) row-item.Post
 row-item-same-length-4 t c =
-    c .before .before .before .before .before .before .before .before .before .before .pat-row .kept .1 .1 .1 .1 .1 .0
+    c .before .before .before .before .before .before .before .before .before .before .row .kept .1 .1 .1 .1 .1 .0
 
 row-item-returns-3 : (t : ℕ) → row-item-lts.Need-returns-3 (
   refuse-reads.Asked,
   refuse-reads.Learnt,
   mark-reads.Asked,
   mark-reads.Learnt,
-  pat-row-below t,
-  pat-row.Post,
+  row-below t,
+  row.Post,
   at-reads.Asked,
   at-reads.Learnt,
   bump-reads.Asked,
@@ -9214,11 +7829,11 @@ row-item-returns-3 t c =
     let pre0 = c .before .before .before .before .before .before .before .before .before .before .before .before .before .before .before .before .before .before .before .before .before .pre .1 in
     let if1 = c .before .before .before .before .before .before .before .before .before .before .before .before .before .before .if1 .left in
     let mark = c .before .before .before .before .before .before .before .before .before .before .before .before .before .mark .ensures in
-    let pat-row = c .before .before .before .before .before .before .before .before .before .before .pat-row .ensures in
+    let row = c .before .before .before .before .before .before .before .before .before .before .row .ensures in
     let at = c .before .before .before .before .before .at .ensures in
     let if2 = c .before .before .before .before .if2 .left in
     let close2 = c .before .before .close2 .ensures in
-    by-steps pre0 (λ b. s-mark if1 mark (s-by _ (runs-in pat-row) (s-kind (s-false _ _ (kind-off _ _ _ _ at if2) (s-close close2 s-end)))))
+    by-steps pre0 (λ b. s-mark if1 mark (s-by _ (runs-in row) (s-kind (s-false _ _ (kind-off _ _ _ _ at if2) (s-close close2 s-end)))))
 
 row-turn-at-requires : (t : ℕ) → row-turn-lts.Need-at-requires (
   at-reads.Asked,
@@ -9233,9 +7848,8 @@ row-turn-at-requires : (t : ℕ) → row-turn-lts.Need-at-requires (
   state-reads.Learnt,
 ) (row-turn-at t) row-turn.Post
 row-turn-at-requires t c κs =
-    let falls = c .before .before .before .before .before .before .pre .0 in
     let pre0 = c .before .before .before .before .before .before .pre .1 in
-    search asks depth 8
+    pre0 .reads
 
 row-turn-bump-requires : (t : ℕ) → row-turn-lts.Need-bump-requires (
   at-reads.Asked,
@@ -9250,11 +7864,8 @@ row-turn-bump-requires : (t : ℕ) → row-turn-lts.Need-bump-requires (
   state-reads.Learnt,
 ) (row-turn-at t) row-turn.Post
 row-turn-bump-requires t c κs =
-    let falls = c .before .before .before .before .before .before .before .before .before .pre .0 in
     let pre0 = c .before .before .before .before .before .before .before .before .before .pre .1 in
-    let at = c .before .before .at .ensures in
-    let if1 = c .before .if1 .taken in
-    search asks depth 8
+    (pre0 .reads, pre0 .logs)
 
 row-turn-same-length : (t : ℕ) → row-turn-lts.Need-same-length (
   at-reads.Asked,
@@ -9307,9 +7918,8 @@ row-turn-row-item-requires : (t : ℕ) → row-turn-lts.Need-row-item-requires (
 row-turn-row-item-requires t c κs =
     let falls = c .before .before .before .before .before .before .before .before .before .before .pre .0 in
     let pre0 = c .before .before .before .before .before .before .before .before .before .before .pre .1 in
-    let at = c .before .before .before .at .ensures in
     let if1 = c .before .before .if1 .left in
-    search asks depth 8
+    (omega arith, pre0)
 
 row-turn-enum-known-item : (t : ℕ) → row-turn-lts.Need-enum-known-item (
   at-reads.Asked,
@@ -9361,12 +7971,11 @@ row-turn-eat-requires : (t : ℕ) → row-turn-lts.Need-eat-requires (
 ) (row-turn-at t) row-turn.Post
 row-turn-eat-requires t c κs =
     let falls = c .before .before .before .before .before .before .before .before .before .before .before .before .before .before .before .before .before .before .before .before .pre .0 in
-    let pre0 = c .before .before .before .before .before .before .before .before .before .before .before .before .before .before .before .before .before .before .before .before .pre .1 in
     let at = c .before .before .before .before .before .before .before .before .before .before .before .before .before .at .ensures in
     let if1 = c .before .before .before .before .before .before .before .before .before .before .before .before .if1 .left in
     let row-item = rw (c .before .before .before .item2 .given .1) at (c .before .before .before .before .before .before .before .before .before .row-item .ensures) in
     let row-item-ok = row-item .ok in
-    search asks depth 8
+    (row-item-ok, omega arith)
 
 row-turn-state-requires : (t : ℕ) → row-turn-lts.Need-state-requires (
   at-reads.Asked,
@@ -9381,15 +7990,7 @@ row-turn-state-requires : (t : ℕ) → row-turn-lts.Need-state-requires (
   state-reads.Learnt,
 ) (row-turn-at t) row-turn.Post
 row-turn-state-requires t c κs =
-    let falls = c .before .before .before .before .before .before .before .before .before .before .before .before .before .before .before .before .before .before .before .before .before .before .before .before .before .pre .0 in
-    let pre0 = c .before .before .before .before .before .before .before .before .before .before .before .before .before .before .before .before .before .before .before .before .before .before .before .before .before .pre .1 in
-    let at = c .before .before .before .before .before .before .before .before .before .before .before .before .before .before .before .before .before .before .at .ensures in
-    let if1 = c .before .before .before .before .before .before .before .before .before .before .before .before .before .before .before .before .before .if1 .left in
-    let row-item = rw (c .before .before .before .before .before .before .before .before .item2 .given .1) at (c .before .before .before .before .before .before .before .before .before .before .before .before .before .before .row-item .ensures) in
-    let row-item-ok = row-item .ok in
-    let eat = c .before .before .before .before .eat .ensures in
-    let eat-ok = eat .ok in
-    search asks depth 8
+    tt
 
 row-turn-same-length-2 : (t : ℕ) → row-turn-lts.Need-same-length-2 (
   at-reads.Asked,
@@ -9495,6 +8096,758 @@ row-turn-returns-3 t c =
     let state = c .state .ensures in
     by-steps pre0 (λ b. s-kind (s-false _ _ (kind-off _ _ _ _ at if1) (s-by _ (runs-in row-item) (s-by _ (settled state (runs-always eat)) s-end))))
 
+abbrev rows-Inv-loop : rows-lts.InvT-loop
+rows-Inv-loop text toks env table scratch₀ finds₀ left e b s1₀ scratch finds s1 =
+    Loops left b (util.endTurn {g = true} SK.PatRow SK.Comma SK.RCurly (pat.patRow (errOf e))) (mem text toks env table scratch₀ finds₀ s1₀) (mem text toks env table scratch finds s1) × (length scratch ≡ length scratch₀) × (length finds ≡ length finds₀)
+
+abbrev rows-μ-loop : rows-lts.MeasureT-loop
+rows-μ-loop text toks env table scratch₀ finds₀ left e b s1₀ scratch finds s1 = turns (mem text toks env table scratch finds s1)
+
+rows-loop-holds :
+    (t : ℕ) →
+    rows-lts.Need-loop-holds
+    (row-turn-below t, row-turn.Post)
+    (rows-at t)
+    rows.Post
+    rows-Inv-loop
+    rows-μ-loop
+rows-loop-holds t c =
+    let falls = c .before .before .before .before .before .before .pre .0 in
+    let pre0 = c .before .before .before .before .before .before .pre .1 in
+    (loop-starts pre0, refl, refl)
+
+rows-row-turn-requires : (t : ℕ) → rows-lts.Need-row-turn-requires (
+  row-turn-below t,
+  row-turn.Post,
+) (rows-at t) rows.Post rows-Inv-loop rows-μ-loop
+rows-row-turn-requires t c κs =
+    let falls = c .before .before .before .before .before .before .before .before .before .pre .0 in
+    let inv = c .before .before .loop .inv .0 .ok in
+    (omega arith, inv)
+
+rows-enum-known-turn :
+    (t : ℕ) →
+    rows-lts.Need-enum-known-turn
+    (row-turn-below t, row-turn.Post)
+    (rows-at t)
+    rows.Post
+    rows-Inv-loop
+    rows-μ-loop
+rows-enum-known-turn t c =
+    let falls = c .before .before .before .before .before .before .before .before .before .before .before .before .before .before .before .pre .0 in
+    let pre0 = c .before .before .before .before .before .before .before .before .before .before .before .before .before .before .before .pre .1 in
+    search needs
+
+rows-loop-less :
+    (t : ℕ) →
+    rows-lts.Need-loop-less
+    (row-turn-below t, row-turn.Post)
+    (rows-at t)
+    rows.Post
+    rows-Inv-loop
+    rows-μ-loop
+rows-loop-less t c =
+    let row-turn = rw (c .before .turn .given .1) at (c .before .before .before .before .before .before .before .row-turn .ensures) in
+    loop-falls (end-turn-advances true _ _ _ _ _ _) (runs-in {b = 0} row-turn)
+
+rows-loop-again :
+    (t : ℕ) →
+    rows-lts.Need-loop-again
+    (row-turn-below t, row-turn.Post)
+    (rows-at t)
+    rows.Post
+    rows-Inv-loop
+    rows-μ-loop
+rows-loop-again t c =
+    let inv = c .before .before .before .before .before .before .before .before .before .before .loop .inv .0 in
+    let row-turn = rw (c .before .turn .given .1) at (c .before .before .before .before .before .before .before .row-turn .ensures) in
+    (loop-goes (end-turn-advances true _ _ _ _ _ _) inv (runs-in row-turn), c .before .before .before .before .before .before .before .row-turn .kept .1 .1 .1 .1 .0 ∙ c .before .before .before .before .before .before .before .before .before .before .loop .inv .1, c .before .before .before .before .before .before .before .row-turn .kept .1 .1 .1 .1 .1 .0 ∙ c .before .before .before .before .before .before .before .before .before .before .loop .inv .2)
+
+rows-enum-known-turn-2 : (t : ℕ) → rows-lts.Need-enum-known-turn-2 (
+  row-turn-below t,
+  row-turn.Post,
+) (rows-at t) rows.Post rows-Inv-loop rows-μ-loop
+rows-enum-known-turn-2 t c =
+    let falls = c .before .before .before .before .before .before .before .before .before .before .before .before .before .before .before .pre .0 in
+    let pre0 = c .before .before .before .before .before .before .before .before .before .before .before .before .before .before .before .pre .1 in
+    search needs
+
+rows-same-length :
+    (t : ℕ) →
+    rows-lts.Need-same-length
+    (row-turn-below t, row-turn.Post)
+    (rows-at t)
+    rows.Post
+    rows-Inv-loop
+    rows-μ-loop
+rows-same-length t c =
+    c .before .before .before .before .before .before .before .row-turn .kept .1 .1 .1 .1 .0 ∙ c .before .before .before .before .before .before .before .before .before .before .loop .inv .1
+
+rows-same-length-2 :
+    (t : ℕ) →
+    rows-lts.Need-same-length-2
+    (row-turn-below t, row-turn.Post)
+    (rows-at t)
+    rows.Post
+    rows-Inv-loop
+    rows-μ-loop
+rows-same-length-2 t c =
+    c .before .before .before .before .before .before .before .row-turn .kept .1 .1 .1 .1 .1 .0 ∙ c .before .before .before .before .before .before .before .before .before .before .loop .inv .2
+
+rows-returns :
+    (t : ℕ) →
+    rows-lts.Need-returns
+    (row-turn-below t, row-turn.Post)
+    (rows-at t)
+    rows.Post
+    rows-Inv-loop
+    rows-μ-loop
+rows-returns t c =
+    let inv = c .before .before .before .before .before .before .before .before .before .before .loop .inv .0 in
+    let row-turn = rw (c .before .turn2 .given .1) at (c .before .before .before .before .before .before .before .row-turn .ensures) in
+    loop-ends (end-turn-advances true _ _ _ _ _ _) inv (runs-in row-turn)
+
+step-peek-requires : (t : ℕ) → step-lts.Need-peek-requires (
+  peek-reads.Asked,
+  peek-reads.Learnt,
+  name-star-reads.Asked,
+  name-star-reads.Learnt,
+  op-step-below t,
+  op-step.Post,
+  or-step-below t,
+  or-step.Post,
+  ascription-reads.Asked,
+  ascription-reads.Learnt,
+  typed-step-reads.Asked,
+  typed-step-reads.Learnt,
+  as-step-below t,
+  as-step.Post,
+) (step-at t) step.Post
+step-peek-requires t c κs =
+    let pre0 = c .before .before .before .before .before .before .pre .1 .0 in
+    pre0 .reads
+
+step-enum-known-k : (t : ℕ) → step-lts.Need-enum-known-k (
+  peek-reads.Asked,
+  peek-reads.Learnt,
+  name-star-reads.Asked,
+  name-star-reads.Learnt,
+  op-step-below t,
+  op-step.Post,
+  or-step-below t,
+  or-step.Post,
+  ascription-reads.Asked,
+  ascription-reads.Learnt,
+  typed-step-reads.Asked,
+  typed-step-reads.Learnt,
+  as-step-below t,
+  as-step.Post,
+) (step-at t) step.Post
+step-enum-known-k t c =
+    let falls = c .before .before .before .before .before .before .before .before .pre .0 in
+    let pre0 = c .before .before .before .before .before .before .before .before .pre .1 .0 in
+    let pre1 = c .before .before .before .before .before .before .before .before .pre .1 .1 in
+    search needs
+
+step-enum-told : (t : ℕ) → step-lts.Need-enum-told (
+  peek-reads.Asked,
+  peek-reads.Learnt,
+  name-star-reads.Asked,
+  name-star-reads.Learnt,
+  op-step-below t,
+  op-step.Post,
+  or-step-below t,
+  or-step.Post,
+  ascription-reads.Asked,
+  ascription-reads.Learnt,
+  typed-step-reads.Asked,
+  typed-step-reads.Learnt,
+  as-step-below t,
+  as-step.Post,
+) (step-at t) step.Post
+step-enum-told t c =
+    let falls = c .before .before .before .before .before .before .before .before .pre .0 in
+    let pre0 = c .before .before .before .before .before .before .before .before .pre .1 .0 in
+    let pre1 = c .before .before .before .before .before .before .before .before .pre .1 .1 in
+    search needs
+
+step-returns : (t : ℕ) → step-lts.Need-returns (
+  peek-reads.Asked,
+  peek-reads.Learnt,
+  name-star-reads.Asked,
+  name-star-reads.Learnt,
+  op-step-below t,
+  op-step.Post,
+  or-step-below t,
+  or-step.Post,
+  ascription-reads.Asked,
+  ascription-reads.Learnt,
+  typed-step-reads.Asked,
+  typed-step-reads.Learnt,
+  as-step-below t,
+  as-step.Post,
+) (step-at t) step.Post
+unfolding pat.patStep plan choose chosen
+step-returns t c =
+    let falls = c .before .before .before .before .before .before .before .before .before .pre .0 in
+    let pre0 = c .before .before .before .before .before .before .before .before .before .pre .1 .0 in
+    let pre1 = c .before .before .before .before .before .before .before .before .before .pre .1 .1 in
+    let peek = rw (c .enum-told .given .1) at (c .before .before .peek .ensures) in
+    in-steps pre0 (s-look peek s-end)
+
+step-name-star-requires : (t : ℕ) → step-lts.Need-name-star-requires (
+  peek-reads.Asked,
+  peek-reads.Learnt,
+  name-star-reads.Asked,
+  name-star-reads.Learnt,
+  op-step-below t,
+  op-step.Post,
+  or-step-below t,
+  or-step.Post,
+  ascription-reads.Asked,
+  ascription-reads.Learnt,
+  typed-step-reads.Asked,
+  typed-step-reads.Learnt,
+  as-step-below t,
+  as-step.Post,
+) (step-at t) step.Post
+step-name-star-requires t c κs =
+    tt
+
+step-op-step-requires : (t : ℕ) → step-lts.Need-op-step-requires (
+  peek-reads.Asked,
+  peek-reads.Learnt,
+  name-star-reads.Asked,
+  name-star-reads.Learnt,
+  op-step-below t,
+  op-step.Post,
+  or-step-below t,
+  or-step.Post,
+  ascription-reads.Asked,
+  ascription-reads.Learnt,
+  typed-step-reads.Asked,
+  typed-step-reads.Learnt,
+  as-step-below t,
+  as-step.Post,
+) (step-at t) step.Post
+step-op-step-requires t c κs =
+    let falls = c .before .before .before .before .before .before .before .before .before .before .before .before .before .before .pre .0 in
+    let pre0 = c .before .before .before .before .before .before .before .before .before .before .before .before .before .before .pre .1 .0 in
+    let pre1 = c .before .before .before .before .before .before .before .before .before .before .before .before .before .before .pre .1 .1 in
+    let if1 = c .before .before .if1 .taken in
+    (omega arith, (pre0, pre1))
+
+step-same-length : (t : ℕ) → step-lts.Need-same-length (
+  peek-reads.Asked,
+  peek-reads.Learnt,
+  name-star-reads.Asked,
+  name-star-reads.Learnt,
+  op-step-below t,
+  op-step.Post,
+  or-step-below t,
+  or-step.Post,
+  ascription-reads.Asked,
+  ascription-reads.Learnt,
+  typed-step-reads.Asked,
+  typed-step-reads.Learnt,
+  as-step-below t,
+  as-step.Post,
+) (step-at t) step.Post
+step-same-length t c =
+    c .before .before .before .before .op-step .kept .1 .1 .1 .1 .0
+
+step-same-length-2 : (t : ℕ) → step-lts.Need-same-length-2 (
+  peek-reads.Asked,
+  peek-reads.Learnt,
+  name-star-reads.Asked,
+  name-star-reads.Learnt,
+  op-step-below t,
+  op-step.Post,
+  or-step-below t,
+  or-step.Post,
+  ascription-reads.Asked,
+  ascription-reads.Learnt,
+  typed-step-reads.Asked,
+  typed-step-reads.Learnt,
+  as-step-below t,
+  as-step.Post,
+) (step-at t) step.Post
+step-same-length-2 t c =
+    c .before .before .before .before .op-step .kept .1 .1 .1 .1 .1 .0
+
+step-returns-2 : (t : ℕ) → step-lts.Need-returns-2 (
+  peek-reads.Asked,
+  peek-reads.Learnt,
+  name-star-reads.Asked,
+  name-star-reads.Learnt,
+  op-step-below t,
+  op-step.Post,
+  or-step-below t,
+  or-step.Post,
+  ascription-reads.Asked,
+  ascription-reads.Learnt,
+  typed-step-reads.Asked,
+  typed-step-reads.Learnt,
+  as-step-below t,
+  as-step.Post,
+) (step-at t) step.Post
+unfolding pat.patStep plan choose chosen
+step-returns-2 t c =
+    let falls = c .before .before .before .before .before .before .before .before .before .before .before .before .before .before .before .before .before .before .before .pre .0 in
+    let pre0 = c .before .before .before .before .before .before .before .before .before .before .before .before .before .before .before .before .before .before .before .pre .1 .0 in
+    let pre1 = c .before .before .before .before .before .before .before .before .before .before .before .before .before .before .before .before .before .before .before .pre .1 .1 in
+    let peek = rw (c .before .before .before .before .before .before .before .before .before .before .k .given .1) at (c .before .before .before .before .before .before .before .before .before .before .before .before .peek .ensures) in
+    let name-star = c .before .before .before .before .before .before .before .before .name-star .ensures in
+    let if1 = c .before .before .before .before .before .before .before .if1 .taken in
+    let op-step = c .before .before .before .before .op-step .ensures in
+    in-steps pre0 (s-look peek (s-true _ _ (test-true name-star if1) (s-by _ op-step s-end)))
+
+step-or-step-requires : (t : ℕ) → step-lts.Need-or-step-requires (
+  peek-reads.Asked,
+  peek-reads.Learnt,
+  name-star-reads.Asked,
+  name-star-reads.Learnt,
+  op-step-below t,
+  op-step.Post,
+  or-step-below t,
+  or-step.Post,
+  ascription-reads.Asked,
+  ascription-reads.Learnt,
+  typed-step-reads.Asked,
+  typed-step-reads.Learnt,
+  as-step-below t,
+  as-step.Post,
+) (step-at t) step.Post
+step-or-step-requires t c κs =
+    let falls = c .before .before .before .before .before .before .before .before .before .before .before .before .before .before .before .pre .0 in
+    let pre0 = c .before .before .before .before .before .before .before .before .before .before .before .before .before .before .before .pre .1 .0 in
+    let pre1 = c .before .before .before .before .before .before .before .before .before .before .before .before .before .before .before .pre .1 .1 in
+    let if1 = c .before .before .before .if1 .left in
+    let if2 = c .before .before .if2 .taken in
+    (omega arith, (pre0, pre1))
+
+step-same-length-3 : (t : ℕ) → step-lts.Need-same-length-3 (
+  peek-reads.Asked,
+  peek-reads.Learnt,
+  name-star-reads.Asked,
+  name-star-reads.Learnt,
+  op-step-below t,
+  op-step.Post,
+  or-step-below t,
+  or-step.Post,
+  ascription-reads.Asked,
+  ascription-reads.Learnt,
+  typed-step-reads.Asked,
+  typed-step-reads.Learnt,
+  as-step-below t,
+  as-step.Post,
+) (step-at t) step.Post
+step-same-length-3 t c =
+    c .before .before .before .before .or-step .kept .1 .1 .1 .1 .0
+
+step-same-length-4 : (t : ℕ) → step-lts.Need-same-length-4 (
+  peek-reads.Asked,
+  peek-reads.Learnt,
+  name-star-reads.Asked,
+  name-star-reads.Learnt,
+  op-step-below t,
+  op-step.Post,
+  or-step-below t,
+  or-step.Post,
+  ascription-reads.Asked,
+  ascription-reads.Learnt,
+  typed-step-reads.Asked,
+  typed-step-reads.Learnt,
+  as-step-below t,
+  as-step.Post,
+) (step-at t) step.Post
+step-same-length-4 t c =
+    c .before .before .before .before .or-step .kept .1 .1 .1 .1 .1 .0
+
+step-returns-3 : (t : ℕ) → step-lts.Need-returns-3 (
+  peek-reads.Asked,
+  peek-reads.Learnt,
+  name-star-reads.Asked,
+  name-star-reads.Learnt,
+  op-step-below t,
+  op-step.Post,
+  or-step-below t,
+  or-step.Post,
+  ascription-reads.Asked,
+  ascription-reads.Learnt,
+  typed-step-reads.Asked,
+  typed-step-reads.Learnt,
+  as-step-below t,
+  as-step.Post,
+) (step-at t) step.Post
+unfolding pat.patStep plan choose chosen
+step-returns-3 t c =
+    let falls = c .before .before .before .before .before .before .before .before .before .before .before .before .before .before .before .before .before .before .before .before .pre .0 in
+    let pre0 = c .before .before .before .before .before .before .before .before .before .before .before .before .before .before .before .before .before .before .before .before .pre .1 .0 in
+    let pre1 = c .before .before .before .before .before .before .before .before .before .before .before .before .before .before .before .before .before .before .before .before .pre .1 .1 in
+    let peek = rw (c .before .before .before .before .before .before .before .before .before .before .before .k .given .1) at (c .before .before .before .before .before .before .before .before .before .before .before .before .before .peek .ensures) in
+    let name-star = c .before .before .before .before .before .before .before .before .before .name-star .ensures in
+    let if1 = c .before .before .before .before .before .before .before .before .if1 .left in
+    let if2 = c .before .before .before .before .before .before .before .if2 .taken in
+    let or-step = c .before .before .before .before .or-step .ensures in
+    in-steps pre0 (s-look peek (s-false _ _ (test-false name-star if1) (s-true _ _ (kind-is if2) (s-by _ or-step s-end))))
+
+step-ascription-requires : (t : ℕ) → step-lts.Need-ascription-requires (
+  peek-reads.Asked,
+  peek-reads.Learnt,
+  name-star-reads.Asked,
+  name-star-reads.Learnt,
+  op-step-below t,
+  op-step.Post,
+  or-step-below t,
+  or-step.Post,
+  ascription-reads.Asked,
+  ascription-reads.Learnt,
+  typed-step-reads.Asked,
+  typed-step-reads.Learnt,
+  as-step-below t,
+  as-step.Post,
+) (step-at t) step.Post
+step-ascription-requires t c κs =
+    tt
+
+step-typed-step-requires : (t : ℕ) → step-lts.Need-typed-step-requires (
+  peek-reads.Asked,
+  peek-reads.Learnt,
+  name-star-reads.Asked,
+  name-star-reads.Learnt,
+  op-step-below t,
+  op-step.Post,
+  or-step-below t,
+  or-step.Post,
+  ascription-reads.Asked,
+  ascription-reads.Learnt,
+  typed-step-reads.Asked,
+  typed-step-reads.Learnt,
+  as-step-below t,
+  as-step.Post,
+) (step-at t) step.Post
+step-typed-step-requires t c κs =
+    let pre0 = c .before .before .before .before .before .before .before .before .before .before .before .before .before .before .before .before .before .pre .1 .0 in
+    let pre1 = c .before .before .before .before .before .before .before .before .before .before .before .before .before .before .before .before .before .pre .1 .1 in
+    (pre0, pre1)
+
+step-same-length-5 : (t : ℕ) → step-lts.Need-same-length-5 (
+  peek-reads.Asked,
+  peek-reads.Learnt,
+  name-star-reads.Asked,
+  name-star-reads.Learnt,
+  op-step-below t,
+  op-step.Post,
+  or-step-below t,
+  or-step.Post,
+  ascription-reads.Asked,
+  ascription-reads.Learnt,
+  typed-step-reads.Asked,
+  typed-step-reads.Learnt,
+  as-step-below t,
+  as-step.Post,
+) (step-at t) step.Post
+step-same-length-5 t c =
+    c .before .before .before .before .typed-step .kept .1 .1 .1 .1 .0
+
+step-same-length-6 : (t : ℕ) → step-lts.Need-same-length-6 (
+  peek-reads.Asked,
+  peek-reads.Learnt,
+  name-star-reads.Asked,
+  name-star-reads.Learnt,
+  op-step-below t,
+  op-step.Post,
+  or-step-below t,
+  or-step.Post,
+  ascription-reads.Asked,
+  ascription-reads.Learnt,
+  typed-step-reads.Asked,
+  typed-step-reads.Learnt,
+  as-step-below t,
+  as-step.Post,
+) (step-at t) step.Post
+step-same-length-6 t c =
+    c .before .before .before .before .typed-step .kept .1 .1 .1 .1 .1 .0
+
+step-returns-4 : (t : ℕ) → step-lts.Need-returns-4 (
+  peek-reads.Asked,
+  peek-reads.Learnt,
+  name-star-reads.Asked,
+  name-star-reads.Learnt,
+  op-step-below t,
+  op-step.Post,
+  or-step-below t,
+  or-step.Post,
+  ascription-reads.Asked,
+  ascription-reads.Learnt,
+  typed-step-reads.Asked,
+  typed-step-reads.Learnt,
+  as-step-below t,
+  as-step.Post,
+) (step-at t) step.Post
+unfolding pat.patStep plan choose chosen
+step-returns-4 t c =
+    let falls = c .before .before .before .before .before .before .before .before .before .before .before .before .before .before .before .before .before .before .before .before .before .before .pre .0 in
+    let pre0 = c .before .before .before .before .before .before .before .before .before .before .before .before .before .before .before .before .before .before .before .before .before .before .pre .1 .0 in
+    let pre1 = c .before .before .before .before .before .before .before .before .before .before .before .before .before .before .before .before .before .before .before .before .before .before .pre .1 .1 in
+    let peek = rw (c .before .before .before .before .before .before .before .before .before .before .before .before .before .k .given .1) at (c .before .before .before .before .before .before .before .before .before .before .before .before .before .before .before .peek .ensures) in
+    let name-star = c .before .before .before .before .before .before .before .before .before .before .before .name-star .ensures in
+    let if1 = c .before .before .before .before .before .before .before .before .before .before .if1 .left in
+    let if2 = c .before .before .before .before .before .before .before .before .before .if2 .left in
+    let ascription = c .before .before .before .before .before .before .before .before .ascription .ensures in
+    let if3 = c .before .before .before .before .before .before .before .if3 .taken in
+    let typed-step = c .before .before .before .before .typed-step .ensures in
+    in-steps pre0 (s-look peek (s-false _ _ (test-false name-star if1) (s-false _ _ (kind-not if2) (s-true _ _ (test-true ascription if3) (s-by _ typed-step s-end)))))
+
+step-as-step-requires : (t : ℕ) → step-lts.Need-as-step-requires (
+  peek-reads.Asked,
+  peek-reads.Learnt,
+  name-star-reads.Asked,
+  name-star-reads.Learnt,
+  op-step-below t,
+  op-step.Post,
+  or-step-below t,
+  or-step.Post,
+  ascription-reads.Asked,
+  ascription-reads.Learnt,
+  typed-step-reads.Asked,
+  typed-step-reads.Learnt,
+  as-step-below t,
+  as-step.Post,
+) (step-at t) step.Post
+step-as-step-requires t c κs =
+    let falls = c .before .before .before .before .before .before .before .before .before .before .before .before .before .before .before .before .before .before .pre .0 in
+    let pre0 = c .before .before .before .before .before .before .before .before .before .before .before .before .before .before .before .before .before .before .pre .1 .0 in
+    let pre1 = c .before .before .before .before .before .before .before .before .before .before .before .before .before .before .before .before .before .before .pre .1 .1 in
+    let if1 = c .before .before .before .before .before .before .if1 .left in
+    let if2 = c .before .before .before .before .before .if2 .left in
+    let if3 = c .before .before .before .if3 .left in
+    let if4 = c .before .before .if4 .taken in
+    (omega arith, (pre0, pre1))
+
+step-same-length-7 : (t : ℕ) → step-lts.Need-same-length-7 (
+  peek-reads.Asked,
+  peek-reads.Learnt,
+  name-star-reads.Asked,
+  name-star-reads.Learnt,
+  op-step-below t,
+  op-step.Post,
+  or-step-below t,
+  or-step.Post,
+  ascription-reads.Asked,
+  ascription-reads.Learnt,
+  typed-step-reads.Asked,
+  typed-step-reads.Learnt,
+  as-step-below t,
+  as-step.Post,
+) (step-at t) step.Post
+step-same-length-7 t c =
+    c .before .before .before .before .as-step .kept .1 .1 .1 .1 .0
+
+step-same-length-8 : (t : ℕ) → step-lts.Need-same-length-8 (
+  peek-reads.Asked,
+  peek-reads.Learnt,
+  name-star-reads.Asked,
+  name-star-reads.Learnt,
+  op-step-below t,
+  op-step.Post,
+  or-step-below t,
+  or-step.Post,
+  ascription-reads.Asked,
+  ascription-reads.Learnt,
+  typed-step-reads.Asked,
+  typed-step-reads.Learnt,
+  as-step-below t,
+  as-step.Post,
+) (step-at t) step.Post
+step-same-length-8 t c =
+    c .before .before .before .before .as-step .kept .1 .1 .1 .1 .1 .0
+
+step-returns-5 : (t : ℕ) → step-lts.Need-returns-5 (
+  peek-reads.Asked,
+  peek-reads.Learnt,
+  name-star-reads.Asked,
+  name-star-reads.Learnt,
+  op-step-below t,
+  op-step.Post,
+  or-step-below t,
+  or-step.Post,
+  ascription-reads.Asked,
+  ascription-reads.Learnt,
+  typed-step-reads.Asked,
+  typed-step-reads.Learnt,
+  as-step-below t,
+  as-step.Post,
+) (step-at t) step.Post
+unfolding pat.patStep plan choose chosen
+step-returns-5 t c =
+    let falls = c .before .before .before .before .before .before .before .before .before .before .before .before .before .before .before .before .before .before .before .before .before .before .before .pre .0 in
+    let pre0 = c .before .before .before .before .before .before .before .before .before .before .before .before .before .before .before .before .before .before .before .before .before .before .before .pre .1 .0 in
+    let pre1 = c .before .before .before .before .before .before .before .before .before .before .before .before .before .before .before .before .before .before .before .before .before .before .before .pre .1 .1 in
+    let peek = rw (c .before .before .before .before .before .before .before .before .before .before .before .before .before .before .k .given .1) at (c .before .before .before .before .before .before .before .before .before .before .before .before .before .before .before .before .peek .ensures) in
+    let name-star = c .before .before .before .before .before .before .before .before .before .before .before .before .name-star .ensures in
+    let if1 = c .before .before .before .before .before .before .before .before .before .before .before .if1 .left in
+    let if2 = c .before .before .before .before .before .before .before .before .before .before .if2 .left in
+    let ascription = c .before .before .before .before .before .before .before .before .before .ascription .ensures in
+    let if3 = c .before .before .before .before .before .before .before .before .if3 .left in
+    let if4 = c .before .before .before .before .before .before .before .if4 .taken in
+    let as-step = c .before .before .before .before .as-step .ensures in
+    in-steps pre0 (s-look peek (s-false _ _ (test-false name-star if1) (s-false _ _ (kind-not if2) (s-false _ _ (test-false ascription if3) (s-true _ _ (kind-is if4) (s-by _ as-step s-end))))))
+
+step-returns-6 : (t : ℕ) → step-lts.Need-returns-6 (
+  peek-reads.Asked,
+  peek-reads.Learnt,
+  name-star-reads.Asked,
+  name-star-reads.Learnt,
+  op-step-below t,
+  op-step.Post,
+  or-step-below t,
+  or-step.Post,
+  ascription-reads.Asked,
+  ascription-reads.Learnt,
+  typed-step-reads.Asked,
+  typed-step-reads.Learnt,
+  as-step-below t,
+  as-step.Post,
+) (step-at t) step.Post
+unfolding pat.patStep plan choose chosen
+step-returns-6 t c =
+    let falls = c .before .before .before .before .before .before .before .before .before .before .before .before .before .before .before .before .pre .0 in
+    let pre0 = c .before .before .before .before .before .before .before .before .before .before .before .before .before .before .before .before .pre .1 .0 in
+    let pre1 = c .before .before .before .before .before .before .before .before .before .before .before .before .before .before .before .before .pre .1 .1 in
+    let peek = rw (c .before .before .before .before .before .before .before .k .given .1) at (c .before .before .before .before .before .before .before .before .before .peek .ensures) in
+    let name-star = c .before .before .before .before .before .name-star .ensures in
+    let if1 = c .before .before .before .before .if1 .left in
+    let if2 = c .before .before .before .if2 .left in
+    let ascription = c .before .before .ascription .ensures in
+    let if3 = c .before .if3 .left in
+    let if4 = c .if4 .left in
+    in-steps pre0 (s-look peek (s-false _ _ (test-false name-star if1) (s-false _ _ (kind-not if2) (s-false _ _ (test-false ascription if3) (s-false _ _ (kind-not if4) s-end)))))
+
+abbrev tail-Inv-loop : tail-lts.InvT-loop
+tail-Inv-loop text toks env table scratch₀ finds₀ left min e b s1₀ scratch finds s1 =
+    Loops left b (pat.patStep (precOf min) (errOf e)) (mem text toks env table scratch₀ finds₀ s1₀) (mem text toks env table scratch finds s1) × (length scratch ≡ length scratch₀) × (length finds ≡ length finds₀)
+
+abbrev tail-μ-loop : tail-lts.MeasureT-loop
+tail-μ-loop text toks env table scratch₀ finds₀ left min e b s1₀ scratch finds s1 = turns (mem text toks env table scratch finds s1)
+
+tail-loop-holds :
+    (t : ℕ) →
+    tail-lts.Need-loop-holds
+    (step-below t, step.Post)
+    (tail-at t)
+    tail.Post
+    tail-Inv-loop
+    tail-μ-loop
+tail-loop-holds t c =
+    let falls = c .before .before .before .before .before .before .pre .0 in
+    let pre0 = c .before .before .before .before .before .before .pre .1 .0 in
+    let pre1 = c .before .before .before .before .before .before .pre .1 .1 in
+    (loop-starts pre0, refl, refl)
+
+tail-step-requires :
+    (t : ℕ) →
+    tail-lts.Need-step-requires
+    (step-below t, step.Post)
+    (tail-at t)
+    tail.Post
+    tail-Inv-loop
+    tail-μ-loop
+tail-step-requires t c κs =
+    let falls = c .before .before .before .before .before .before .before .before .before .pre .0 in
+    let pre1 = c .before .before .before .before .before .before .before .before .before .pre .1 .1 in
+    let inv = c .before .before .loop .inv .0 .ok in
+    (omega arith, (inv, pre1))
+
+tail-enum-known-turn :
+    (t : ℕ) →
+    tail-lts.Need-enum-known-turn
+    (step-below t, step.Post)
+    (tail-at t)
+    tail.Post
+    tail-Inv-loop
+    tail-μ-loop
+tail-enum-known-turn t c =
+    let falls = c .before .before .before .before .before .before .before .before .before .before .before .before .before .before .before .pre .0 in
+    let pre0 = c .before .before .before .before .before .before .before .before .before .before .before .before .before .before .before .pre .1 .0 in
+    let pre1 = c .before .before .before .before .before .before .before .before .before .before .before .before .before .before .before .pre .1 .1 in
+    search needs
+
+tail-loop-less :
+    (t : ℕ) →
+    tail-lts.Need-loop-less
+    (step-below t, step.Post)
+    (tail-at t)
+    tail.Post
+    tail-Inv-loop
+    tail-μ-loop
+tail-loop-less t c =
+    let step = rw (c .before .turn .given .1) at (c .before .before .before .before .before .before .before .step .ensures) in
+    loop-falls (pat-step-advances _ _ _ _) step
+
+tail-loop-again :
+    (t : ℕ) →
+    tail-lts.Need-loop-again
+    (step-below t, step.Post)
+    (tail-at t)
+    tail.Post
+    tail-Inv-loop
+    tail-μ-loop
+tail-loop-again t c =
+    let inv = c .before .before .before .before .before .before .before .before .before .before .loop .inv .0 in
+    let step = rw (c .before .turn .given .1) at (c .before .before .before .before .before .before .before .step .ensures) in
+    (loop-goes (pat-step-advances _ _ _ _) inv step, c .before .before .before .before .before .before .before .step .kept .1 .1 .1 .1 .0 ∙ c .before .before .before .before .before .before .before .before .before .before .loop .inv .1, c .before .before .before .before .before .before .before .step .kept .1 .1 .1 .1 .1 .0 ∙ c .before .before .before .before .before .before .before .before .before .before .loop .inv .2)
+
+tail-enum-known-turn-2 :
+    (t : ℕ) →
+    tail-lts.Need-enum-known-turn-2
+    (step-below t, step.Post)
+    (tail-at t)
+    tail.Post
+    tail-Inv-loop
+    tail-μ-loop
+tail-enum-known-turn-2 t c =
+    let falls = c .before .before .before .before .before .before .before .before .before .before .before .before .before .before .before .pre .0 in
+    let pre0 = c .before .before .before .before .before .before .before .before .before .before .before .before .before .before .before .pre .1 .0 in
+    let pre1 = c .before .before .before .before .before .before .before .before .before .before .before .before .before .before .before .pre .1 .1 in
+    search needs
+
+tail-same-length :
+    (t : ℕ) →
+    tail-lts.Need-same-length
+    (step-below t, step.Post)
+    (tail-at t)
+    tail.Post
+    tail-Inv-loop
+    tail-μ-loop
+tail-same-length t c =
+    c .before .before .before .before .before .before .before .step .kept .1 .1 .1 .1 .0 ∙ c .before .before .before .before .before .before .before .before .before .before .loop .inv .1
+
+tail-same-length-2 :
+    (t : ℕ) →
+    tail-lts.Need-same-length-2
+    (step-below t, step.Post)
+    (tail-at t)
+    tail.Post
+    tail-Inv-loop
+    tail-μ-loop
+tail-same-length-2 t c =
+    c .before .before .before .before .before .before .before .step .kept .1 .1 .1 .1 .1 .0 ∙ c .before .before .before .before .before .before .before .before .before .before .loop .inv .2
+
+tail-returns :
+    (t : ℕ) →
+    tail-lts.Need-returns
+    (step-below t, step.Post)
+    (tail-at t)
+    tail.Post
+    tail-Inv-loop
+    tail-μ-loop
+tail-returns t c =
+    let inv = c .before .before .before .before .before .before .before .before .before .before .loop .inv .0 in
+    let step = rw (c .before .turn2 .given .1) at (c .before .before .before .before .before .before .before .step .ensures) in
+    loop-ends (pat-step-advances _ _ _ _) inv step
+
 vector-refuse-requires : (t : ℕ) → vector-lts.Need-refuse-requires (
   refuse-reads.Asked,
   refuse-reads.Learnt,
@@ -9504,16 +8857,13 @@ vector-refuse-requires : (t : ℕ) → vector-lts.Need-refuse-requires (
   eat-reads.Learnt,
   state-reads.Asked,
   state-reads.Learnt,
-  pat-args-below t,
-  pat-args.Post,
+  args-below t,
+  args.Post,
   close-reads.Asked,
   close-reads.Learnt,
 ) (vector-at t) vector.Post
 vector-refuse-requires t c κs =
-    let falls = c .before .before .before .before .before .before .before .pre .0 in
-    let pre0 = c .before .before .before .before .before .before .before .pre .1 in
-    let if1 = c .if1 .taken in
-    search asks depth 8
+    tt
 
 vector-returns : (t : ℕ) → vector-lts.Need-returns (
   refuse-reads.Asked,
@@ -9524,8 +8874,8 @@ vector-returns : (t : ℕ) → vector-lts.Need-returns (
   eat-reads.Learnt,
   state-reads.Asked,
   state-reads.Learnt,
-  pat-args-below t,
-  pat-args.Post,
+  args-below t,
+  args.Post,
   close-reads.Asked,
   close-reads.Learnt,
 ) (vector-at t) vector.Post
@@ -9546,16 +8896,13 @@ vector-mark-requires : (t : ℕ) → vector-lts.Need-mark-requires (
   eat-reads.Learnt,
   state-reads.Asked,
   state-reads.Learnt,
-  pat-args-below t,
-  pat-args.Post,
+  args-below t,
+  args.Post,
   close-reads.Asked,
   close-reads.Learnt,
 ) (vector-at t) vector.Post
 vector-mark-requires t c κs =
-    let falls = c .before .before .before .before .before .before .before .pre .0 in
-    let pre0 = c .before .before .before .before .before .before .before .pre .1 in
-    let if1 = c .if1 .left in
-    search asks depth 8
+    tt
 
 vector-eat-requires : (t : ℕ) → vector-lts.Need-eat-requires (
   refuse-reads.Asked,
@@ -9566,8 +8913,8 @@ vector-eat-requires : (t : ℕ) → vector-lts.Need-eat-requires (
   eat-reads.Learnt,
   state-reads.Asked,
   state-reads.Learnt,
-  pat-args-below t,
-  pat-args.Post,
+  args-below t,
+  args.Post,
   close-reads.Asked,
   close-reads.Learnt,
 ) (vector-at t) vector.Post
@@ -9577,7 +8924,7 @@ vector-eat-requires t c κs =
     let if1 = c .before .before .before .if1 .left in
     let mark = c .before .before .mark .ensures in
     let mark-ok = ok-marks mark pre0 in
-    search asks depth 8
+    (mark-ok, omega arith)
 
 vector-state-requires : (t : ℕ) → vector-lts.Need-state-requires (
   refuse-reads.Asked,
@@ -9588,22 +8935,15 @@ vector-state-requires : (t : ℕ) → vector-lts.Need-state-requires (
   eat-reads.Learnt,
   state-reads.Asked,
   state-reads.Learnt,
-  pat-args-below t,
-  pat-args.Post,
+  args-below t,
+  args.Post,
   close-reads.Asked,
   close-reads.Learnt,
 ) (vector-at t) vector.Post
 vector-state-requires t c κs =
-    let falls = c .before .before .before .before .before .before .before .before .before .before .before .before .before .before .before .pre .0 in
-    let pre0 = c .before .before .before .before .before .before .before .before .before .before .before .before .before .before .before .pre .1 in
-    let if1 = c .before .before .before .before .before .before .before .before .if1 .left in
-    let mark = c .before .before .before .before .before .before .before .mark .ensures in
-    let mark-ok = ok-marks mark pre0 in
-    let eat = c .before .before .before .before .eat .ensures in
-    let eat-ok = eat .ok in
-    search asks depth 8
+    tt
 
-vector-sub-pat-args : (t : ℕ) → vector-lts.Need-sub-pat-args (
+vector-sub-args : (t : ℕ) → vector-lts.Need-sub-args (
   refuse-reads.Asked,
   refuse-reads.Learnt,
   mark-reads.Asked,
@@ -9612,18 +8952,18 @@ vector-sub-pat-args : (t : ℕ) → vector-lts.Need-sub-pat-args (
   eat-reads.Learnt,
   state-reads.Asked,
   state-reads.Learnt,
-  pat-args-below t,
-  pat-args.Post,
+  args-below t,
+  args.Post,
   close-reads.Asked,
   close-reads.Learnt,
 ) (vector-at t) vector.Post
-vector-sub-pat-args t c =
+vector-sub-args t c =
     let falls = c .before .before .before .before .before .before .before .before .before .before .before .before .before .before .before .before .before .before .pre .0 in
     let pre0 = c .before .before .before .before .before .before .before .before .before .before .before .before .before .before .before .before .before .before .pre .1 in
     let if1 = c .before .before .before .before .before .before .before .before .before .before .before .if1 .left in
     search needs
 
-vector-pat-args-requires : (t : ℕ) → vector-lts.Need-pat-args-requires (
+vector-args-requires : (t : ℕ) → vector-lts.Need-args-requires (
   refuse-reads.Asked,
   refuse-reads.Learnt,
   mark-reads.Asked,
@@ -9632,22 +8972,19 @@ vector-pat-args-requires : (t : ℕ) → vector-lts.Need-pat-args-requires (
   eat-reads.Learnt,
   state-reads.Asked,
   state-reads.Learnt,
-  pat-args-below t,
-  pat-args.Post,
+  args-below t,
+  args.Post,
   close-reads.Asked,
   close-reads.Learnt,
 ) (vector-at t) vector.Post
-vector-pat-args-requires t c κs =
+vector-args-requires t c κs =
     let falls = c .before .before .before .before .before .before .before .before .before .before .before .before .before .before .before .before .before .before .pre .0 in
-    let pre0 = c .before .before .before .before .before .before .before .before .before .before .before .before .before .before .before .before .before .before .pre .1 in
     let if1 = c .before .before .before .before .before .before .before .before .before .before .before .if1 .left in
-    let mark = c .before .before .before .before .before .before .before .before .before .before .mark .ensures in
-    let mark-ok = ok-marks mark pre0 in
     let eat = c .before .before .before .before .before .before .before .eat .ensures in
     let eat-ok = eat .ok in
     let state = c .before .before .state .ensures in
     let state-ok = ok-state state eat-ok in
-    search asks depth 8
+    (omega arith, (state-ok, omega arith))
 
 vector-close-requires : (t : ℕ) → vector-lts.Need-close-requires (
   refuse-reads.Asked,
@@ -9658,24 +8995,18 @@ vector-close-requires : (t : ℕ) → vector-lts.Need-close-requires (
   eat-reads.Learnt,
   state-reads.Asked,
   state-reads.Learnt,
-  pat-args-below t,
-  pat-args.Post,
+  args-below t,
+  args.Post,
   close-reads.Asked,
   close-reads.Learnt,
 ) (vector-at t) vector.Post
 vector-close-requires t c κs =
-    let falls = c .before .before .before .before .before .before .before .before .before .before .before .before .before .before .before .before .before .before .before .before .before .before .before .before .pre .0 in
     let pre0 = c .before .before .before .before .before .before .before .before .before .before .before .before .before .before .before .before .before .before .before .before .before .before .before .before .pre .1 in
-    let if1 = c .before .before .before .before .before .before .before .before .before .before .before .before .before .before .before .before .before .if1 .left in
     let mark = c .before .before .before .before .before .before .before .before .before .before .before .before .before .before .before .before .mark .ensures in
     let mark-ok = ok-marks mark pre0 in
-    let eat = c .before .before .before .before .before .before .before .before .before .before .before .before .before .eat .ensures in
-    let eat-ok = eat .ok in
-    let state = c .before .before .before .before .before .before .before .before .state .ensures in
-    let state-ok = ok-state state eat-ok in
-    let pat-args = c .before .before .before .before .before .pat-args .ensures in
-    let pat-args-ok = pat-args .ok in
-    search asks depth 8
+    let args2 = c .before .before .before .before .before .args2 .ensures in
+    let args2-ok = args2 .ok in
+    (args2-ok .logs, small-len mark-ok)
 
 vector-same-length : (t : ℕ) → vector-lts.Need-same-length (
   refuse-reads.Asked,
@@ -9686,13 +9017,13 @@ vector-same-length : (t : ℕ) → vector-lts.Need-same-length (
   eat-reads.Learnt,
   state-reads.Asked,
   state-reads.Learnt,
-  pat-args-below t,
-  pat-args.Post,
+  args-below t,
+  args.Post,
   close-reads.Asked,
   close-reads.Learnt,
 ) (vector-at t) vector.Post
 vector-same-length t c =
-    c .before .before .close .kept .0 ∙ c .before .before .before .before .before .before .before .before .pat-args .kept .1 .1 .1 .1 .0 ∙ c .before .before .before .before .before .before .before .before .before .before .before .before .before .before .before .before .eat .kept .1 .1 .1 .1 .0
+    c .before .before .close .kept .0 ∙ c .before .before .before .before .before .before .before .before .args2 .kept .1 .1 .1 .1 .0 ∙ c .before .before .before .before .before .before .before .before .before .before .before .before .before .before .before .before .eat .kept .1 .1 .1 .1 .0
 
 vector-same-length-2 : (t : ℕ) → vector-lts.Need-same-length-2 (
   refuse-reads.Asked,
@@ -9703,13 +9034,13 @@ vector-same-length-2 : (t : ℕ) → vector-lts.Need-same-length-2 (
   eat-reads.Learnt,
   state-reads.Asked,
   state-reads.Learnt,
-  pat-args-below t,
-  pat-args.Post,
+  args-below t,
+  args.Post,
   close-reads.Asked,
   close-reads.Learnt,
 ) (vector-at t) vector.Post
 vector-same-length-2 t c =
-    c .before .before .before .before .before .before .before .before .pat-args .kept .1 .1 .1 .1 .1 .0 ∙ c .before .before .before .before .before .before .before .before .before .before .before .before .before .before .before .before .eat .kept .1 .1 .1 .1 .1 .0
+    c .before .before .before .before .before .before .before .before .args2 .kept .1 .1 .1 .1 .1 .0 ∙ c .before .before .before .before .before .before .before .before .before .before .before .before .before .before .before .before .eat .kept .1 .1 .1 .1 .1 .0
 
 vector-returns-2 : (t : ℕ) → vector-lts.Need-returns-2 (
   refuse-reads.Asked,
@@ -9720,8 +9051,8 @@ vector-returns-2 : (t : ℕ) → vector-lts.Need-returns-2 (
   eat-reads.Learnt,
   state-reads.Asked,
   state-reads.Learnt,
-  pat-args-below t,
-  pat-args.Post,
+  args-below t,
+  args.Post,
   close-reads.Asked,
   close-reads.Learnt,
 ) (vector-at t) vector.Post
@@ -9733,41 +9064,41 @@ vector-returns-2 t c =
     let mark = c .before .before .before .before .before .before .before .before .before .before .before .before .before .before .before .before .before .before .before .mark .ensures in
     let eat = c .before .before .before .before .before .before .before .before .before .before .before .before .before .before .before .before .eat .ensures in
     let state = c .before .before .before .before .before .before .before .before .before .before .before .state .ensures in
-    let pat-args = c .before .before .before .before .before .before .before .before .pat-args .ensures in
+    let args2 = c .before .before .before .before .before .before .before .before .args2 .ensures in
     let close = c .before .before .close .ensures in
-    by-steps pre0 (λ b. s-mark if1 mark (s-by _ (settled state (runs-always eat)) (s-run pat-args (s-close close s-end))))
+    by-steps pre0 (λ b. s-mark if1 mark (s-by _ (settled state (runs-always eat)) (s-run args2 (s-close close s-end))))
 
-pub +arg-item+arg-turn+as-pat-tl+as-step+at-head+at-pat+at-pat-l-round+at-pat-must+at-rest+atom-pat+con-head+con-pat+con-turn+infix-pat+op-step+op-tail+or-step+pat-arg+pat-args+pat-must+pat-prec+pat-row+pat-rows+pat-step+pat-tail+row-item+row-turn+vector-spec :
+pub +arg-item+arg-turn+args+as-pat-tl+as-step+at-head+at-must+at-pat+at-round+atom+con+con-head+con-turn+inf-pat+op-step+op-tail+or-step+pat-arg+pat-must+pat-prec+rest+row+row-item+row-turn+rows+step+tail+vector-spec :
     {M : Type 1} → statement M
-+arg-item+arg-turn+as-pat-tl+as-step+at-head+at-pat+at-pat-l-round+at-pat-must+at-rest+atom-pat+con-head+con-pat+con-turn+infix-pat+op-step+op-tail+or-step+pat-arg+pat-args+pat-must+pat-prec+pat-row+pat-rows+pat-step+pat-tail+row-item+row-turn+vector-spec =
++arg-item+arg-turn+args+as-pat-tl+as-step+at-head+at-must+at-pat+at-round+atom+con+con-head+con-turn+inf-pat+op-step+op-tail+or-step+pat-arg+pat-must+pat-prec+rest+row+row-item+row-turn+rows+step+tail+vector-spec =
     close
     μ-arg-item
     μ-arg-turn
+    μ-args
     μ-as-pat-tl
     μ-as-step
     μ-at-head
+    μ-at-must
     μ-at-pat
-    μ-at-pat-l-round
-    μ-at-pat-must
-    μ-at-rest
-    μ-atom-pat
+    μ-at-round
+    μ-atom
+    μ-con
     μ-con-head
-    μ-con-pat
     μ-con-turn
-    μ-infix-pat
+    μ-inf-pat
     μ-op-step
     μ-op-tail
     μ-or-step
     μ-pat-arg
-    μ-pat-args
     μ-pat-must
     μ-pat-prec
-    μ-pat-row
-    μ-pat-rows
-    μ-pat-step
-    μ-pat-tail
+    μ-rest
+    μ-row
     μ-row-item
     μ-row-turn
+    μ-rows
+    μ-step
+    μ-tail
     μ-vector
     (λ t. arg-item-lts.spec (
       refuse-reads.Asked,
@@ -9829,6 +9160,21 @@ pub +arg-item+arg-turn+as-pat-tl+as-step+at-head+at-pat+at-pat-l-round+at-pat-mu
     (arg-turn-same-length-4 t)
     (arg-turn-same-length-5 t)
     (arg-turn-returns-3 t))
+    (λ t. args-lts.spec
+    (arg-turn-below t, arg-turn.Post)
+    (args-at t)
+    args.Post
+    args-Inv-loop
+    args-μ-loop
+    (args-loop-holds t)
+    (args-arg-turn-requires t)
+    (args-enum-known-turn t)
+    (args-loop-less t)
+    (args-loop-again t)
+    (args-enum-known-turn-2 t)
+    (args-same-length t)
+    (args-same-length-2 t)
+    (args-returns t))
     (λ t. as-pat-tl-lts.spec (
       at-reads.Asked,
       at-reads.Learnt,
@@ -9906,8 +9252,8 @@ pub +arg-item+arg-turn+as-pat-tl+as-step+at-head+at-pat+at-pat-l-round+at-pat-mu
       name-star-reads.Learnt,
       con-path-reads.Asked,
       con-path-reads.Learnt,
-      at-rest-below t,
-      at-rest.Post,
+      rest-below t,
+      rest.Post,
     )
     (at-head-at t)
     at-head.Post
@@ -9933,10 +9279,24 @@ pub +arg-item+arg-turn+as-pat-tl+as-step+at-head+at-pat+at-pat-l-round+at-pat-mu
     (at-head-same-length-5 t)
     (at-head-same-length-6 t)
     (at-head-returns-4 t)
-    (at-head-at-rest-requires t)
+    (at-head-rest-requires t)
     (at-head-same-length-7 t)
     (at-head-same-length-8 t)
     (at-head-returns-5 t))
+    (λ t. at-must-lts.spec
+    (at-pat-below t, at-pat.Post, report-reads.Asked, report-reads.Learnt)
+    (at-must-at t)
+    at-must.Post
+    (at-must-at-pat-requires t)
+    (at-must-enum-known-got t)
+    (at-must-enum-known-got-2 t)
+    (at-must-report-requires t)
+    (at-must-same-length t)
+    (at-must-same-length-2 t)
+    (at-must-returns t)
+    (at-must-same-length-3 t)
+    (at-must-same-length-4 t)
+    (at-must-returns-2 t))
     (λ t. at-pat-lts.spec (
       peek-reads.Asked,
       peek-reads.Learnt,
@@ -9961,7 +9321,7 @@ pub +arg-item+arg-turn+as-pat-tl+as-step+at-head+at-pat+at-pat-l-round+at-pat-mu
     (at-pat-same-length t)
     (at-pat-same-length-2 t)
     (at-pat-returns-3 t))
-    (λ t. at-pat-l-round-lts.spec (
+    (λ t. at-round-lts.spec (
       at-reads.Asked,
       at-reads.Learnt,
       bump-reads.Asked,
@@ -9970,101 +9330,73 @@ pub +arg-item+arg-turn+as-pat-tl+as-step+at-head+at-pat+at-pat-l-round+at-pat-mu
       close-reads.Learnt,
       pat-arg-below t,
       pat-arg.Post,
-      pat-args-below t,
-      pat-args.Post,
+      args-below t,
+      args.Post,
     )
-    (at-pat-l-round-at t)
-    at-pat-l-round.Post
-    (at-pat-l-round-at-requires t)
-    (at-pat-l-round-bump-requires t)
-    (at-pat-l-round-close-requires t)
-    (at-pat-l-round-same-length t)
-    (at-pat-l-round-returns t)
-    (at-pat-l-round-pat-arg-requires t)
-    (at-pat-l-round-enum-known-first t)
-    (at-pat-l-round-pat-args-requires t)
-    (at-pat-l-round-close-requires-2 t)
-    (at-pat-l-round-enum-known-first-2 t)
-    (at-pat-l-round-bump-requires-2 t)
-    (at-pat-l-round-close-requires-3 t)
-    (at-pat-l-round-same-length-2 t)
-    (at-pat-l-round-same-length-3 t)
-    (at-pat-l-round-returns-2 t)
-    (at-pat-l-round-same-length-4 t)
-    (at-pat-l-round-same-length-5 t)
-    (at-pat-l-round-returns-3 t))
-    (λ t. at-pat-must-lts.spec (
-      at-pat-below t,
-      at-pat.Post,
-      report-reads.Asked,
-      report-reads.Learnt,
+    (at-round-at t)
+    at-round.Post
+    (at-round-at-requires t)
+    (at-round-bump-requires t)
+    (at-round-close-requires t)
+    (at-round-same-length t)
+    (at-round-returns t)
+    (at-round-pat-arg-requires t)
+    (at-round-enum-known-first t)
+    (at-round-args-requires t)
+    (at-round-close-requires-2 t)
+    (at-round-enum-known-first-2 t)
+    (at-round-bump-requires-2 t)
+    (at-round-close-requires-3 t)
+    (at-round-same-length-2 t)
+    (at-round-same-length-3 t)
+    (at-round-returns-2 t)
+    (at-round-same-length-4 t)
+    (at-round-same-length-5 t)
+    (at-round-returns-3 t))
+    (λ t. atom-lts.spec
+    (at-pat-below t, at-pat.Post, tail-below t, tail.Post)
+    (atom-at t)
+    atom.Post
+    (atom-at-pat-requires t)
+    (atom-enum-known-got t)
+    (atom-enum-known-got-2 t)
+    (atom-tail-requires t)
+    (atom-same-length t)
+    (atom-same-length-2 t)
+    (atom-returns t)
+    (atom-same-length-3 t)
+    (atom-same-length-4 t)
+    (atom-returns-2 t))
+    (λ t. con-lts.spec (
+      con-head-below t,
+      con-head.Post,
+      tail-below t,
+      tail.Post,
+      op-tail-below t,
+      op-tail.Post,
     )
-    (at-pat-must-at t)
-    at-pat-must.Post
-    (at-pat-must-at-pat-requires t)
-    (at-pat-must-enum-known-got t)
-    (at-pat-must-enum-known-got-2 t)
-    (at-pat-must-report-requires t)
-    (at-pat-must-same-length t)
-    (at-pat-must-same-length-2 t)
-    (at-pat-must-returns t)
-    (at-pat-must-same-length-3 t)
-    (at-pat-must-same-length-4 t)
-    (at-pat-must-returns-2 t))
-    (λ t. at-rest-lts.spec (
-      bump-reads.Asked,
-      bump-reads.Learnt,
-      pat-rows-below t,
-      pat-rows.Post,
-      close-reads.Asked,
-      close-reads.Learnt,
-      at-pat-l-round-below t,
-      at-pat-l-round.Post,
-      pat-args-below t,
-      pat-args.Post,
-      vector-below t,
-      vector.Post,
-    )
-    (at-rest-at t)
-    at-rest.Post
-    (at-rest-bump-requires t)
-    (at-rest-pat-rows-requires t)
-    (at-rest-close-requires t)
-    (at-rest-same-length t)
-    (at-rest-same-length-2 t)
-    (at-rest-returns t)
-    (at-rest-bump-requires-2 t)
-    (at-rest-at-pat-l-round-requires t)
-    (at-rest-same-length-3 t)
-    (at-rest-same-length-4 t)
-    (at-rest-returns-2 t)
-    (at-rest-bump-requires-3 t)
-    (at-rest-pat-args-requires t)
-    (at-rest-close-requires-2 t)
-    (at-rest-same-length-5 t)
-    (at-rest-same-length-6 t)
-    (at-rest-returns-3 t)
-    (at-rest-bump-requires-4 t)
-    (at-rest-vector-requires t)
-    (at-rest-close-requires-3 t)
-    (at-rest-same-length-7 t)
-    (at-rest-same-length-8 t)
-    (at-rest-returns-4 t)
-    (at-rest-returns-5 t))
-    (λ t. atom-pat-lts.spec
-    (at-pat-below t, at-pat.Post, pat-tail-below t, pat-tail.Post)
-    (atom-pat-at t)
-    atom-pat.Post
-    (atom-pat-at-pat-requires t)
-    (atom-pat-enum-known-got t)
-    (atom-pat-enum-known-got-2 t)
-    (atom-pat-pat-tail-requires t)
-    (atom-pat-same-length t)
-    (atom-pat-same-length-2 t)
-    (atom-pat-returns t)
-    (atom-pat-same-length-3 t)
-    (atom-pat-same-length-4 t)
-    (atom-pat-returns-2 t))
+    (con-at t)
+    con.Post
+    (con-con-head-requires t)
+    (con-enum-known-head t)
+    (con-enum-known-head-2 t)
+    (con-tail-requires t)
+    (con-enum-known-head-3 t)
+    (con-op-tail-requires t)
+    (con-tail-requires-2 t)
+    (con-enum-known-head-4 t)
+    (con-same-length t)
+    (con-same-length-2 t)
+    (con-returns t)
+    (con-same-length-3 t)
+    (con-same-length-4 t)
+    (con-returns-2 t)
+    (con-same-length-5 t)
+    (con-same-length-6 t)
+    (con-returns-3 t)
+    (con-same-length-7 t)
+    (con-same-length-8 t)
+    (con-returns-4 t))
     (λ t. con-head-lts.spec (
       refuse-reads.Asked,
       refuse-reads.Learnt,
@@ -10090,36 +9422,6 @@ pub +arg-item+arg-turn+as-pat-tl+as-step+at-head+at-pat+at-pat-l-round+at-pat-mu
     (con-head-same-length t)
     (con-head-same-length-2 t)
     (con-head-returns-2 t))
-    (λ t. con-pat-lts.spec (
-      con-head-below t,
-      con-head.Post,
-      pat-tail-below t,
-      pat-tail.Post,
-      op-tail-below t,
-      op-tail.Post,
-    )
-    (con-pat-at t)
-    con-pat.Post
-    (con-pat-con-head-requires t)
-    (con-pat-enum-known-head t)
-    (con-pat-enum-known-head-2 t)
-    (con-pat-pat-tail-requires t)
-    (con-pat-enum-known-head-3 t)
-    (con-pat-op-tail-requires t)
-    (con-pat-pat-tail-requires-2 t)
-    (con-pat-enum-known-head-4 t)
-    (con-pat-same-length t)
-    (con-pat-same-length-2 t)
-    (con-pat-returns t)
-    (con-pat-same-length-3 t)
-    (con-pat-same-length-4 t)
-    (con-pat-returns-2 t)
-    (con-pat-same-length-5 t)
-    (con-pat-same-length-6 t)
-    (con-pat-returns-3 t)
-    (con-pat-same-length-7 t)
-    (con-pat-same-length-8 t)
-    (con-pat-returns-4 t))
     (λ t. con-turn-lts.spec (
       peek-reads.Asked,
       peek-reads.Learnt,
@@ -10129,8 +9431,8 @@ pub +arg-item+arg-turn+as-pat-tl+as-step+at-head+at-pat+at-pat-l-round+at-pat-mu
       name-star-reads.Learnt,
       fixity-at-reads.Asked,
       fixity-at-reads.Learnt,
-      at-pat-must-below t,
-      at-pat-must.Post,
+      at-must-below t,
+      at-must.Post,
       con-op-reads.Asked,
       con-op-reads.Learnt,
       arg-reads.Asked,
@@ -10147,7 +9449,7 @@ pub +arg-item+arg-turn+as-pat-tl+as-step+at-head+at-pat+at-pat-l-round+at-pat-mu
     (con-turn-name-star-requires t)
     (con-turn-fixity-at-requires t)
     (con-turn-enum-told-2 t)
-    (con-turn-at-pat-must-requires t)
+    (con-turn-at-must-requires t)
     (con-turn-close-requires-2 t)
     (con-turn-same-length-2 t)
     (con-turn-same-length-3 t)
@@ -10158,7 +9460,7 @@ pub +arg-item+arg-turn+as-pat-tl+as-step+at-head+at-pat+at-pat-l-round+at-pat-mu
     (con-turn-same-length-5 t)
     (con-turn-returns-3 t)
     (con-turn-arg-requires t)
-    (con-turn-at-pat-must-requires-2 t)
+    (con-turn-at-must-requires-2 t)
     (con-turn-close-requires-3 t)
     (con-turn-same-length-6 t)
     (con-turn-same-length-7 t)
@@ -10166,7 +9468,7 @@ pub +arg-item+arg-turn+as-pat-tl+as-step+at-head+at-pat+at-pat-l-round+at-pat-mu
     (con-turn-close-requires-4 t)
     (con-turn-same-length-8 t)
     (con-turn-returns-5 t))
-    (λ t. infix-pat-lts.spec (
+    (λ t. inf-pat-lts.spec (
       refuse-reads.Asked,
       refuse-reads.Learnt,
       mark-reads.Asked,
@@ -10178,18 +9480,18 @@ pub +arg-item+arg-turn+as-pat-tl+as-step+at-head+at-pat+at-pat-l-round+at-pat-mu
       close-reads.Asked,
       close-reads.Learnt,
     )
-    (infix-pat-at t)
-    infix-pat.Post
-    (infix-pat-refuse-requires t)
-    (infix-pat-returns t)
-    (infix-pat-mark-requires t)
-    (infix-pat-bump-requires t)
-    (infix-pat-sub-pat-must t)
-    (infix-pat-pat-must-requires t)
-    (infix-pat-close-requires t)
-    (infix-pat-same-length t)
-    (infix-pat-same-length-2 t)
-    (infix-pat-returns-2 t))
+    (inf-pat-at t)
+    inf-pat.Post
+    (inf-pat-refuse-requires t)
+    (inf-pat-returns t)
+    (inf-pat-mark-requires t)
+    (inf-pat-bump-requires t)
+    (inf-pat-sub-pat-must t)
+    (inf-pat-pat-must-requires t)
+    (inf-pat-close-requires t)
+    (inf-pat-same-length t)
+    (inf-pat-same-length-2 t)
+    (inf-pat-returns-2 t))
     (λ t. op-step-lts.spec (
       fixity-at-reads.Asked,
       fixity-at-reads.Learnt,
@@ -10199,8 +9501,8 @@ pub +arg-item+arg-turn+as-pat-tl+as-step+at-head+at-pat+at-pat-l-round+at-pat-mu
       report-reads.Learnt,
       should-break-pat-reads.Asked,
       should-break-pat-reads.Learnt,
-      infix-pat-below t,
-      infix-pat.Post,
+      inf-pat-below t,
+      inf-pat.Post,
     )
     (op-step-at t)
     op-step.Post
@@ -10212,7 +9514,7 @@ pub +arg-item+arg-turn+as-pat-tl+as-step+at-head+at-pat+at-pat-l-round+at-pat-mu
     (op-step-should-break-pat-requires t)
     (op-step-enum-known-ends t)
     (op-step-enum-known-ends-2 t)
-    (op-step-infix-pat-requires t)
+    (op-step-inf-pat-requires t)
     (op-step-same-length t)
     (op-step-returns t)
     (op-step-same-length-2 t)
@@ -10224,15 +9526,15 @@ pub +arg-item+arg-turn+as-pat-tl+as-step+at-head+at-pat+at-pat-l-round+at-pat-mu
     (λ t. op-tail-lts.spec (
       fixity-at-reads.Asked,
       fixity-at-reads.Learnt,
-      infix-pat-below t,
-      infix-pat.Post,
+      inf-pat-below t,
+      inf-pat.Post,
     )
     (op-tail-at t)
     op-tail.Post
     (op-tail-fixity-at-requires t)
     (op-tail-enum-told t)
     (op-tail-enum-known-fix t)
-    (op-tail-infix-pat-requires t)
+    (op-tail-inf-pat-requires t)
     (op-tail-returns t)
     (op-tail-same-length t)
     (op-tail-same-length-2 t)
@@ -10298,21 +9600,6 @@ pub +arg-item+arg-turn+as-pat-tl+as-step+at-head+at-pat+at-pat-l-round+at-pat-mu
     (pat-arg-same-length-3 t)
     (pat-arg-same-length-4 t)
     (pat-arg-returns-3 t))
-    (λ t. pat-args-lts.spec
-    (arg-turn-below t, arg-turn.Post)
-    (pat-args-at t)
-    pat-args.Post
-    pat-args-Inv-loop
-    pat-args-μ-loop
-    (pat-args-loop-holds t)
-    (pat-args-arg-turn-requires t)
-    (pat-args-enum-known-turn t)
-    (pat-args-loop-less t)
-    (pat-args-loop-again t)
-    (pat-args-enum-known-turn-2 t)
-    (pat-args-same-length t)
-    (pat-args-same-length-2 t)
-    (pat-args-returns t))
     (λ t. pat-must-lts.spec (
       pat-prec-below t,
       pat-prec.Post,
@@ -10334,12 +9621,12 @@ pub +arg-item+arg-turn+as-pat-tl+as-step+at-head+at-pat+at-pat-l-round+at-pat-mu
     (λ t. pat-prec-lts.spec (
       peek-reads.Asked,
       peek-reads.Learnt,
-      atom-pat-below t,
-      atom-pat.Post,
+      atom-below t,
+      atom.Post,
       name-star-reads.Asked,
       name-star-reads.Learnt,
-      con-pat-below t,
-      con-pat.Post,
+      con-below t,
+      con.Post,
       peek-n-reads.Asked,
       peek-n-reads.Learnt,
     )
@@ -10348,36 +9635,76 @@ pub +arg-item+arg-turn+as-pat-tl+as-step+at-head+at-pat+at-pat-l-round+at-pat-mu
     (pat-prec-peek-requires t)
     (pat-prec-enum-known-k t)
     (pat-prec-enum-told t)
-    (pat-prec-atom-pat-requires t)
+    (pat-prec-atom-requires t)
     (pat-prec-same-length t)
     (pat-prec-same-length-2 t)
     (pat-prec-returns t)
     (pat-prec-name-star-requires t)
-    (pat-prec-con-pat-requires t)
+    (pat-prec-con-requires t)
     (pat-prec-same-length-3 t)
     (pat-prec-same-length-4 t)
     (pat-prec-returns-2 t)
     (pat-prec-peek-n-requires t)
     (pat-prec-enum-known-k1 t)
     (pat-prec-enum-told-2 t)
-    (pat-prec-atom-pat-requires-2 t)
+    (pat-prec-atom-requires-2 t)
     (pat-prec-same-length-5 t)
     (pat-prec-same-length-6 t)
     (pat-prec-returns-3 t)
     (pat-prec-name-star-requires-2 t)
-    (pat-prec-con-pat-requires-2 t)
+    (pat-prec-con-requires-2 t)
     (pat-prec-same-length-7 t)
     (pat-prec-same-length-8 t)
     (pat-prec-returns-4 t)
-    (pat-prec-atom-pat-requires-3 t)
+    (pat-prec-atom-requires-3 t)
     (pat-prec-same-length-9 t)
     (pat-prec-same-length-10 t)
     (pat-prec-returns-5 t)
-    (pat-prec-atom-pat-requires-4 t)
+    (pat-prec-atom-requires-4 t)
     (pat-prec-same-length-11 t)
     (pat-prec-same-length-12 t)
     (pat-prec-returns-6 t))
-    (λ t. pat-row-lts.spec (
+    (λ t. rest-lts.spec (
+      bump-reads.Asked,
+      bump-reads.Learnt,
+      rows-below t,
+      rows.Post,
+      close-reads.Asked,
+      close-reads.Learnt,
+      at-round-below t,
+      at-round.Post,
+      args-below t,
+      args.Post,
+      vector-below t,
+      vector.Post,
+    )
+    (rest-at t)
+    rest.Post
+    (rest-bump-requires t)
+    (rest-rows-requires t)
+    (rest-close-requires t)
+    (rest-same-length t)
+    (rest-same-length-2 t)
+    (rest-returns t)
+    (rest-bump-requires-2 t)
+    (rest-at-round-requires t)
+    (rest-same-length-3 t)
+    (rest-same-length-4 t)
+    (rest-returns-2 t)
+    (rest-bump-requires-3 t)
+    (rest-args-requires t)
+    (rest-close-requires-2 t)
+    (rest-same-length-5 t)
+    (rest-same-length-6 t)
+    (rest-returns-3 t)
+    (rest-bump-requires-4 t)
+    (rest-vector-requires t)
+    (rest-close-requires-3 t)
+    (rest-same-length-7 t)
+    (rest-same-length-8 t)
+    (rest-returns-4 t)
+    (rest-returns-5 t))
+    (λ t. row-lts.spec (
       refuse-reads.Asked,
       refuse-reads.Learnt,
       mark-reads.Asked,
@@ -10405,116 +9732,45 @@ pub +arg-item+arg-turn+as-pat-tl+as-step+at-head+at-pat+at-pat-l-round+at-pat-mu
       as-pat-tl-below t,
       as-pat-tl.Post,
     )
-    (pat-row-at t)
-    pat-row.Post
-    (pat-row-refuse-requires t)
-    (pat-row-returns t)
-    (pat-row-mark-requires t)
-    (pat-row-at-requires t)
-    (pat-row-bump-requires t)
-    (pat-row-close-requires t)
-    (pat-row-same-length t)
-    (pat-row-returns-2 t)
-    (pat-row-at-n-requires t)
-    (pat-row-lab-requires t)
-    (pat-row-eat-requires t)
-    (pat-row-state-requires t)
-    (pat-row-sub-pat-must t)
-    (pat-row-pat-must-requires t)
-    (pat-row-close-requires-2 t)
-    (pat-row-same-length-2 t)
-    (pat-row-same-length-3 t)
-    (pat-row-returns-3 t)
-    (pat-row-eat-name-star-requires t)
-    (pat-row-state-requires-2 t)
-    (pat-row-sub-ty-annotation t)
-    (pat-row-ty-annotation-requires t)
-    (pat-row-state-requires-3 t)
-    (pat-row-sub-as-pat-tl t)
-    (pat-row-as-pat-tl-requires t)
-    (pat-row-state-requires-4 t)
-    (pat-row-close-requires-3 t)
-    (pat-row-same-length-4 t)
-    (pat-row-same-length-5 t)
-    (pat-row-returns-4 t))
-    (λ t. pat-rows-lts.spec
-    (row-turn-below t, row-turn.Post)
-    (pat-rows-at t)
-    pat-rows.Post
-    pat-rows-Inv-loop
-    pat-rows-μ-loop
-    (pat-rows-loop-holds t)
-    (pat-rows-row-turn-requires t)
-    (pat-rows-enum-known-turn t)
-    (pat-rows-loop-less t)
-    (pat-rows-loop-again t)
-    (pat-rows-enum-known-turn-2 t)
-    (pat-rows-same-length t)
-    (pat-rows-same-length-2 t)
-    (pat-rows-returns t))
-    (λ t. pat-step-lts.spec (
-      peek-reads.Asked,
-      peek-reads.Learnt,
-      name-star-reads.Asked,
-      name-star-reads.Learnt,
-      op-step-below t,
-      op-step.Post,
-      or-step-below t,
-      or-step.Post,
-      ascription-reads.Asked,
-      ascription-reads.Learnt,
-      typed-step-reads.Asked,
-      typed-step-reads.Learnt,
-      as-step-below t,
-      as-step.Post,
-    )
-    (pat-step-at t)
-    pat-step.Post
-    (pat-step-peek-requires t)
-    (pat-step-enum-known-k t)
-    (pat-step-enum-told t)
-    (pat-step-returns t)
-    (pat-step-name-star-requires t)
-    (pat-step-op-step-requires t)
-    (pat-step-same-length t)
-    (pat-step-same-length-2 t)
-    (pat-step-returns-2 t)
-    (pat-step-or-step-requires t)
-    (pat-step-same-length-3 t)
-    (pat-step-same-length-4 t)
-    (pat-step-returns-3 t)
-    (pat-step-ascription-requires t)
-    (pat-step-typed-step-requires t)
-    (pat-step-same-length-5 t)
-    (pat-step-same-length-6 t)
-    (pat-step-returns-4 t)
-    (pat-step-as-step-requires t)
-    (pat-step-same-length-7 t)
-    (pat-step-same-length-8 t)
-    (pat-step-returns-5 t)
-    (pat-step-returns-6 t))
-    (λ t. pat-tail-lts.spec
-    (pat-step-below t, pat-step.Post)
-    (pat-tail-at t)
-    pat-tail.Post
-    pat-tail-Inv-loop
-    pat-tail-μ-loop
-    (pat-tail-loop-holds t)
-    (pat-tail-pat-step-requires t)
-    (pat-tail-enum-known-step t)
-    (pat-tail-loop-less t)
-    (pat-tail-loop-again t)
-    (pat-tail-enum-known-step-2 t)
-    (pat-tail-same-length t)
-    (pat-tail-same-length-2 t)
-    (pat-tail-returns t))
+    (row-at t)
+    row.Post
+    (row-refuse-requires t)
+    (row-returns t)
+    (row-mark-requires t)
+    (row-at-requires t)
+    (row-bump-requires t)
+    (row-close-requires t)
+    (row-same-length t)
+    (row-returns-2 t)
+    (row-at-n-requires t)
+    (row-lab-requires t)
+    (row-eat-requires t)
+    (row-state-requires t)
+    (row-sub-pat-must t)
+    (row-pat-must-requires t)
+    (row-close-requires-2 t)
+    (row-same-length-2 t)
+    (row-same-length-3 t)
+    (row-returns-3 t)
+    (row-eat-name-star-requires t)
+    (row-state-requires-2 t)
+    (row-sub-ty-annotation t)
+    (row-ty-annotation-requires t)
+    (row-state-requires-3 t)
+    (row-sub-as-pat-tl t)
+    (row-as-pat-tl-requires t)
+    (row-state-requires-4 t)
+    (row-close-requires-3 t)
+    (row-same-length-4 t)
+    (row-same-length-5 t)
+    (row-returns-4 t))
     (λ t. row-item-lts.spec (
       refuse-reads.Asked,
       refuse-reads.Learnt,
       mark-reads.Asked,
       mark-reads.Learnt,
-      pat-row-below t,
-      pat-row.Post,
+      row-below t,
+      row.Post,
       at-reads.Asked,
       at-reads.Learnt,
       bump-reads.Asked,
@@ -10527,8 +9783,8 @@ pub +arg-item+arg-turn+as-pat-tl+as-step+at-head+at-pat+at-pat-l-round+at-pat-mu
     (row-item-refuse-requires t)
     (row-item-returns t)
     (row-item-mark-requires t)
-    (row-item-sub-pat-row t)
-    (row-item-pat-row-requires t)
+    (row-item-sub-row t)
+    (row-item-row-requires t)
     (row-item-at-requires t)
     (row-item-bump-requires t)
     (row-item-close-requires t)
@@ -10568,6 +9824,77 @@ pub +arg-item+arg-turn+as-pat-tl+as-step+at-head+at-pat+at-pat-l-round+at-pat-mu
     (row-turn-same-length-4 t)
     (row-turn-same-length-5 t)
     (row-turn-returns-3 t))
+    (λ t. rows-lts.spec
+    (row-turn-below t, row-turn.Post)
+    (rows-at t)
+    rows.Post
+    rows-Inv-loop
+    rows-μ-loop
+    (rows-loop-holds t)
+    (rows-row-turn-requires t)
+    (rows-enum-known-turn t)
+    (rows-loop-less t)
+    (rows-loop-again t)
+    (rows-enum-known-turn-2 t)
+    (rows-same-length t)
+    (rows-same-length-2 t)
+    (rows-returns t))
+    (λ t. step-lts.spec (
+      peek-reads.Asked,
+      peek-reads.Learnt,
+      name-star-reads.Asked,
+      name-star-reads.Learnt,
+      op-step-below t,
+      op-step.Post,
+      or-step-below t,
+      or-step.Post,
+      ascription-reads.Asked,
+      ascription-reads.Learnt,
+      typed-step-reads.Asked,
+      typed-step-reads.Learnt,
+      as-step-below t,
+      as-step.Post,
+    )
+    (step-at t)
+    step.Post
+    (step-peek-requires t)
+    (step-enum-known-k t)
+    (step-enum-told t)
+    (step-returns t)
+    (step-name-star-requires t)
+    (step-op-step-requires t)
+    (step-same-length t)
+    (step-same-length-2 t)
+    (step-returns-2 t)
+    (step-or-step-requires t)
+    (step-same-length-3 t)
+    (step-same-length-4 t)
+    (step-returns-3 t)
+    (step-ascription-requires t)
+    (step-typed-step-requires t)
+    (step-same-length-5 t)
+    (step-same-length-6 t)
+    (step-returns-4 t)
+    (step-as-step-requires t)
+    (step-same-length-7 t)
+    (step-same-length-8 t)
+    (step-returns-5 t)
+    (step-returns-6 t))
+    (λ t. tail-lts.spec
+    (step-below t, step.Post)
+    (tail-at t)
+    tail.Post
+    tail-Inv-loop
+    tail-μ-loop
+    (tail-loop-holds t)
+    (tail-step-requires t)
+    (tail-enum-known-turn t)
+    (tail-loop-less t)
+    (tail-loop-again t)
+    (tail-enum-known-turn-2 t)
+    (tail-same-length t)
+    (tail-same-length-2 t)
+    (tail-returns t))
     λ t. vector-lts.spec (
       refuse-reads.Asked,
       refuse-reads.Learnt,
@@ -10577,8 +9904,8 @@ pub +arg-item+arg-turn+as-pat-tl+as-step+at-head+at-pat+at-pat-l-round+at-pat-mu
       eat-reads.Learnt,
       state-reads.Asked,
       state-reads.Learnt,
-      pat-args-below t,
-      pat-args.Post,
+      args-below t,
+      args.Post,
       close-reads.Asked,
       close-reads.Learnt,
     )
@@ -10589,8 +9916,8 @@ pub +arg-item+arg-turn+as-pat-tl+as-step+at-head+at-pat+at-pat-l-round+at-pat-mu
     (vector-mark-requires t)
     (vector-eat-requires t)
     (vector-state-requires t)
-    (vector-sub-pat-args t)
-    (vector-pat-args-requires t)
+    (vector-sub-args t)
+    (vector-args-requires t)
     (vector-close-requires t)
     (vector-same-length t)
     (vector-same-length-2 t)

@@ -1,0 +1,413 @@
+// The parts of dec.rs that hold no expression, structure or signature: `open`, sharing, `where`, and the choice among the others.
+use dat_parts::datatype;
+use dat_parts::ty_binds;
+use fix_parts::infix_dec;
+use fix_parts::infixr_dec;
+use fix_parts::nonfix_dec;
+use import_parts::es_import;
+use parser::Found;
+use parser::Look;
+use parser::State;
+use parser::TOO_DEEP;
+use parser::at;
+use parser::bump;
+use parser::close;
+use parser::kind;
+use parser::peek;
+use parser::util::bump_if;
+use parser::util::path;
+use parser::util::path_must;
+use parser::util::want;
+use ty::ty_must;
+use ty::ty_var_seq;
+ghost use mathlib.Core.Path.{_≡_};
+ghost use mathlib.Core.Bool.{true};
+ghost use Prim.Native.Nat.{suc, _-_, _<_};
+ghost use Rattle.grammar.specs.Prog.{Prog};
+ghost use Rattle.grammar.specs.Util as util;
+ghost use Rattle.grammar.specs.Dec as decl;
+ghost use Rattle.grammar.specs.SyntaxKind as SK;
+ghost use Rattle.parser.specs.View.{Sound, mem, outState, outVal};
+ghost use Rattle.parser.specs.Runs.{Runs, RunsIn};
+
+// The least type: `ty` of ty.rs.
+const ARROW: u8 = 0;
+
+// The paths behind `open`.
+// advances: path-advances true
+fn opens(
+    text: &[u8],
+    toks: &[u8],
+    env: &[u8],
+    table: &[u8],
+    scratch: &mut [u8],
+    finds: &mut [u8],
+    left: usize,
+    b: usize,
+    s: State,
+) -> State
+    requires { ⌜ Sound (mem (now text) (now toks) (now env) (now table) (now scratch) (now finds) s) ⌝ }
+    ensures { λ r. ⌜ RunsIn left b (Prog.loop (util.path {g = true})) (mem (now (text .entry)) (now (toks .entry)) (now (env .entry)) (now (table .entry)) (now (scratch .entry)) (now (finds .entry)) s) (mem (now (text .entry)) (now (toks .entry)) (now (env .entry)) (now (table .entry)) (now (scratch .exit)) (now (finds .exit)) r) 0 ⌝ }
+{
+    let mut s1 = s;
+    loop {
+        let turn = path(text, toks, env, table, scratch, finds, left, s1);
+        match turn {
+            Found::At(s2) => s1 = s2,
+            Found::Missing(s2) => return s2,
+        }
+    }
+}
+
+// The keywords of types.
+fn type_kw(k: u8) -> bool
+    ensures { λ r. ⌜ r ≡ decl.isTypeKw (suc k) ⌝ }
+{
+    if k == kind::TYPE_KW {
+        return true;
+    }
+    k == kind::EQTYPE_KW
+}
+
+// The declarations that change fixities, and imports.
+fn fix_dec(
+    text: &[u8],
+    toks: &[u8],
+    env: &[u8],
+    table: &mut [u8],
+    scratch: &mut [u8],
+    finds: &mut [u8],
+    left: usize,
+    k: u8,
+    b: usize,
+    s: State,
+) -> Found
+    requires { ⌜ Sound (mem (now text) (now toks) (now env) (now table) (now scratch) (now finds) s) × (b < 4294967296) ⌝ }
+    ensures { λ r. ⌜ RunsIn left b (decl.fixDec (suc k)) (mem (now (text .entry)) (now (toks .entry)) (now (env .entry)) (now (table .entry)) (now (scratch .entry)) (now (finds .entry)) s) (mem (now (text .entry)) (now (toks .entry)) (now (env .entry)) (now (table .exit)) (now (scratch .exit)) (now (finds .exit)) (outState r)) (outVal r) ⌝ }
+{
+    if k == kind::INFIX_KW {
+        return infix_dec(text, toks, env, table, scratch, finds, left, b, s);
+    }
+    if k == kind::INFIXR_KW {
+        return infixr_dec(text, toks, env, table, scratch, finds, left, b, s);
+    }
+    if k == kind::NONFIX_KW {
+        return nonfix_dec(text, toks, env, table, scratch, finds, left, b, s);
+    }
+    if k == kind::ESIMPORT_KW {
+        let s1 = es_import(text, toks, env, table, scratch, finds, left, s);
+        return Found::At(close(scratch, kind::ES_IMPORT_DEC, b, s1));
+    }
+    Found::Missing(s)
+}
+
+// The declarations that hold no expression, structure or signature, the kind k being next.
+// unfolds: util.manySep
+pub fn leaf_dec(
+    text: &[u8],
+    toks: &[u8],
+    env: &[u8],
+    table: &mut [u8],
+    scratch: &mut [u8],
+    finds: &mut [u8],
+    left: usize,
+    k: u8,
+    b: usize,
+    s: State,
+) -> Found
+    requires { ⌜ Sound (mem (now text) (now toks) (now env) (now table) (now scratch) (now finds) s) × (b < 4294967296) ⌝ }
+    ensures { λ r. ⌜ RunsIn left b (decl.leafDec (suc k)) (mem (now (text .entry)) (now (toks .entry)) (now (env .entry)) (now (table .entry)) (now (scratch .entry)) (now (finds .entry)) s) (mem (now (text .entry)) (now (toks .entry)) (now (env .entry)) (now (table .exit)) (now (scratch .exit)) (now (finds .exit)) (outState r)) (outVal r) ⌝ }
+{
+    if k == kind::DOT_DOT_DOT {
+        let s1 = bump(toks, scratch, s);
+        return Found::At(close(scratch, kind::HOLE_DEC, b, s1));
+    }
+    if type_kw(k) {
+        let s1 = bump(toks, scratch, s);
+        let s2 = ty_binds(text, toks, env, table, scratch, finds, left, b, s1);
+        return Found::At(close(scratch, kind::TY_DEC, b, s2));
+    }
+    if k == kind::DATATYPE_KW {
+        return datatype(text, toks, env, table, scratch, finds, left, b, s);
+    }
+    if k == kind::OPEN_KW {
+        let s1 = bump(toks, scratch, s);
+        let s2 = opens(text, toks, env, table, scratch, finds, left, b, s1);
+        return Found::At(close(scratch, kind::OPEN_DEC, b, s2));
+    }
+    fix_dec(text, toks, env, table, scratch, finds, left, k, b, s)
+}
+
+// `val` or `fun`, and the type variables behind it.
+pub fn bump_vars(
+    text: &[u8],
+    toks: &[u8],
+    env: &[u8],
+    table: &[u8],
+    scratch: &mut [u8],
+    finds: &mut [u8],
+    left: usize,
+    s: State,
+) -> State
+    requires { ⌜ Sound (mem (now text) (now toks) (now env) (now table) (now scratch) (now finds) s) ⌝ }
+    ensures { λ r. ⌜ Runs left decl.bumpVars (mem (now (text .entry)) (now (toks .entry)) (now (env .entry)) (now (table .entry)) (now (scratch .entry)) (now (finds .entry)) s) (mem (now (text .entry)) (now (toks .entry)) (now (env .entry)) (now (table .entry)) (now (scratch .exit)) (now (finds .exit)) r) 0 ⌝ }
+{
+    let s1 = bump(toks, scratch, s);
+    let vars = ty_var_seq(text, toks, env, table, scratch, finds, left, s1);
+    vars.state()
+}
+
+// Paths, between `=`.
+// unfolds: util.manyTurn
+// advances: many-turn-advances true SK.Eq SK.PathEq util.pathMust
+fn path_eqs(
+    text: &[u8],
+    toks: &[u8],
+    env: &[u8],
+    table: &[u8],
+    scratch: &mut [u8],
+    finds: &mut [u8],
+    left: usize,
+    b: usize,
+    s: State,
+) -> State
+    requires { ⌜ Sound (mem (now text) (now toks) (now env) (now table) (now scratch) (now finds) s) ⌝ }
+    ensures { λ r. ⌜ RunsIn left b (Prog.loop (util.manyTurn {g = true} SK.Eq SK.PathEq (util.pathMust {g = true}))) (mem (now (text .entry)) (now (toks .entry)) (now (env .entry)) (now (table .entry)) (now (scratch .entry)) (now (finds .entry)) s) (mem (now (text .entry)) (now (toks .entry)) (now (env .entry)) (now (table .entry)) (now (scratch .exit)) (now (finds .exit)) r) 0 ⌝ }
+{
+    let mut s1 = s;
+    loop {
+        if left == 0 {
+            return s1.refuse(TOO_DEEP);
+        }
+        let s2 = s1.mark();
+        let c = s2.len;
+        let item = path_must(text, toks, env, table, scratch, finds, left - 1, s2);
+        match item {
+            Found::Missing(s3) => return s3,
+            Found::At(s3) => {
+                if at(toks, kind::EQ, s3) {
+                    let s4 = bump(toks, scratch, s3);
+                    s1 = close(scratch, kind::PATH_EQ, c, s4);
+                    continue;
+                }
+                return close(scratch, kind::PATH_EQ, c, s3);
+            }
+        }
+    }
+}
+
+// A sharing tail, where one is next.
+// unfolds: util.manySep
+fn sharing_turn(
+    text: &[u8],
+    toks: &[u8],
+    env: &[u8],
+    table: &[u8],
+    scratch: &mut [u8],
+    finds: &mut [u8],
+    left: usize,
+    s: State,
+) -> Found
+    requires { ⌜ Sound (mem (now text) (now toks) (now env) (now table) (now scratch) (now finds) s) ⌝ }
+    ensures { λ r. ⌜ Runs left (decl.sharingTurn {g = true}) (mem (now (text .entry)) (now (toks .entry)) (now (env .entry)) (now (table .entry)) (now (scratch .entry)) (now (finds .entry)) s) (mem (now (text .entry)) (now (toks .entry)) (now (env .entry)) (now (table .entry)) (now (scratch .exit)) (now (finds .exit)) (outState r)) (outVal r) ⌝ }
+{
+    if at(toks, kind::SHARING_KW, s) {
+        if left == 0 {
+            return Found::At(s.refuse(TOO_DEEP));
+        }
+        let s1 = s.mark();
+        let b = s1.len;
+        let s2 = bump(toks, scratch, s1);
+        let s3 = bump_if(text, toks, env, table, scratch, finds, kind::TYPE_KW, s2);
+        let s4 = path_eqs(text, toks, env, table, scratch, finds, left - 1, b, s3);
+        return Found::At(close(scratch, kind::SHARING_TAIL, b, s4));
+    }
+    Found::Missing(s)
+}
+
+// Sharing tails.
+// advances: sharing-advances true
+fn sharing_tails(
+    text: &[u8],
+    toks: &[u8],
+    env: &[u8],
+    table: &[u8],
+    scratch: &mut [u8],
+    finds: &mut [u8],
+    left: usize,
+    b: usize,
+    s: State,
+) -> State
+    requires { ⌜ Sound (mem (now text) (now toks) (now env) (now table) (now scratch) (now finds) s) ⌝ }
+    ensures { λ r. ⌜ RunsIn left b (Prog.loop (decl.sharingTurn {g = true})) (mem (now (text .entry)) (now (toks .entry)) (now (env .entry)) (now (table .entry)) (now (scratch .entry)) (now (finds .entry)) s) (mem (now (text .entry)) (now (toks .entry)) (now (env .entry)) (now (table .entry)) (now (scratch .exit)) (now (finds .exit)) r) 0 ⌝ }
+{
+    let mut s1 = s;
+    loop {
+        let turn = sharing_turn(text, toks, env, table, scratch, finds, left, s1);
+        match turn {
+            Found::At(s2) => s1 = s2,
+            Found::Missing(s2) => return s2,
+        }
+    }
+}
+
+// The sharing tails, where one is next.
+pub fn sharings(
+    text: &[u8],
+    toks: &[u8],
+    env: &[u8],
+    table: &[u8],
+    scratch: &mut [u8],
+    finds: &mut [u8],
+    left: usize,
+    b: usize,
+    s: State,
+) -> Found
+    requires { ⌜ Sound (mem (now text) (now toks) (now env) (now table) (now scratch) (now finds) s) ⌝ }
+    ensures { λ r. ⌜ RunsIn left b (decl.sharings {g = true}) (mem (now (text .entry)) (now (toks .entry)) (now (env .entry)) (now (table .entry)) (now (scratch .entry)) (now (finds .entry)) s) (mem (now (text .entry)) (now (toks .entry)) (now (env .entry)) (now (table .entry)) (now (scratch .exit)) (now (finds .exit)) (outState r)) (outVal r) ⌝ }
+{
+    if at(toks, kind::SHARING_KW, s) {
+        let s1 = sharing_tails(text, toks, env, table, scratch, finds, left, b, s);
+        return Found::At(s1);
+    }
+    Found::Missing(s)
+}
+
+// The end of a functor application.
+pub fn app_end(
+    text: &[u8],
+    toks: &[u8],
+    env: &[u8],
+    table: &[u8],
+    scratch: &mut [u8],
+    finds: &mut [u8],
+    left: usize,
+    b: usize,
+    s: State,
+) -> Found
+    requires { ⌜ Sound (mem (now text) (now toks) (now env) (now table) (now scratch) (now finds) s) × (b < 4294967296) ⌝ }
+    ensures { λ r. ⌜ RunsIn left b decl.appEnd (mem (now (text .entry)) (now (toks .entry)) (now (env .entry)) (now (table .entry)) (now (scratch .entry)) (now (finds .entry)) s) (mem (now (text .entry)) (now (toks .entry)) (now (env .entry)) (now (table .entry)) (now (scratch .exit)) (now (finds .exit)) (outState r)) (outVal r) ⌝ }
+{
+    let s1 = want(text, toks, env, table, scratch, finds, kind::RROUND, s);
+    Found::At(close(scratch, kind::APP_STR_EXP, b, s1))
+}
+
+// A structure that is a path.
+pub fn str_path(
+    text: &[u8],
+    toks: &[u8],
+    env: &[u8],
+    table: &[u8],
+    scratch: &mut [u8],
+    finds: &mut [u8],
+    left: usize,
+    b: usize,
+    s: State,
+) -> Found
+    requires { ⌜ Sound (mem (now text) (now toks) (now env) (now table) (now scratch) (now finds) s) × (b < 4294967296) ⌝ }
+    ensures { λ r. ⌜ RunsIn left b decl.strPath (mem (now (text .entry)) (now (toks .entry)) (now (env .entry)) (now (table .entry)) (now (scratch .entry)) (now (finds .entry)) s) (mem (now (text .entry)) (now (toks .entry)) (now (env .entry)) (now (table .entry)) (now (scratch .exit)) (now (finds .exit)) (outState r)) (outVal r) ⌝ }
+{
+    let got = path_must(text, toks, env, table, scratch, finds, left, s);
+    let s1 = got.state();
+    Found::At(close(scratch, kind::PATH_STR_EXP, b, s1))
+}
+
+// What is behind `where`, to the end of its node.
+fn where_tail(
+    text: &[u8],
+    toks: &[u8],
+    env: &[u8],
+    table: &[u8],
+    scratch: &mut [u8],
+    finds: &mut [u8],
+    left: usize,
+    b: usize,
+    s: State,
+) -> State
+    requires { ⌜ Sound (mem (now text) (now toks) (now env) (now table) (now scratch) (now finds) s) × (b < 4294967296) ⌝ }
+    ensures { λ r. ⌜ RunsIn left b decl.whereTail (mem (now (text .entry)) (now (toks .entry)) (now (env .entry)) (now (table .entry)) (now (scratch .entry)) (now (finds .entry)) s) (mem (now (text .entry)) (now (toks .entry)) (now (env .entry)) (now (table .entry)) (now (scratch .exit)) (now (finds .exit)) r) 0 ⌝ }
+{
+    if at(toks, kind::TYPE_KW, s) {
+        let s1 = bump(toks, scratch, s);
+        let vars = ty_var_seq(text, toks, env, table, scratch, finds, left, s1);
+        let s2 = vars.state();
+        let name = path_must(text, toks, env, table, scratch, finds, left, s2);
+        let s3 = name.state();
+        let s4 = want(text, toks, env, table, scratch, finds, kind::EQ, s3);
+        let s5 = ty_must(text, toks, env, table, scratch, finds, left, ARROW, s4);
+        return close(scratch, kind::WHERE_TYPE_SIG_EXP, b, s5);
+    }
+    let name = path_must(text, toks, env, table, scratch, finds, left, s);
+    let s1 = name.state();
+    let s2 = want(text, toks, env, table, scratch, finds, kind::EQ, s1);
+    let same = path_must(text, toks, env, table, scratch, finds, left, s2);
+    let s3 = same.state();
+    close(scratch, kind::WHERE_SIG_EXP, b, s3)
+}
+
+// The kinds that `where` goes on at.
+fn where_and(k: u8) -> bool
+    ensures { λ r. ⌜ r ≡ decl.isWhereAnd (suc k) ⌝ }
+{
+    if k == kind::WHERE_KW {
+        return true;
+    }
+    k == kind::AND_KW
+}
+
+// What is behind a signature that started at `b`, between `where` and `and`.
+// unfolds: decl.sigStep
+// advances: sig-step-advances
+fn where_tails(
+    text: &[u8],
+    toks: &[u8],
+    env: &[u8],
+    table: &[u8],
+    scratch: &mut [u8],
+    finds: &mut [u8],
+    left: usize,
+    b: usize,
+    s: State,
+) -> State
+    requires { ⌜ Sound (mem (now text) (now toks) (now env) (now table) (now scratch) (now finds) s) × (b < 4294967296) ⌝ }
+    ensures { λ r. ⌜ RunsIn left b (Prog.loop decl.sigStep) (mem (now (text .entry)) (now (toks .entry)) (now (env .entry)) (now (table .entry)) (now (scratch .entry)) (now (finds .entry)) s) (mem (now (text .entry)) (now (toks .entry)) (now (env .entry)) (now (table .entry)) (now (scratch .exit)) (now (finds .exit)) r) 0 ⌝ }
+{
+    let mut s1 = s;
+    loop {
+        let Look::Kind(k) = peek(toks, s1) else {
+            return s1;
+        };
+        if where_and(k) {
+            if left == 0 {
+                s1 = s1.refuse(TOO_DEEP);
+                continue;
+            }
+            let s2 = s1.mark();
+            let s3 = bump(toks, scratch, s2);
+            s1 = where_tail(text, toks, env, table, scratch, finds, left - 1, b, s3);
+            continue;
+        }
+        return s1;
+    }
+}
+
+// The same, where `where` is next.
+pub fn wheres(
+    text: &[u8],
+    toks: &[u8],
+    env: &[u8],
+    table: &[u8],
+    scratch: &mut [u8],
+    finds: &mut [u8],
+    left: usize,
+    b: usize,
+    s: State,
+) -> State
+    requires { ⌜ Sound (mem (now text) (now toks) (now env) (now table) (now scratch) (now finds) s) × (b < 4294967296) ⌝ }
+    ensures { λ r. ⌜ RunsIn left b decl.wheres (mem (now (text .entry)) (now (toks .entry)) (now (env .entry)) (now (table .entry)) (now (scratch .entry)) (now (finds .entry)) s) (mem (now (text .entry)) (now (toks .entry)) (now (env .entry)) (now (table .entry)) (now (scratch .exit)) (now (finds .exit)) r) 0 ⌝ }
+{
+    if at(toks, kind::WHERE_KW, s) {
+        return where_tails(text, toks, env, table, scratch, finds, left, b, s);
+    }
+    s
+}

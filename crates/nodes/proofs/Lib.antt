@@ -1,0 +1,4 @@
+pub mod Counts
+pub mod Ends
+pub mod Records
+pub mod Steps
