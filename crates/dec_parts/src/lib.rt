@@ -22,7 +22,7 @@ use ty::ty_must;
 use ty::ty_var_seq;
 ghost use mathlib.Core.Path.{_≡_};
 ghost use mathlib.Core.Bool.{true};
-ghost use Prim.Native.Nat.{suc, _-_, _<_};
+ghost use Prim.Native.Nat.{suc, _<_};
 ghost use Rattle.grammar.specs.Prog.{Prog};
 ghost use Rattle.grammar.specs.Util as util;
 ghost use Rattle.grammar.specs.Dec as decl;

@@ -24,7 +24,7 @@ use pat::pat_prec;
 use pat_parts::PatPrec;
 use sml_fixity::Fixity;
 ghost use mathlib.Core.Bool.{true};
-ghost use Prim.Native.Nat.{_-_, _<_};
+ghost use Prim.Native.Nat.{_<_};
 ghost use Rattle.grammar.specs.Prog.{Prog};
 ghost use Rattle.grammar.specs.Pat as pats;
 ghost use Rattle.grammar.specs.Dec as decl;
@@ -34,7 +34,7 @@ ghost use Rattle.parser.specs.Runs.{Always, Runs, RunsIn};
 // The least pattern: `pat` of pat.rs.
 const ANY: PatPrec = PatPrec::Min;
 
-// `rec` or a pattern, behind `val`.
+// Behind `val`: a pattern, or `rec` and a pattern.
 pub fn rec_pat(
     text: &[u8],
     toks: &[u8],

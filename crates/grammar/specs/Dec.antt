@@ -252,7 +252,7 @@ largeFixity n = do
   m ← look mode
   when (isLarge m n) (plain EK.LargeFixity)
 
--- dec.rs, `fixity`: its case of a number that is there, which `numberOf` gives as `valid` more
+-- dec.rs, `fixity`: its case of an IntLit. A valid number is `numberOf` less `valid`
 unfoldable pub fixityNumber : Prog Rule true
 fixityNumber = do
   v ← look number

@@ -301,7 +301,7 @@ isAscribed p = eqb (rank p) 4
 abbrev pub isInfix : ExpPrec → Bool
 isInfix p = eqb (rank p) 5
 
--- exp.rs, `exp_prec_loop`: the right side of an operator of the kind prec, which is not Min, and the end of the node of all behind `precede`
+-- exp.rs, `exp_prec_loop`: the right side of an operator of the kind prec, which is not Min, and the exit of the node that `precede` opened
 unfoldable pub rightSide : ExpPrec → Prog Rule true
 rightSide prec =
     branch (isAscribed prec) (do

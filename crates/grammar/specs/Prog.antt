@@ -34,7 +34,7 @@ pub data Act : Type 0 where
   refuse : Reason → Act
 
 -- A program, whose calls of rules stand beneath a mark (`Prog R false`), or may stand anywhere (`Prog R true`).
--- `lookup n p f` is p where the text of the token n ahead has no fixity, and f of the fixity otherwise: `fe.get` and `fe.contains_key`.
+-- `lookup n p f` is p where the text of the token n ahead has no fixity, where there is no such token or the reading was refused, and f of the fixity otherwise: `fe.get` and `fe.contains_key`.
 -- `from p` is a scope: in it, `close k` makes a node of all that the scope has logged so far.
 -- `marked p`: a mark is open while p runs. `loop p`: p until it gives 0. `scoped p`: p in an environment of its own.
 -- `attempt p`: p between save and ok_since.

@@ -19,7 +19,7 @@ use pat::as_pat_tl;
 use ty::ty_annotation;
 ghost use mathlib.Core.Path.{_≡_};
 ghost use mathlib.Core.Bool.{true};
-ghost use Prim.Native.Nat.{suc, _-_};
+ghost use Prim.Native.Nat.{suc};
 ghost use Rattle.grammar.specs.Prog.{Prog};
 ghost use Rattle.grammar.specs.Util as util;
 ghost use Rattle.grammar.specs.Dec as decl;

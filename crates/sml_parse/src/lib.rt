@@ -1,0 +1,228 @@
+// The parser as it is called: sml-parse's lib.rs, with the tests of what is lent.
+use hand::hand_out;
+use nodes::clear;
+use parser::State;
+use parser::next_live;
+use parser::tokens;
+use refusal::refuse_all;
+use sml_fixity::form;
+use sml_fixity::form::Form;
+ghost use mathlib.Core.Path.{_≡_};
+ghost use mathlib.Core.List.{[]};
+ghost use Prim.Native.Nat.{_≤_};
+ghost use lib.ListN.{length};
+ghost use Rattle.grammar.specs.World.World.{on};
+ghost use Rattle.grammar.specs.Read.{start, reading, finish, read};
+ghost use Rattle.sml_fixity.specs.Table.{entriesIn};
+ghost use Rattle.parser.specs.View.{Sound, mem, seenIn};
+ghost use Rattle.sml_parse.specs.Entry.{callOf, resultOf, withScratch, clearedTo, served, Tested};
+
+pub mod export;
+pub mod hand;
+pub mod refusal;
+pub mod root;
+
+// The answers that are given before reading.
+const BAD_SETTINGS: u8 = 1;
+
+const BAD_RECORDS: u8 = 2;
+
+const BAD_ENV: u8 = 3;
+
+// The most bytes of scratch whose records' numbers fit four bytes.
+const MOST_SCRATCH: usize = 2147483640;
+
+// Document 01's number of the answer, and the three used lengths in bytes.
+pub struct Answer {
+    pub number: u8,
+    pub nodes: usize,
+    pub finds: usize,
+    pub last: usize,
+}
+
+// The parser as it is made: every token that is no trivia is left.
+fn start_state(
+    text: &[u8],
+    toks: &[u8],
+    env: &[u8],
+    table: &[u8],
+    scratch: &[u8],
+    finds: &[u8],
+    entries: usize,
+    mode: u8,
+) -> State
+    requires { ⌜ Tested (now text) (now toks) (now env) entries × (8192 ≤ length (now table)) × (length (now scratch) ≤ 2147483640) ⌝ }
+    ensures { λ r. ⌜ Sound (mem (now (text .entry)) (now (toks .entry)) (now (env .entry)) (now (table .entry)) (now (scratch .entry)) (now (finds .entry)) r) × (seenIn (mem (now (text .entry)) (now (toks .entry)) (now (env .entry)) (now (table .entry)) (now (scratch .entry)) (now (finds .entry)) r) ≡ on (start (callOf (now (text .entry)) (now (toks .entry)) (now (env .entry)) 0 mode (now (scratch .entry)) [] (now (finds .entry)) []) (entriesIn (now (env .entry))))) ⌝ }
+{
+    let count = toks.len() / 5;
+    State {
+        at: next_live(toks, count, 0),
+        count: count,
+        len: 0,
+        used: 0,
+        room: scratch.len() / 8,
+        found: 0,
+        kept: finds.len() / 8,
+        fixes: 0,
+        entries: entries,
+        changes: 0,
+        mode: mode,
+        stop: 0,
+    }
+}
+
+// The reading, with a journal of fixity changes that is lent.
+fn read_into(
+    text: &[u8],
+    toks: &[u8],
+    env: &[u8],
+    table: &mut [u8],
+    depth: usize,
+    mode: u8,
+    scratch: &mut [u8],
+    nodes: &mut [u8],
+    finds: &mut [u8],
+    last: &mut [u8],
+    entries: usize,
+) -> Answer
+    requires { ⌜ Tested (now text) (now toks) (now env) entries × (8192 ≤ length (now table)) × (length (now scratch) ≤ 2147483640) ⌝ }
+    ensures { λ r. ⌜ resultOf r (now (scratch .exit)) (now (nodes .exit)) (now (finds .exit)) (now (last .exit)) ≡ finish (callOf (now (text .entry)) (now (toks .entry)) (now (env .entry)) depth mode (now (scratch .entry)) (now (nodes .entry)) (now (finds .entry)) (now (last .entry))) (reading (callOf (now (text .entry)) (now (toks .entry)) (now (env .entry)) depth mode (now (scratch .entry)) (now (nodes .entry)) (now (finds .entry)) (now (last .entry))) (entriesIn (now (env .entry)))) ⌝ }
+{
+    let s = start_state(text, toks, env, table, scratch, finds, entries, mode);
+    let end = root::root(text, toks, env, table, scratch, finds, depth, s);
+    if end.stop != 0 {
+        return refuse_all(scratch, nodes, finds, last, end.stop);
+    }
+    hand_out(text, toks, env, table, scratch, nodes, finds, last, end)
+}
+
+// The same with an array for the 1,024 changes that one call may make.
+fn read_with(
+    text: &[u8],
+    toks: &[u8],
+    env: &[u8],
+    depth: usize,
+    mode: u8,
+    scratch: &mut [u8],
+    nodes: &mut [u8],
+    finds: &mut [u8],
+    last: &mut [u8],
+    entries: usize,
+) -> Answer
+    requires { ⌜ Tested (now text) (now toks) (now env) entries × (length (now scratch) ≤ 2147483640) ⌝ }
+    ensures { λ r. ⌜ resultOf r (now (scratch .exit)) (now (nodes .exit)) (now (finds .exit)) (now (last .exit)) ≡ finish (callOf (now (text .entry)) (now (toks .entry)) (now (env .entry)) depth mode (now (scratch .entry)) (now (nodes .entry)) (now (finds .entry)) (now (last .entry))) (reading (callOf (now (text .entry)) (now (toks .entry)) (now (env .entry)) depth mode (now (scratch .entry)) (now (nodes .entry)) (now (finds .entry)) (now (last .entry))) (entriesIn (now (env .entry)))) ⌝ }
+{
+    let mut table = [0u8; 8192];
+    read_into(
+        text,
+        toks,
+        env,
+        &mut table,
+        depth,
+        mode,
+        scratch,
+        nodes,
+        finds,
+        last,
+        entries,
+    )
+}
+
+// The call, with the tests of the answers 1, 2 and 3 in that order.
+fn read_short(
+    text: &[u8],
+    toks: &[u8],
+    env: &[u8],
+    depth: u64,
+    mode: u64,
+    scratch: &mut [u8],
+    nodes: &mut [u8],
+    finds: &mut [u8],
+    last: &mut [u8],
+) -> Answer
+    requires { ⌜ length (now scratch) ≤ 2147483640 ⌝ }
+    ensures { λ r. ⌜ resultOf r (now (scratch .exit)) (now (nodes .exit)) (now (finds .exit)) (now (last .exit)) ≡ read (callOf (now (text .entry)) (now (toks .entry)) (now (env .entry)) depth mode (now (scratch .entry)) (now (nodes .entry)) (now (finds .entry)) (now (last .entry))) ⌝ }
+{
+    if !tokens::settings_fit(text, toks, depth, mode) {
+        return refuse_all(scratch, nodes, finds, last, BAD_SETTINGS);
+    }
+    if !tokens::records_fit(text.len(), toks) {
+        return refuse_all(scratch, nodes, finds, last, BAD_RECORDS);
+    }
+    let Form::Good(entries) = form::form_of(env) else {
+        return refuse_all(scratch, nodes, finds, last, BAD_ENV);
+    };
+    read_with(
+        text,
+        toks,
+        env,
+        depth as usize,
+        mode as u8,
+        scratch,
+        nodes,
+        finds,
+        last,
+        entries,
+    )
+}
+
+// The call over the first `n` bytes of scratch: the rest is cleared.
+fn read_part(
+    text: &[u8],
+    toks: &[u8],
+    env: &[u8],
+    depth: u64,
+    mode: u64,
+    scratch: &mut [u8],
+    nodes: &mut [u8],
+    finds: &mut [u8],
+    last: &mut [u8],
+    n: usize,
+) -> Answer
+    requires { ⌜ (n ≤ length (now scratch)) × (n ≤ 2147483640) ⌝ }
+    ensures { λ r. ⌜ resultOf r (now (scratch .exit)) (now (nodes .exit)) (now (finds .exit)) (now (last .exit)) ≡ clearedTo (read (withScratch (callOf (now (text .entry)) (now (toks .entry)) (now (env .entry)) depth mode (now (scratch .entry)) (now (nodes .entry)) (now (finds .entry)) (now (last .entry))) n)) (length (now (scratch .entry))) ⌝ }
+{
+    clear(scratch);
+    read_short(
+        text,
+        toks,
+        env,
+        depth,
+        mode,
+        &mut scratch[..n],
+        nodes,
+        finds,
+        last,
+    )
+}
+
+// Reads the tokens of a text, for all that can be lent and set. The settings are wider than their ranges, so that no caller's number is cut into one.
+pub fn read(
+    text: &[u8],
+    toks: &[u8],
+    env: &[u8],
+    depth: u64,
+    mode: u64,
+    scratch: &mut [u8],
+    nodes: &mut [u8],
+    finds: &mut [u8],
+    last: &mut [u8],
+) -> Answer
+    ensures { λ r. ⌜ resultOf r (now (scratch .exit)) (now (nodes .exit)) (now (finds .exit)) (now (last .exit)) ≡ served (callOf (now (text .entry)) (now (toks .entry)) (now (env .entry)) depth mode (now (scratch .entry)) (now (nodes .entry)) (now (finds .entry)) (now (last .entry))) ⌝ }
+{
+    if scratch.len() <= MOST_SCRATCH {
+        return read_short(text, toks, env, depth, mode, scratch, nodes, finds, last);
+    }
+    read_part(
+        text,
+        toks,
+        env,
+        depth,
+        mode,
+        scratch,
+        nodes,
+        finds,
+        last,
+        MOST_SCRATCH,
+    )
+}
