@@ -12,6 +12,9 @@ const ENTRIES: &[&str] = &[
     "é",
 ];
 
+/// The most tokens for which [`ROOM`] is made.
+const USUAL_TOKENS: usize = 40;
+
 const PRECEDENCES: &[u16] = &[0, 1, 3, 5, 6, 9, 10, 256, 65_535];
 
 /// A case of one of the four families that this file makes.
@@ -29,7 +32,16 @@ pub fn case(family: Family, tokens: usize, rng: &mut Rng) -> Case {
     };
     let mut ret = roomy(laid, env);
     ret.mode = rng.below(3) as u64;
+    widen(&mut ret, tokens);
     ret
+}
+
+/// Widens the rooms where there may be more tokens than they are made for.
+fn widen(case: &mut Case, tokens: usize) {
+    let times = tokens.div_ceil(USUAL_TOKENS).max(1);
+    for room in [&mut case.scratch, &mut case.nodes, &mut case.finds] {
+        *room *= times;
+    }
 }
 
 /// A case of any of the four.

@@ -3,6 +3,7 @@
 mod check;
 pub mod env;
 mod finding;
+pub mod here;
 mod run;
 
 use check::Checked;

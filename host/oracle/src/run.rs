@@ -50,7 +50,7 @@ pub fn run(checked: &Checked<'_>, limits: Limits) -> Result<Run, Trouble> {
     }
 }
 
-fn tokens<'a>(checked: &Checked<'a>) -> Option<Vec<Token<'a, SyntaxKind>>> {
+pub fn tokens<'a>(checked: &Checked<'a>) -> Option<Vec<Token<'a, SyntaxKind>>> {
     let records = checked.records.iter();
     let token = records.map(|record| {
         Some(Token {
@@ -62,7 +62,7 @@ fn tokens<'a>(checked: &Checked<'a>) -> Option<Vec<Token<'a, SyntaxKind>>> {
 }
 
 /// Makes the source's environment.
-fn start(checked: &Checked<'_>) -> Option<Env> {
+pub fn start(checked: &Checked<'_>) -> Option<Env> {
     limits::forget_changes();
     let mut ret = fast_hash::map_with_capacity(checked.env.len());
     for entry in &checked.env {

@@ -1,114 +1,185 @@
 -- by tools/prove
-mod Measures
-mod Answers1
-mod Answers2
-mod Answers3
-mod Answers4
+use Rattle.grammar.specs.Prog.{Prog}
+use Rattle.grammar.specs.Rule.{Rule}
+use Rattle.grammar.specs.Util as util
+use Rattle.grammar.specs.Exp as expr
+use Rattle.grammar.specs.Dec as decl
+use Rattle.grammar.specs.Root as root
+use Rattle.laws.specs.Progress.{end-turn-advances, many-turn-advances, semi-turn-advances, exp-step-advances, str-step-advances, sig-exp-advances}
+use Rattle.parser.specs.View.{mem, errOf}
+use Rattle.parser.specs.Runs.{runs-in, runs-always, kind-at, kind-off, kind-is, kind-not, test-true, test-false, ok-bumps, ok-adds, ok-marks, ok-refused, ok-state, small-len, Loops, turns, loop-starts, loop-goes, loop-falls, loop-ends}
+use Rattle.parser.specs.Plans.{plan, choose, chosen, in-steps, by-steps, s-rule, s-look, s-kind, s-fixed, s-true, s-false, s-first, s-second, s-bump, s-close, s-report, s-mark, s-deep, s-by, s-run, settled, s-end}
+use borrow.Author.Tests.{eq-eqb, ne-eqb}
+use Rattle.parser.specs.Backs.{s-scoped, ok-back}
+use Rattle.exp_parts.specs.Prec.{precOf}
+use borrow.Author.Needs.{needs}
+use native.Mathlib.Omega.{arith}
+use mathlib.Core.Path.{_≡_, refl, _∙_}
+use lib.ListN.{length}
+use Prim.Native.Nat.{_+_, _-_, _*_}
+use mathlib.Core.Bool.{true}
+use mathlib.Core.Bool.{Bool}
+use Prim.Native.Nat.{ℕ, _<_}
+use borrow.Fn.Kinds.{In}
+use borrow.Fn.PlainCycle.{Measures, is, falls, and}
 use Rattle.exp_dec.proofs.app.Reads as app
+use Rattle.exp_dec.proofs.app.Kinds as app-kinds
 use Rattle.exp_dec.proofs.+app+arg+arm+asc+aso+atm+bdy+cas+cel+cor+dec+end+eq+exn+exp+fap+fct+fun+hsh+id+inc+itm+key+lex+loc+mat+mds+mny+one+opr+ops+oth+par+pre+prt+rhs+rnd+rst+sem+sep+seq+sgb+sgm+sgx+slt+stb+sth+stm+stp+stt+stx+tl+val.Lts-app as app-lts
 use Rattle.exp_dec.proofs.arg.Reads as arg
+use Rattle.exp_dec.proofs.arg.Kinds as arg-kinds
 use Rattle.exp_dec.proofs.+app+arg+arm+asc+aso+atm+bdy+cas+cel+cor+dec+end+eq+exn+exp+fap+fct+fun+hsh+id+inc+itm+key+lex+loc+mat+mds+mny+one+opr+ops+oth+par+pre+prt+rhs+rnd+rst+sem+sep+seq+sgb+sgm+sgx+slt+stb+sth+stm+stp+stt+stx+tl+val.Lts-arg as arg-lts
 use Rattle.exp_dec.proofs.arm.Reads as arm
+use Rattle.exp_dec.proofs.arm.Kinds as arm-kinds
 use Rattle.exp_dec.proofs.+app+arg+arm+asc+aso+atm+bdy+cas+cel+cor+dec+end+eq+exn+exp+fap+fct+fun+hsh+id+inc+itm+key+lex+loc+mat+mds+mny+one+opr+ops+oth+par+pre+prt+rhs+rnd+rst+sem+sep+seq+sgb+sgm+sgx+slt+stb+sth+stm+stp+stt+stx+tl+val.Lts-arm as arm-lts
 use Rattle.exp_dec.proofs.asc.Reads as asc
+use Rattle.exp_dec.proofs.asc.Kinds as asc-kinds
 use Rattle.exp_dec.proofs.+app+arg+arm+asc+aso+atm+bdy+cas+cel+cor+dec+end+eq+exn+exp+fap+fct+fun+hsh+id+inc+itm+key+lex+loc+mat+mds+mny+one+opr+ops+oth+par+pre+prt+rhs+rnd+rst+sem+sep+seq+sgb+sgm+sgx+slt+stb+sth+stm+stp+stt+stx+tl+val.Lts-asc as asc-lts
 use Rattle.exp_dec.proofs.aso.Reads as aso
+use Rattle.exp_dec.proofs.aso.Kinds as aso-kinds
 use Rattle.exp_dec.proofs.+app+arg+arm+asc+aso+atm+bdy+cas+cel+cor+dec+end+eq+exn+exp+fap+fct+fun+hsh+id+inc+itm+key+lex+loc+mat+mds+mny+one+opr+ops+oth+par+pre+prt+rhs+rnd+rst+sem+sep+seq+sgb+sgm+sgx+slt+stb+sth+stm+stp+stt+stx+tl+val.Lts-aso as aso-lts
 use Rattle.exp_dec.proofs.atm.Reads as atm
+use Rattle.exp_dec.proofs.atm.Kinds as atm-kinds
 use Rattle.exp_dec.proofs.+app+arg+arm+asc+aso+atm+bdy+cas+cel+cor+dec+end+eq+exn+exp+fap+fct+fun+hsh+id+inc+itm+key+lex+loc+mat+mds+mny+one+opr+ops+oth+par+pre+prt+rhs+rnd+rst+sem+sep+seq+sgb+sgm+sgx+slt+stb+sth+stm+stp+stt+stx+tl+val.Lts-atm as atm-lts
 use Rattle.exp_dec.proofs.bdy.Reads as bdy
+use Rattle.exp_dec.proofs.bdy.Kinds as bdy-kinds
 use Rattle.exp_dec.proofs.+app+arg+arm+asc+aso+atm+bdy+cas+cel+cor+dec+end+eq+exn+exp+fap+fct+fun+hsh+id+inc+itm+key+lex+loc+mat+mds+mny+one+opr+ops+oth+par+pre+prt+rhs+rnd+rst+sem+sep+seq+sgb+sgm+sgx+slt+stb+sth+stm+stp+stt+stx+tl+val.Lts-bdy as bdy-lts
 use Rattle.exp_dec.proofs.cas.Reads as cas
+use Rattle.exp_dec.proofs.cas.Kinds as cas-kinds
 use Rattle.exp_dec.proofs.+app+arg+arm+asc+aso+atm+bdy+cas+cel+cor+dec+end+eq+exn+exp+fap+fct+fun+hsh+id+inc+itm+key+lex+loc+mat+mds+mny+one+opr+ops+oth+par+pre+prt+rhs+rnd+rst+sem+sep+seq+sgb+sgm+sgx+slt+stb+sth+stm+stp+stt+stx+tl+val.Lts-cas as cas-lts
 use Rattle.exp_dec.proofs.cel.Reads as cel
+use Rattle.exp_dec.proofs.cel.Kinds as cel-kinds
 use Rattle.exp_dec.proofs.+app+arg+arm+asc+aso+atm+bdy+cas+cel+cor+dec+end+eq+exn+exp+fap+fct+fun+hsh+id+inc+itm+key+lex+loc+mat+mds+mny+one+opr+ops+oth+par+pre+prt+rhs+rnd+rst+sem+sep+seq+sgb+sgm+sgx+slt+stb+sth+stm+stp+stt+stx+tl+val.Lts-cel as cel-lts
 use Rattle.exp_dec.proofs.cor.Reads as cor
+use Rattle.exp_dec.proofs.cor.Kinds as cor-kinds
 use Rattle.exp_dec.proofs.+app+arg+arm+asc+aso+atm+bdy+cas+cel+cor+dec+end+eq+exn+exp+fap+fct+fun+hsh+id+inc+itm+key+lex+loc+mat+mds+mny+one+opr+ops+oth+par+pre+prt+rhs+rnd+rst+sem+sep+seq+sgb+sgm+sgx+slt+stb+sth+stm+stp+stt+stx+tl+val.Lts-cor as cor-lts
 use Rattle.exp_dec.proofs.dec.Reads as dec
+use Rattle.exp_dec.proofs.dec.Kinds as dec-kinds
 use Rattle.exp_dec.proofs.+app+arg+arm+asc+aso+atm+bdy+cas+cel+cor+dec+end+eq+exn+exp+fap+fct+fun+hsh+id+inc+itm+key+lex+loc+mat+mds+mny+one+opr+ops+oth+par+pre+prt+rhs+rnd+rst+sem+sep+seq+sgb+sgm+sgx+slt+stb+sth+stm+stp+stt+stx+tl+val.Lts-dec as dec-lts
 use Rattle.exp_dec.proofs.end.Reads as end
+use Rattle.exp_dec.proofs.end.Kinds as end-kinds
 use Rattle.exp_dec.proofs.+app+arg+arm+asc+aso+atm+bdy+cas+cel+cor+dec+end+eq+exn+exp+fap+fct+fun+hsh+id+inc+itm+key+lex+loc+mat+mds+mny+one+opr+ops+oth+par+pre+prt+rhs+rnd+rst+sem+sep+seq+sgb+sgm+sgx+slt+stb+sth+stm+stp+stt+stx+tl+val.Lts-end as end-lts
 use Rattle.exp_dec.proofs.eq.Reads as eq
+use Rattle.exp_dec.proofs.eq.Kinds as eq-kinds
 use Rattle.exp_dec.proofs.+app+arg+arm+asc+aso+atm+bdy+cas+cel+cor+dec+end+eq+exn+exp+fap+fct+fun+hsh+id+inc+itm+key+lex+loc+mat+mds+mny+one+opr+ops+oth+par+pre+prt+rhs+rnd+rst+sem+sep+seq+sgb+sgm+sgx+slt+stb+sth+stm+stp+stt+stx+tl+val.Lts-eq as eq-lts
 use Rattle.exp_dec.proofs.exn.Reads as exn
+use Rattle.exp_dec.proofs.exn.Kinds as exn-kinds
 use Rattle.exp_dec.proofs.+app+arg+arm+asc+aso+atm+bdy+cas+cel+cor+dec+end+eq+exn+exp+fap+fct+fun+hsh+id+inc+itm+key+lex+loc+mat+mds+mny+one+opr+ops+oth+par+pre+prt+rhs+rnd+rst+sem+sep+seq+sgb+sgm+sgx+slt+stb+sth+stm+stp+stt+stx+tl+val.Lts-exn as exn-lts
 use Rattle.exp_dec.proofs.exp.Reads as exp
+use Rattle.exp_dec.proofs.exp.Kinds as exp-kinds
 use Rattle.exp_dec.proofs.+app+arg+arm+asc+aso+atm+bdy+cas+cel+cor+dec+end+eq+exn+exp+fap+fct+fun+hsh+id+inc+itm+key+lex+loc+mat+mds+mny+one+opr+ops+oth+par+pre+prt+rhs+rnd+rst+sem+sep+seq+sgb+sgm+sgx+slt+stb+sth+stm+stp+stt+stx+tl+val.Lts-exp as exp-lts
 use Rattle.exp_dec.proofs.fap.Reads as fap
+use Rattle.exp_dec.proofs.fap.Kinds as fap-kinds
 use Rattle.exp_dec.proofs.+app+arg+arm+asc+aso+atm+bdy+cas+cel+cor+dec+end+eq+exn+exp+fap+fct+fun+hsh+id+inc+itm+key+lex+loc+mat+mds+mny+one+opr+ops+oth+par+pre+prt+rhs+rnd+rst+sem+sep+seq+sgb+sgm+sgx+slt+stb+sth+stm+stp+stt+stx+tl+val.Lts-fap as fap-lts
 use Rattle.exp_dec.proofs.fct.Reads as fct
+use Rattle.exp_dec.proofs.fct.Kinds as fct-kinds
 use Rattle.exp_dec.proofs.+app+arg+arm+asc+aso+atm+bdy+cas+cel+cor+dec+end+eq+exn+exp+fap+fct+fun+hsh+id+inc+itm+key+lex+loc+mat+mds+mny+one+opr+ops+oth+par+pre+prt+rhs+rnd+rst+sem+sep+seq+sgb+sgm+sgx+slt+stb+sth+stm+stp+stt+stx+tl+val.Lts-fct as fct-lts
 use Rattle.exp_dec.proofs.fun.Reads as fun
+use Rattle.exp_dec.proofs.fun.Kinds as fun-kinds
 use Rattle.exp_dec.proofs.+app+arg+arm+asc+aso+atm+bdy+cas+cel+cor+dec+end+eq+exn+exp+fap+fct+fun+hsh+id+inc+itm+key+lex+loc+mat+mds+mny+one+opr+ops+oth+par+pre+prt+rhs+rnd+rst+sem+sep+seq+sgb+sgm+sgx+slt+stb+sth+stm+stp+stt+stx+tl+val.Lts-fun as fun-lts
 use Rattle.exp_dec.proofs.hsh.Reads as hsh
+use Rattle.exp_dec.proofs.hsh.Kinds as hsh-kinds
 use Rattle.exp_dec.proofs.+app+arg+arm+asc+aso+atm+bdy+cas+cel+cor+dec+end+eq+exn+exp+fap+fct+fun+hsh+id+inc+itm+key+lex+loc+mat+mds+mny+one+opr+ops+oth+par+pre+prt+rhs+rnd+rst+sem+sep+seq+sgb+sgm+sgx+slt+stb+sth+stm+stp+stt+stx+tl+val.Lts-hsh as hsh-lts
 use Rattle.exp_dec.proofs.id.Reads as id
+use Rattle.exp_dec.proofs.id.Kinds as id-kinds
 use Rattle.exp_dec.proofs.+app+arg+arm+asc+aso+atm+bdy+cas+cel+cor+dec+end+eq+exn+exp+fap+fct+fun+hsh+id+inc+itm+key+lex+loc+mat+mds+mny+one+opr+ops+oth+par+pre+prt+rhs+rnd+rst+sem+sep+seq+sgb+sgm+sgx+slt+stb+sth+stm+stp+stt+stx+tl+val.Lts-id as id-lts
 use Rattle.exp_dec.proofs.inc.Reads as inc
+use Rattle.exp_dec.proofs.inc.Kinds as inc-kinds
 use Rattle.exp_dec.proofs.+app+arg+arm+asc+aso+atm+bdy+cas+cel+cor+dec+end+eq+exn+exp+fap+fct+fun+hsh+id+inc+itm+key+lex+loc+mat+mds+mny+one+opr+ops+oth+par+pre+prt+rhs+rnd+rst+sem+sep+seq+sgb+sgm+sgx+slt+stb+sth+stm+stp+stt+stx+tl+val.Lts-inc as inc-lts
 use Rattle.exp_dec.proofs.itm.Reads as itm
+use Rattle.exp_dec.proofs.itm.Kinds as itm-kinds
 use Rattle.exp_dec.proofs.+app+arg+arm+asc+aso+atm+bdy+cas+cel+cor+dec+end+eq+exn+exp+fap+fct+fun+hsh+id+inc+itm+key+lex+loc+mat+mds+mny+one+opr+ops+oth+par+pre+prt+rhs+rnd+rst+sem+sep+seq+sgb+sgm+sgx+slt+stb+sth+stm+stp+stt+stx+tl+val.Lts-itm as itm-lts
 use Rattle.exp_dec.proofs.key.Reads as key
+use Rattle.exp_dec.proofs.key.Kinds as key-kinds
 use Rattle.exp_dec.proofs.+app+arg+arm+asc+aso+atm+bdy+cas+cel+cor+dec+end+eq+exn+exp+fap+fct+fun+hsh+id+inc+itm+key+lex+loc+mat+mds+mny+one+opr+ops+oth+par+pre+prt+rhs+rnd+rst+sem+sep+seq+sgb+sgm+sgx+slt+stb+sth+stm+stp+stt+stx+tl+val.Lts-key as key-lts
 use Rattle.exp_dec.proofs.lex.Reads as lex
+use Rattle.exp_dec.proofs.lex.Kinds as lex-kinds
 use Rattle.exp_dec.proofs.+app+arg+arm+asc+aso+atm+bdy+cas+cel+cor+dec+end+eq+exn+exp+fap+fct+fun+hsh+id+inc+itm+key+lex+loc+mat+mds+mny+one+opr+ops+oth+par+pre+prt+rhs+rnd+rst+sem+sep+seq+sgb+sgm+sgx+slt+stb+sth+stm+stp+stt+stx+tl+val.Lts-lex as lex-lts
 use Rattle.exp_dec.proofs.loc.Reads as loc
+use Rattle.exp_dec.proofs.loc.Kinds as loc-kinds
 use Rattle.exp_dec.proofs.+app+arg+arm+asc+aso+atm+bdy+cas+cel+cor+dec+end+eq+exn+exp+fap+fct+fun+hsh+id+inc+itm+key+lex+loc+mat+mds+mny+one+opr+ops+oth+par+pre+prt+rhs+rnd+rst+sem+sep+seq+sgb+sgm+sgx+slt+stb+sth+stm+stp+stt+stx+tl+val.Lts-loc as loc-lts
 use Rattle.exp_dec.proofs.mat.Reads as mat
+use Rattle.exp_dec.proofs.mat.Kinds as mat-kinds
 use Rattle.exp_dec.proofs.+app+arg+arm+asc+aso+atm+bdy+cas+cel+cor+dec+end+eq+exn+exp+fap+fct+fun+hsh+id+inc+itm+key+lex+loc+mat+mds+mny+one+opr+ops+oth+par+pre+prt+rhs+rnd+rst+sem+sep+seq+sgb+sgm+sgx+slt+stb+sth+stm+stp+stt+stx+tl+val.Lts-mat as mat-lts
 use Rattle.exp_dec.proofs.mds.Reads as mds
+use Rattle.exp_dec.proofs.mds.Kinds as mds-kinds
 use Rattle.exp_dec.proofs.+app+arg+arm+asc+aso+atm+bdy+cas+cel+cor+dec+end+eq+exn+exp+fap+fct+fun+hsh+id+inc+itm+key+lex+loc+mat+mds+mny+one+opr+ops+oth+par+pre+prt+rhs+rnd+rst+sem+sep+seq+sgb+sgm+sgx+slt+stb+sth+stm+stp+stt+stx+tl+val.Lts-mds as mds-lts
 use Rattle.exp_dec.proofs.mny.Reads as mny
+use Rattle.exp_dec.proofs.mny.Kinds as mny-kinds
 use Rattle.exp_dec.proofs.+app+arg+arm+asc+aso+atm+bdy+cas+cel+cor+dec+end+eq+exn+exp+fap+fct+fun+hsh+id+inc+itm+key+lex+loc+mat+mds+mny+one+opr+ops+oth+par+pre+prt+rhs+rnd+rst+sem+sep+seq+sgb+sgm+sgx+slt+stb+sth+stm+stp+stt+stx+tl+val.Lts-mny as mny-lts
 use Rattle.exp_dec.proofs.one.Reads as one
+use Rattle.exp_dec.proofs.one.Kinds as one-kinds
 use Rattle.exp_dec.proofs.+app+arg+arm+asc+aso+atm+bdy+cas+cel+cor+dec+end+eq+exn+exp+fap+fct+fun+hsh+id+inc+itm+key+lex+loc+mat+mds+mny+one+opr+ops+oth+par+pre+prt+rhs+rnd+rst+sem+sep+seq+sgb+sgm+sgx+slt+stb+sth+stm+stp+stt+stx+tl+val.Lts-one as one-lts
 use Rattle.exp_dec.proofs.opr.Reads as opr
+use Rattle.exp_dec.proofs.opr.Kinds as opr-kinds
 use Rattle.exp_dec.proofs.+app+arg+arm+asc+aso+atm+bdy+cas+cel+cor+dec+end+eq+exn+exp+fap+fct+fun+hsh+id+inc+itm+key+lex+loc+mat+mds+mny+one+opr+ops+oth+par+pre+prt+rhs+rnd+rst+sem+sep+seq+sgb+sgm+sgx+slt+stb+sth+stm+stp+stt+stx+tl+val.Lts-opr as opr-lts
 use Rattle.exp_dec.proofs.ops.Reads as ops
+use Rattle.exp_dec.proofs.ops.Kinds as ops-kinds
 use Rattle.exp_dec.proofs.+app+arg+arm+asc+aso+atm+bdy+cas+cel+cor+dec+end+eq+exn+exp+fap+fct+fun+hsh+id+inc+itm+key+lex+loc+mat+mds+mny+one+opr+ops+oth+par+pre+prt+rhs+rnd+rst+sem+sep+seq+sgb+sgm+sgx+slt+stb+sth+stm+stp+stt+stx+tl+val.Lts-ops as ops-lts
 use Rattle.exp_dec.proofs.oth.Reads as oth
+use Rattle.exp_dec.proofs.oth.Kinds as oth-kinds
 use Rattle.exp_dec.proofs.+app+arg+arm+asc+aso+atm+bdy+cas+cel+cor+dec+end+eq+exn+exp+fap+fct+fun+hsh+id+inc+itm+key+lex+loc+mat+mds+mny+one+opr+ops+oth+par+pre+prt+rhs+rnd+rst+sem+sep+seq+sgb+sgm+sgx+slt+stb+sth+stm+stp+stt+stx+tl+val.Lts-oth as oth-lts
 use Rattle.exp_dec.proofs.par.Reads as par
+use Rattle.exp_dec.proofs.par.Kinds as par-kinds
 use Rattle.exp_dec.proofs.+app+arg+arm+asc+aso+atm+bdy+cas+cel+cor+dec+end+eq+exn+exp+fap+fct+fun+hsh+id+inc+itm+key+lex+loc+mat+mds+mny+one+opr+ops+oth+par+pre+prt+rhs+rnd+rst+sem+sep+seq+sgb+sgm+sgx+slt+stb+sth+stm+stp+stt+stx+tl+val.Lts-par as par-lts
 use Rattle.exp_dec.proofs.pre.Reads as pre
+use Rattle.exp_dec.proofs.pre.Kinds as pre-kinds
 use Rattle.exp_dec.proofs.+app+arg+arm+asc+aso+atm+bdy+cas+cel+cor+dec+end+eq+exn+exp+fap+fct+fun+hsh+id+inc+itm+key+lex+loc+mat+mds+mny+one+opr+ops+oth+par+pre+prt+rhs+rnd+rst+sem+sep+seq+sgb+sgm+sgx+slt+stb+sth+stm+stp+stt+stx+tl+val.Lts-pre as pre-lts
 use Rattle.exp_dec.proofs.prt.Reads as prt
+use Rattle.exp_dec.proofs.prt.Kinds as prt-kinds
 use Rattle.exp_dec.proofs.+app+arg+arm+asc+aso+atm+bdy+cas+cel+cor+dec+end+eq+exn+exp+fap+fct+fun+hsh+id+inc+itm+key+lex+loc+mat+mds+mny+one+opr+ops+oth+par+pre+prt+rhs+rnd+rst+sem+sep+seq+sgb+sgm+sgx+slt+stb+sth+stm+stp+stt+stx+tl+val.Lts-prt as prt-lts
 use Rattle.exp_dec.proofs.rhs.Reads as rhs
+use Rattle.exp_dec.proofs.rhs.Kinds as rhs-kinds
 use Rattle.exp_dec.proofs.+app+arg+arm+asc+aso+atm+bdy+cas+cel+cor+dec+end+eq+exn+exp+fap+fct+fun+hsh+id+inc+itm+key+lex+loc+mat+mds+mny+one+opr+ops+oth+par+pre+prt+rhs+rnd+rst+sem+sep+seq+sgb+sgm+sgx+slt+stb+sth+stm+stp+stt+stx+tl+val.Lts-rhs as rhs-lts
 use Rattle.exp_dec.proofs.rnd.Reads as rnd
+use Rattle.exp_dec.proofs.rnd.Kinds as rnd-kinds
 use Rattle.exp_dec.proofs.+app+arg+arm+asc+aso+atm+bdy+cas+cel+cor+dec+end+eq+exn+exp+fap+fct+fun+hsh+id+inc+itm+key+lex+loc+mat+mds+mny+one+opr+ops+oth+par+pre+prt+rhs+rnd+rst+sem+sep+seq+sgb+sgm+sgx+slt+stb+sth+stm+stp+stt+stx+tl+val.Lts-rnd as rnd-lts
 use Rattle.exp_dec.proofs.rst.Reads as rst
+use Rattle.exp_dec.proofs.rst.Kinds as rst-kinds
 use Rattle.exp_dec.proofs.+app+arg+arm+asc+aso+atm+bdy+cas+cel+cor+dec+end+eq+exn+exp+fap+fct+fun+hsh+id+inc+itm+key+lex+loc+mat+mds+mny+one+opr+ops+oth+par+pre+prt+rhs+rnd+rst+sem+sep+seq+sgb+sgm+sgx+slt+stb+sth+stm+stp+stt+stx+tl+val.Lts-rst as rst-lts
 use Rattle.exp_dec.proofs.sem.Reads as sem
+use Rattle.exp_dec.proofs.sem.Kinds as sem-kinds
 use Rattle.exp_dec.proofs.+app+arg+arm+asc+aso+atm+bdy+cas+cel+cor+dec+end+eq+exn+exp+fap+fct+fun+hsh+id+inc+itm+key+lex+loc+mat+mds+mny+one+opr+ops+oth+par+pre+prt+rhs+rnd+rst+sem+sep+seq+sgb+sgm+sgx+slt+stb+sth+stm+stp+stt+stx+tl+val.Lts-sem as sem-lts
 use Rattle.exp_dec.proofs.sep.Reads as sep
+use Rattle.exp_dec.proofs.sep.Kinds as sep-kinds
 use Rattle.exp_dec.proofs.+app+arg+arm+asc+aso+atm+bdy+cas+cel+cor+dec+end+eq+exn+exp+fap+fct+fun+hsh+id+inc+itm+key+lex+loc+mat+mds+mny+one+opr+ops+oth+par+pre+prt+rhs+rnd+rst+sem+sep+seq+sgb+sgm+sgx+slt+stb+sth+stm+stp+stt+stx+tl+val.Lts-sep as sep-lts
 use Rattle.exp_dec.proofs.seq.Reads as seq
+use Rattle.exp_dec.proofs.seq.Kinds as seq-kinds
 use Rattle.exp_dec.proofs.+app+arg+arm+asc+aso+atm+bdy+cas+cel+cor+dec+end+eq+exn+exp+fap+fct+fun+hsh+id+inc+itm+key+lex+loc+mat+mds+mny+one+opr+ops+oth+par+pre+prt+rhs+rnd+rst+sem+sep+seq+sgb+sgm+sgx+slt+stb+sth+stm+stp+stt+stx+tl+val.Lts-seq as seq-lts
 use Rattle.exp_dec.proofs.sgb.Reads as sgb
+use Rattle.exp_dec.proofs.sgb.Kinds as sgb-kinds
 use Rattle.exp_dec.proofs.+app+arg+arm+asc+aso+atm+bdy+cas+cel+cor+dec+end+eq+exn+exp+fap+fct+fun+hsh+id+inc+itm+key+lex+loc+mat+mds+mny+one+opr+ops+oth+par+pre+prt+rhs+rnd+rst+sem+sep+seq+sgb+sgm+sgx+slt+stb+sth+stm+stp+stt+stx+tl+val.Lts-sgb as sgb-lts
 use Rattle.exp_dec.proofs.sgm.Reads as sgm
+use Rattle.exp_dec.proofs.sgm.Kinds as sgm-kinds
 use Rattle.exp_dec.proofs.+app+arg+arm+asc+aso+atm+bdy+cas+cel+cor+dec+end+eq+exn+exp+fap+fct+fun+hsh+id+inc+itm+key+lex+loc+mat+mds+mny+one+opr+ops+oth+par+pre+prt+rhs+rnd+rst+sem+sep+seq+sgb+sgm+sgx+slt+stb+sth+stm+stp+stt+stx+tl+val.Lts-sgm as sgm-lts
 use Rattle.exp_dec.proofs.sgx.Reads as sgx
+use Rattle.exp_dec.proofs.sgx.Kinds as sgx-kinds
 use Rattle.exp_dec.proofs.+app+arg+arm+asc+aso+atm+bdy+cas+cel+cor+dec+end+eq+exn+exp+fap+fct+fun+hsh+id+inc+itm+key+lex+loc+mat+mds+mny+one+opr+ops+oth+par+pre+prt+rhs+rnd+rst+sem+sep+seq+sgb+sgm+sgx+slt+stb+sth+stm+stp+stt+stx+tl+val.Lts-sgx as sgx-lts
 use Rattle.exp_dec.proofs.slt.Reads as slt
+use Rattle.exp_dec.proofs.slt.Kinds as slt-kinds
 use Rattle.exp_dec.proofs.+app+arg+arm+asc+aso+atm+bdy+cas+cel+cor+dec+end+eq+exn+exp+fap+fct+fun+hsh+id+inc+itm+key+lex+loc+mat+mds+mny+one+opr+ops+oth+par+pre+prt+rhs+rnd+rst+sem+sep+seq+sgb+sgm+sgx+slt+stb+sth+stm+stp+stt+stx+tl+val.Lts-slt as slt-lts
 use Rattle.exp_dec.proofs.stb.Reads as stb
+use Rattle.exp_dec.proofs.stb.Kinds as stb-kinds
 use Rattle.exp_dec.proofs.+app+arg+arm+asc+aso+atm+bdy+cas+cel+cor+dec+end+eq+exn+exp+fap+fct+fun+hsh+id+inc+itm+key+lex+loc+mat+mds+mny+one+opr+ops+oth+par+pre+prt+rhs+rnd+rst+sem+sep+seq+sgb+sgm+sgx+slt+stb+sth+stm+stp+stt+stx+tl+val.Lts-stb as stb-lts
 use Rattle.exp_dec.proofs.sth.Reads as sth
+use Rattle.exp_dec.proofs.sth.Kinds as sth-kinds
 use Rattle.exp_dec.proofs.+app+arg+arm+asc+aso+atm+bdy+cas+cel+cor+dec+end+eq+exn+exp+fap+fct+fun+hsh+id+inc+itm+key+lex+loc+mat+mds+mny+one+opr+ops+oth+par+pre+prt+rhs+rnd+rst+sem+sep+seq+sgb+sgm+sgx+slt+stb+sth+stm+stp+stt+stx+tl+val.Lts-sth as sth-lts
 use Rattle.exp_dec.proofs.stm.Reads as stm
+use Rattle.exp_dec.proofs.stm.Kinds as stm-kinds
 use Rattle.exp_dec.proofs.+app+arg+arm+asc+aso+atm+bdy+cas+cel+cor+dec+end+eq+exn+exp+fap+fct+fun+hsh+id+inc+itm+key+lex+loc+mat+mds+mny+one+opr+ops+oth+par+pre+prt+rhs+rnd+rst+sem+sep+seq+sgb+sgm+sgx+slt+stb+sth+stm+stp+stt+stx+tl+val.Lts-stm as stm-lts
 use Rattle.exp_dec.proofs.stp.Reads as stp
+use Rattle.exp_dec.proofs.stp.Kinds as stp-kinds
 use Rattle.exp_dec.proofs.+app+arg+arm+asc+aso+atm+bdy+cas+cel+cor+dec+end+eq+exn+exp+fap+fct+fun+hsh+id+inc+itm+key+lex+loc+mat+mds+mny+one+opr+ops+oth+par+pre+prt+rhs+rnd+rst+sem+sep+seq+sgb+sgm+sgx+slt+stb+sth+stm+stp+stt+stx+tl+val.Lts-stp as stp-lts
 use Rattle.exp_dec.proofs.stt.Reads as stt
+use Rattle.exp_dec.proofs.stt.Kinds as stt-kinds
 use Rattle.exp_dec.proofs.+app+arg+arm+asc+aso+atm+bdy+cas+cel+cor+dec+end+eq+exn+exp+fap+fct+fun+hsh+id+inc+itm+key+lex+loc+mat+mds+mny+one+opr+ops+oth+par+pre+prt+rhs+rnd+rst+sem+sep+seq+sgb+sgm+sgx+slt+stb+sth+stm+stp+stt+stx+tl+val.Lts-stt as stt-lts
 use Rattle.exp_dec.proofs.stx.Reads as stx
+use Rattle.exp_dec.proofs.stx.Kinds as stx-kinds
 use Rattle.exp_dec.proofs.+app+arg+arm+asc+aso+atm+bdy+cas+cel+cor+dec+end+eq+exn+exp+fap+fct+fun+hsh+id+inc+itm+key+lex+loc+mat+mds+mny+one+opr+ops+oth+par+pre+prt+rhs+rnd+rst+sem+sep+seq+sgb+sgm+sgx+slt+stb+sth+stm+stp+stt+stx+tl+val.Lts-stx as stx-lts
 use Rattle.exp_dec.proofs.tl.Reads as tl
+use Rattle.exp_dec.proofs.tl.Kinds as tl-kinds
 use Rattle.exp_dec.proofs.+app+arg+arm+asc+aso+atm+bdy+cas+cel+cor+dec+end+eq+exn+exp+fap+fct+fun+hsh+id+inc+itm+key+lex+loc+mat+mds+mny+one+opr+ops+oth+par+pre+prt+rhs+rnd+rst+sem+sep+seq+sgb+sgm+sgx+slt+stb+sth+stm+stp+stt+stx+tl+val.Lts-tl as tl-lts
 use Rattle.exp_dec.proofs.val.Reads as val
+use Rattle.exp_dec.proofs.val.Kinds as val-kinds
 use Rattle.exp_dec.proofs.+app+arg+arm+asc+aso+atm+bdy+cas+cel+cor+dec+end+eq+exn+exp+fap+fct+fun+hsh+id+inc+itm+key+lex+loc+mat+mds+mny+one+opr+ops+oth+par+pre+prt+rhs+rnd+rst+sem+sep+seq+sgb+sgm+sgx+slt+stb+sth+stm+stp+stt+stx+tl+val.Lts-val as val-lts
 use Rattle.dat_parts.proofs.dat_binds.Reads as dat-binds-reads
 use Rattle.dat_parts.proofs.op_name.Reads as op-name-reads
@@ -153,13 +224,21121 @@ use Rattle.pat.proofs.pat_prec.Reads as pat-prec-reads
 use Rattle.ty.proofs.of_ty.Reads as of-ty-reads
 use Rattle.ty.proofs.ty_annotation.Reads as ty-annotation-reads
 use Rattle.ty.proofs.ty_must.Reads as ty-must-reads
-use Rattle.exp_dec.proofs.+app+arg+arm+asc+aso+atm+bdy+cas+cel+cor+dec+end+eq+exn+exp+fap+fct+fun+hsh+id+inc+itm+key+lex+loc+mat+mds+mny+one+opr+ops+oth+par+pre+prt+rhs+rnd+rst+sem+sep+seq+sgb+sgm+sgx+slt+stb+sth+stm+stp+stt+stx+tl+val.{statement}
-use Rattle.exp_dec.proofs.+app+arg+arm+asc+aso+atm+bdy+cas+cel+cor+dec+end+eq+exn+exp+fap+fct+fun+hsh+id+inc+itm+key+lex+loc+mat+mds+mny+one+opr+ops+oth+par+pre+prt+rhs+rnd+rst+sem+sep+seq+sgb+sgm+sgx+slt+stb+sth+stm+stp+stt+stx+tl+val.Tie.{close}
-use Rattle.exp_dec.proofs.+app+arg+arm+asc+aso+atm+bdy+cas+cel+cor+dec+end+eq+exn+exp+fap+fct+fun+hsh+id+inc+itm+key+lex+loc+mat+mds+mny+one+opr+ops+oth+par+pre+prt+rhs+rnd+rst+sem+sep+seq+sgb+sgm+sgx+slt+stb+sth+stm+stp+stt+stx+tl+val.Proof.Measures.{μ-app, μ-arg, μ-arm, μ-asc, μ-aso, μ-atm, μ-bdy, μ-cas, μ-cel, μ-cor, μ-dec, μ-end, μ-eq, μ-exn, μ-exp, μ-fap, μ-fct, μ-fun, μ-hsh, μ-id, μ-inc, μ-itm, μ-key, μ-lex, μ-loc, μ-mat, μ-mds, μ-mny, μ-one, μ-opr, μ-ops, μ-oth, μ-par, μ-pre, μ-prt, μ-rhs, μ-rnd, μ-rst, μ-sem, μ-sep, μ-seq, μ-sgb, μ-sgm, μ-sgx, μ-slt, μ-stb, μ-sth, μ-stm, μ-stp, μ-stt, μ-stx, μ-tl, μ-val, app-at, app-below, arg-at, arg-below, arm-at, arm-below, asc-at, asc-below, aso-at, aso-below, atm-at, atm-below, bdy-at, bdy-below, cas-at, cas-below, cel-at, cel-below, cor-at, cor-below, dec-at, dec-below, end-at, end-below, eq-at, eq-below, exn-at, exn-below, exp-at, exp-below, fap-at, fap-below, fct-at, fct-below, fun-at, fun-below, hsh-at, hsh-below, id-at, id-below, inc-at, inc-below, itm-at, itm-below, key-at, key-below, lex-at, lex-below, loc-at, loc-below, mat-at, mat-below, mds-at, mds-below, mny-at, mny-below, one-at, one-below, opr-at, opr-below, ops-at, ops-below, oth-at, oth-below, par-at, par-below, pre-at, pre-below, prt-at, prt-below, rhs-at, rhs-below, rnd-at, rnd-below, rst-at, rst-below, sem-at, sem-below, sep-at, sep-below, seq-at, seq-below, sgb-at, sgb-below, sgm-at, sgm-below, sgx-at, sgx-below, slt-at, slt-below, stb-at, stb-below, sth-at, sth-below, stm-at, stm-below, stp-at, stp-below, stt-at, stt-below, stx-at, stx-below, tl-at, tl-below, val-at, val-below}
-use Rattle.exp_dec.proofs.+app+arg+arm+asc+aso+atm+bdy+cas+cel+cor+dec+end+eq+exn+exp+fap+fct+fun+hsh+id+inc+itm+key+lex+loc+mat+mds+mny+one+opr+ops+oth+par+pre+prt+rhs+rnd+rst+sem+sep+seq+sgb+sgm+sgx+slt+stb+sth+stm+stp+stt+stx+tl+val.Proof.Answers1.{app-refuse-requires, app-returns, app-mark-requires, app-sub-arg, app-arg-requires, app-close-requires, app-same-length, app-same-length-2, app-same-length-3, app-returns-2, arg-peek-requires, arg-enum-known-k, arg-enum-told, arg-report-requires, arg-same-length, arg-returns, arg-refuse-requires, arg-report-requires-2, arg-same-length-2, arg-returns-2, arg-mark-requires, arg-sub-atm, arg-atm-requires, arg-enum-known-got, arg-enum-known-got-2, arg-report-requires-3, arg-same-length-3, arg-same-length-4, arg-same-length-5, arg-returns-3, arg-same-length-6, arg-same-length-7, arg-same-length-8, arg-returns-4, arm-pat-prec-requires, arm-enum-known-got, arm-report-requires, arm-enum-known-got-2, arm-want-requires, arm-exp-requires, arm-same-length, arm-same-length-2, arm-same-length-3, arm-returns, arm-same-length-4, arm-same-length-5, arm-same-length-6, arm-returns-2, asc-refuse-requires, asc-returns, asc-mark-requires, asc-bump-requires, asc-sub-sgm, asc-sgm-requires, asc-close-requires, asc-same-length, asc-same-length-2, asc-same-length-3, asc-returns-2, aso-peek-requires, aso-enum-known-k, aso-enum-told, aso-returns, aso-ascription-requires, aso-asc-requires, aso-same-length, aso-same-length-2, aso-same-length-3, aso-returns-2, aso-returns-3, atm-bump-requires, atm-record-update-requires, atm-sep-requires, atm-close-requires, atm-same-length, atm-same-length-2, atm-same-length-3, atm-returns, atm-hsh-requires, atm-same-length-4, atm-same-length-5, atm-same-length-6, atm-returns-2, atm-bump-requires-2, atm-rnd-requires, atm-same-length-7, atm-same-length-8, atm-same-length-9, atm-returns-3, atm-bump-requires-3, atm-sep-requires-2, atm-close-requires-2, atm-same-length-10, atm-same-length-11, atm-same-length-12, atm-returns-4, atm-lex-requires, atm-same-length-13, atm-same-length-14, atm-same-length-15, atm-returns-5, atm-leaf-requires, atm-same-length-16, atm-same-length-17, atm-same-length-18, atm-returns-6, bdy-dec-requires, bdy-state-requires, bdy-want-requires, bdy-sep-requires, bdy-same-length, bdy-same-length-2, bdy-same-length-3, bdy-returns, cas-fun-left-requires, cas-ty-annotation-requires, cas-state-requires, cas-eq-requires, cas-same-length, cas-same-length-2, cas-same-length-3, cas-returns, cel-lab-requires, cel-eq-requires, cel-same-length, cel-same-length-2, cel-same-length-3, cel-returns, cel-exp-requires, cel-same-length-4, cel-same-length-5, cel-same-length-6, cel-returns-2, cor-bump-vars-requires, cor-mny-requires, cor-close-requires, cor-same-length, cor-same-length-2, cor-same-length-3, cor-returns, cor-bump-vars-requires-2, cor-mny-requires-2, cor-close-requires-2, cor-same-length-4, cor-same-length-5, cor-same-length-6, cor-returns-2, cor-bump-requires, cor-mny-requires-3, cor-close-requires-3, cor-same-length-7, cor-same-length-8, cor-same-length-9, cor-returns-3, cor-bump-requires-2, cor-exp-requires, cor-close-requires-4, cor-same-length-10, cor-same-length-11, cor-same-length-12, cor-returns-4, cor-mds-requires, cor-same-length-13, cor-same-length-14, cor-same-length-15, cor-returns-5, dec-sem-requires, dec-enum-known-turn, dec-enum-known-turn-2, dec-seq-requires, dec-same-length, dec-same-length-2, dec-same-length-3, dec-returns, dec-same-length-4, dec-same-length-5, dec-same-length-6, dec-returns-2, end-refuse-requires, end-want-requires, end-close-requires, end-same-length, end-same-length-2, end-same-length-3, end-returns, end-mark-requires, end-want-requires-2, end-sub-dec, end-dec-requires, end-state-requires, end-close-requires-2, end-want-requires-3, end-close-requires-3, end-same-length-4, end-same-length-5, end-same-length-6, end-returns-2, eq-at-requires, eq-refuse-requires, eq-returns, eq-mark-requires, eq-bump-requires, eq-sub-exp, eq-exp-requires, eq-close-requires, eq-same-length, eq-same-length-2, eq-same-length-3, eq-returns-2, eq-returns-3, exn-op-name-requires, exn-enum-known-name, exn-enum-known-name-2, exn-of-ty-requires, exn-enum-known-typed, exn-eq-requires, exn-enum-known-typed-2, exn-same-length, exn-same-length-2, exn-same-length-3, exn-returns, exn-same-length-4, exn-same-length-5, exn-same-length-6, exn-returns-2, exn-same-length-7, exn-same-length-8, exn-same-length-9, exn-returns-3, exp-pre-requires, exp-enum-known-got, exp-enum-known-got-2, exp-report-requires, exp-same-length, exp-same-length-2, exp-same-length-3, exp-returns, exp-same-length-4, exp-same-length-5, exp-same-length-6, exp-returns-2, fap-bump-requires, fap-want-requires, fap-refuse-requires, fap-dec-requires, fap-state-requires, fap-give-back-requires, fap-app-end-requires, fap-same-length, fap-same-length-2, fap-same-length-3, fap-returns, fap-mark-requires, fap-sub-stx, fap-stx-requires, fap-enum-known-found, fap-close-requires, fap-app-end-requires-2, fap-enum-known-found-2, fap-dec-requires-2, fap-state-requires-2, fap-give-back-requires-2, fap-app-end-requires-3, fap-same-length-4, fap-same-length-5, fap-same-length-6, fap-returns-2, fap-same-length-7, fap-same-length-8, fap-same-length-9, fap-returns-3, fct-eat-requires, fct-enum-known-name, fct-enum-known-name-2, fct-want-requires, fct-par-requires, fct-want-requires-2, fct-aso-requires, fct-want-requires-3, fct-stm-requires, fct-same-length, fct-same-length-2, fct-same-length-3, fct-returns, fct-same-length-4, fct-same-length-5, fct-same-length-6, fct-returns-2}
-use Rattle.exp_dec.proofs.+app+arg+arm+asc+aso+atm+bdy+cas+cel+cor+dec+end+eq+exn+exp+fap+fct+fun+hsh+id+inc+itm+key+lex+loc+mat+mds+mny+one+opr+ops+oth+par+pre+prt+rhs+rnd+rst+sem+sep+seq+sgb+sgm+sgx+slt+stb+sth+stm+stp+stt+stx+tl+val.Proof.Answers2.{fun-bump-if-requires, fun-mny-requires, fun-same-length, fun-same-length-2, fun-same-length-3, fun-returns, hsh-bump-requires, hsh-at-requires, hsh-refuse-requires, hsh-close-requires, hsh-same-length, hsh-returns, hsh-mark-requires, hsh-bump-requires-2, hsh-sub-sep, hsh-sep-requires, hsh-close-requires-2, hsh-close-requires-3, hsh-same-length-2, hsh-same-length-3, hsh-same-length-4, hsh-returns-2, hsh-lab-requires, hsh-close-requires-4, hsh-same-length-5, hsh-same-length-6, hsh-same-length-7, hsh-returns-3, id-fixity-at-requires, id-enum-told, id-app-requires, id-enum-known-fix, id-opr-requires, id-same-length, id-same-length-2, id-same-length-3, id-returns, id-same-length-4, id-same-length-5, id-same-length-6, id-returns-2, inc-Inv-loop, inc-μ-loop, inc-loop-holds, inc-sgx-requires, inc-enum-known-turn, inc-loop-less, inc-loop-again, inc-enum-known-turn-2, inc-same-length, inc-same-length-2, inc-same-length-3, inc-returns, itm-arm-requires, itm-same-length, itm-same-length-2, itm-same-length-3, itm-returns, itm-val-requires, itm-same-length-4, itm-same-length-5, itm-same-length-6, itm-returns-2, itm-fun-requires, itm-same-length-7, itm-same-length-8, itm-same-length-9, itm-returns-3, itm-cas-requires, itm-same-length-10, itm-same-length-11, itm-same-length-12, itm-returns-4, itm-exn-requires, itm-same-length-13, itm-same-length-14, itm-same-length-15, itm-returns-5, itm-stb-requires, itm-same-length-16, itm-same-length-17, itm-same-length-18, itm-returns-6, itm-sgb-requires, itm-same-length-19, itm-same-length-20, itm-same-length-21, itm-returns-7, itm-fct-requires, itm-same-length-22, itm-same-length-23, itm-same-length-24, itm-returns-8, key-mat-requires, key-close-requires, key-same-length, key-same-length-2, key-same-length-3, key-returns, key-exp-requires, key-close-requires-2, key-same-length-4, key-same-length-5, key-same-length-6, key-returns-2, key-want-requires, key-exp-requires-2, key-want-requires-2, key-exp-requires-3, key-close-requires-3, key-same-length-7, key-same-length-8, key-same-length-9, key-returns-3, key-want-requires-3, key-exp-requires-4, key-close-requires-4, key-same-length-10, key-same-length-11, key-same-length-12, key-returns-4, key-want-requires-4, key-mat-requires-2, key-close-requires-5, key-same-length-13, key-same-length-14, key-same-length-15, key-returns-5, lex-bump-requires, lex-bdy-requires, lex-give-back-requires, lex-close-requires, lex-same-length, lex-same-length-2, lex-same-length-3, lex-returns, loc-refuse-requires, loc-end-requires, loc-same-length, loc-same-length-2, loc-same-length-3, loc-returns, loc-mark-requires, loc-bump-requires, loc-sub-dec, loc-dec-requires, loc-state-requires, loc-close-requires, loc-end-requires-2, loc-same-length-4, loc-same-length-5, loc-same-length-6, loc-returns-2, mat-refuse-requires, mat-returns, mat-mark-requires, mat-bump-if-requires, mat-sub-mny, mat-mny-requires, mat-close-requires, mat-same-length, mat-same-length-2, mat-same-length-3, mat-returns-2, mds-bump-requires, mds-mny-requires, mds-close-requires, mds-same-length, mds-same-length-2, mds-same-length-3, mds-returns, mds-bump-requires-2, mds-mny-requires-2, mds-close-requires-2, mds-same-length-4, mds-same-length-5, mds-same-length-6, mds-returns-2, mds-bump-requires-3, mds-mny-requires-3, mds-close-requires-3, mds-same-length-7, mds-same-length-8, mds-same-length-9, mds-returns-3, mds-bump-requires-4, mds-inc-requires, mds-close-requires-4, mds-same-length-10, mds-same-length-11, mds-same-length-12, mds-returns-4, mds-oth-requires, mds-same-length-13, mds-same-length-14, mds-same-length-15, mds-returns-5, mny-Inv-loop, mny-μ-loop, mny-loop-holds, mny-refuse-requires, mny-same-length, mny-same-length-2, mny-same-length-3, mny-returns, mny-mark-requires, mny-sub-itm, mny-itm-requires, mny-enum-known-got, mny-same-length-4, mny-same-length-5, mny-same-length-6, mny-returns-2, mny-enum-known-got-2, mny-at-requires, mny-bump-requires, mny-close-requires, mny-loop-less, mny-loop-again, mny-close-requires-2, mny-same-length-7, mny-same-length-8, mny-same-length-9, mny-returns-3, one-peek-requires, one-enum-known-k, one-enum-told, one-returns, one-refuse-requires, one-returns-2, one-sub-n, one-mark-requires, one-leaf-dec-requires, one-enum-known-got, one-enum-known-got-2, one-cor-requires, one-same-length, one-same-length-2, one-same-length-3, one-returns-3, one-same-length-4, one-same-length-5, one-same-length-6, one-returns-4, opr-should-break-exp-requires, opr-enum-known-ends, opr-enum-known-ends-2, opr-refuse-requires, opr-same-length, opr-same-length-2, opr-same-length-3, opr-returns, opr-mark-requires, opr-bump-requires, opr-sub-rhs, opr-rhs-requires, opr-same-length-4, opr-same-length-5, opr-same-length-6, opr-returns-2, opr-same-length-7, opr-same-length-8, opr-same-length-9, opr-returns-3}
-use Rattle.exp_dec.proofs.+app+arg+arm+asc+aso+atm+bdy+cas+cel+cor+dec+end+eq+exn+exp+fap+fct+fun+hsh+id+inc+itm+key+lex+loc+mat+mds+mny+one+opr+ops+oth+par+pre+prt+rhs+rnd+rst+sem+sep+seq+sgb+sgm+sgx+slt+stb+sth+stm+stp+stt+stx+tl+val.Proof.Answers3.{ops-Inv-loop, ops-μ-loop, ops-loop-holds, ops-stp-requires, ops-enum-known-turn, ops-loop-less, ops-loop-again, ops-enum-known-turn-2, ops-same-length, ops-same-length-2, ops-same-length-3, ops-returns, oth-bump-requires, oth-dat-binds-requires, oth-want-requires, oth-dec-requires, oth-state-requires, oth-want-requires-2, oth-close-requires, oth-same-length, oth-same-length-2, oth-same-length-3, oth-returns, oth-loc-requires, oth-same-length-4, oth-same-length-5, oth-same-length-6, oth-returns-2, oth-pre-requires, oth-enum-known-got, oth-enum-known-got-2, oth-close-requires-2, oth-same-length-7, oth-same-length-8, oth-same-length-9, oth-returns-3, oth-same-length-10, oth-same-length-11, oth-same-length-12, oth-returns-4, par-at-requires, par-refuse-requires, par-returns, par-mark-requires, par-bump-requires, par-bump-ascription-requires, par-sub-sgm, par-sgm-requires, par-close-requires, par-same-length, par-same-length-2, par-same-length-3, par-returns-2, par-dec-requires, par-state-requires, par-same-length-4, par-same-length-5, par-same-length-6, par-returns-3, pre-peek-requires, pre-enum-known-k, pre-enum-told, pre-returns, pre-refuse-requires, pre-rst-requires, pre-same-length, pre-same-length-2, pre-same-length-3, pre-returns-2, pre-mark-requires, pre-starts-requires, pre-keyword-requires, pre-sub-key, pre-key-requires, pre-same-length-4, pre-same-length-5, pre-same-length-6, pre-returns-3, pre-rst-requires-2, pre-same-length-7, pre-same-length-8, pre-same-length-9, pre-returns-4, prt-tl-requires, prt-same-length, prt-same-length-2, prt-same-length-3, prt-returns, prt-one-requires, prt-same-length-4, prt-same-length-5, prt-same-length-6, prt-returns-2, rhs-is-ascribed-requires, rhs-ty-must-requires, rhs-close-requires, rhs-same-length, rhs-same-length-2, rhs-same-length-3, rhs-returns, rhs-is-handle-requires, rhs-mat-requires, rhs-close-requires-2, rhs-same-length-4, rhs-same-length-5, rhs-same-length-6, rhs-returns-2, rhs-is-andalso-requires, rhs-exp-requires, rhs-close-requires-3, rhs-same-length-7, rhs-same-length-8, rhs-same-length-9, rhs-returns-3, rhs-is-orelse-requires, rhs-exp-requires-2, rhs-close-requires-4, rhs-same-length-10, rhs-same-length-11, rhs-same-length-12, rhs-returns-4, rhs-exp-requires-3, rhs-close-requires-5, rhs-same-length-13, rhs-same-length-14, rhs-same-length-15, rhs-returns-5, rnd-at-requires, rnd-bump-requires, rnd-close-requires, rnd-same-length, rnd-returns, rnd-refuse-requires, rnd-paren-end-requires, rnd-same-length-2, rnd-same-length-3, rnd-same-length-4, rnd-returns-2, rnd-mark-requires, rnd-sub-exp, rnd-exp-requires, rnd-peek-requires, rnd-enum-known-k, rnd-enum-told, rnd-paren-end-requires-2, rnd-same-length-5, rnd-same-length-6, rnd-same-length-7, rnd-returns-3, rnd-bump-requires-2, rnd-close-requires-2, rnd-sep-requires, rnd-close-requires-3, rnd-same-length-8, rnd-same-length-9, rnd-same-length-10, rnd-returns-4, rnd-bump-requires-3, rnd-close-requires-4, rnd-sep-requires-2, rnd-close-requires-5, rnd-same-length-11, rnd-same-length-12, rnd-same-length-13, rnd-returns-5, rnd-paren-end-requires-3, rnd-same-length-14, rnd-same-length-15, rnd-same-length-16, rnd-returns-6, rst-peek-requires, rst-enum-known-k, rst-enum-told, rst-returns, rst-refuse-requires, rst-returns-2, rst-mark-requires, rst-sub-atm, rst-atm-requires, rst-enum-known-head, rst-enum-known-head-2, rst-ops-requires, rst-same-length, rst-same-length-2, rst-same-length-3, rst-returns-3, rst-same-length-4, rst-same-length-5, rst-same-length-6, rst-returns-4, sem-refuse-requires, sem-returns, sem-mark-requires, sem-sub-prt, sem-prt-requires, sem-enum-known-got, sem-enum-known-got-2, sem-bump-if-requires, sem-close-requires, sem-same-length, sem-same-length-2, sem-same-length-3, sem-returns-2, sem-same-length-4, sem-same-length-5, sem-same-length-6, sem-returns-3, sep-Inv-loop, sep-μ-loop, sep-loop-holds, sep-at-requires, sep-bump-requires, sep-same-length, sep-same-length-2, sep-same-length-3, sep-returns, sep-refuse-requires, sep-eat-requires, sep-state-requires, sep-same-length-4, sep-same-length-5, sep-same-length-6, sep-returns-2, sep-mark-requires, sep-sub-cel, sep-cel-requires, sep-at-requires-2, sep-bump-requires-2, sep-close-requires, sep-loop-less, sep-loop-again, sep-close-requires-2, sep-eat-requires-2, sep-state-requires-2, sep-same-length-7, sep-same-length-8, sep-same-length-9, sep-returns-3}
-use Rattle.exp_dec.proofs.+app+arg+arm+asc+aso+atm+bdy+cas+cel+cor+dec+end+eq+exn+exp+fap+fct+fun+hsh+id+inc+itm+key+lex+loc+mat+mds+mny+one+opr+ops+oth+par+pre+prt+rhs+rnd+rst+sem+sep+seq+sgb+sgm+sgx+slt+stb+sth+stm+stp+stt+stx+tl+val.Proof.Answers4.{seq-Inv-loop, seq-μ-loop, seq-loop-holds, seq-sem-requires, seq-enum-known-turn, seq-loop-less, seq-loop-again, seq-enum-known-turn-2, seq-same-length, seq-same-length-2, seq-same-length-3, seq-returns, sgb-eat-requires, sgb-enum-known-name, sgb-enum-known-name-2, sgb-want-requires, sgb-sgm-requires, sgb-same-length, sgb-same-length-2, sgb-same-length-3, sgb-returns, sgb-same-length-4, sgb-same-length-5, sgb-same-length-6, sgb-returns-2, sgm-sgx-requires, sgm-enum-known-got, sgm-enum-known-got-2, sgm-report-requires, sgm-same-length, sgm-same-length-2, sgm-same-length-3, sgm-returns, sgm-same-length-4, sgm-same-length-5, sgm-same-length-6, sgm-returns-2, sgx-peek-requires, sgx-enum-known-k, sgx-enum-told, sgx-returns, sgx-refuse-requires, sgx-returns-2, sgx-mark-requires, sgx-bump-requires, sgx-sub-dec, sgx-dec-requires, sgx-state-requires, sgx-give-back-requires, sgx-want-requires, sgx-close-requires, sgx-wheres-requires, sgx-same-length, sgx-same-length-2, sgx-same-length-3, sgx-returns-3, sgx-bump-requires-2, sgx-close-requires-2, sgx-wheres-requires-2, sgx-same-length-4, sgx-same-length-5, sgx-same-length-6, sgx-returns-4, sgx-returns-5, slt-dec-requires, slt-state-requires, slt-want-requires, slt-stm-requires, slt-same-length, slt-same-length-2, slt-same-length-3, slt-returns, stb-eat-requires, stb-enum-known-name, stb-enum-known-name-2, stb-aso-requires, stb-at-requires, stb-refuse-requires, stb-same-length, stb-same-length-2, stb-same-length-3, stb-returns, stb-mark-requires, stb-bump-requires, stb-sub-stm, stb-stm-requires, stb-close-requires, stb-same-length-4, stb-same-length-5, stb-same-length-6, stb-returns-2, stb-same-length-7, stb-same-length-8, stb-same-length-9, stb-returns-3, stb-same-length-10, stb-same-length-11, stb-same-length-12, stb-returns-4, sth-bump-requires, sth-dec-requires, sth-state-requires, sth-give-back-requires, sth-want-requires, sth-close-requires, sth-same-length, sth-same-length-2, sth-same-length-3, sth-returns, sth-bump-requires-2, sth-slt-requires, sth-give-back-requires-2, sth-want-requires-2, sth-close-requires-2, sth-same-length-4, sth-same-length-5, sth-same-length-6, sth-returns-2, sth-at-n-requires, sth-fap-requires, sth-same-length-7, sth-same-length-8, sth-same-length-9, sth-returns-3, sth-str-path-requires, sth-same-length-10, sth-same-length-11, sth-same-length-12, sth-returns-4, sth-returns-5, stm-stx-requires, stm-enum-known-got, stm-enum-known-got-2, stm-report-requires, stm-same-length, stm-same-length-2, stm-same-length-3, stm-returns, stm-same-length-4, stm-same-length-5, stm-same-length-6, stm-returns-2, stp-peek-requires, stp-enum-known-k, stp-enum-told, stp-returns, stp-name-star-eq-requires, stp-id-requires, stp-same-length, stp-same-length-2, stp-same-length-3, stp-returns-2, stp-ascription-requires, stp-opr-requires, stp-same-length-4, stp-same-length-5, stp-same-length-6, stp-returns-3, stp-opr-requires-2, stp-same-length-7, stp-same-length-8, stp-same-length-9, stp-returns-4, stp-opr-requires-3, stp-same-length-10, stp-same-length-11, stp-same-length-12, stp-returns-5, stp-opr-requires-4, stp-same-length-13, stp-same-length-14, stp-same-length-15, stp-returns-6, stp-starts-arg-requires, stp-app-requires, stp-same-length-16, stp-same-length-17, stp-same-length-18, stp-returns-7, stp-returns-8, stt-Inv-loop, stt-μ-loop, stt-loop-holds, stt-peek-requires, stt-enum-known-k, stt-enum-told, stt-same-length, stt-same-length-2, stt-same-length-3, stt-returns, stt-ascription-requires, stt-refuse-requires, stt-loop-less, stt-loop-again, stt-mark-requires, stt-sub-asc, stt-asc-requires, stt-close-requires, stt-loop-less-2, stt-loop-again-2, stt-same-length-4, stt-same-length-5, stt-same-length-6, stt-returns-2, stx-peek-requires, stx-enum-known-k, stx-enum-told, stx-returns, stx-refuse-requires, stx-returns-2, stx-mark-requires, stx-sub-sth, stx-sth-requires, stx-enum-known-head, stx-enum-known-head-2, stx-stt-requires, stx-same-length, stx-same-length-2, stx-same-length-3, stx-returns-3, stx-same-length-4, stx-same-length-5, stx-same-length-6, stx-returns-4, tl-refuse-requires, tl-returns, tl-sub-n, tl-mark-requires, tl-sem-requires, tl-enum-known-turn, tl-sharings-requires, tl-enum-known-more, tl-close-requires, tl-enum-known-more-2, tl-close-requires-2, tl-enum-known-turn-2, tl-seq-requires, tl-sharings-requires-2, tl-state-requires, tl-close-requires-3, tl-same-length, tl-same-length-2, tl-same-length-3, tl-returns-2, tl-same-length-4, tl-same-length-5, tl-same-length-6, tl-returns-3, tl-same-length-7, tl-same-length-8, tl-same-length-9, tl-returns-4, val-rec-pat-requires, val-enum-known-got, val-enum-known-got-2, val-eq-requires, val-same-length, val-same-length-2, val-same-length-3, val-returns, val-same-length-4, val-same-length-5, val-same-length-6, val-returns-2}
+use Rattle.exp_dec.proofs.+app+arg+arm+asc+aso+atm+bdy+cas+cel+cor+dec+end+eq+exn+exp+fap+fct+fun+hsh+id+inc+itm+key+lex+loc+mat+mds+mny+one+opr+ops+oth+par+pre+prt+rhs+rnd+rst+sem+sep+seq+sgb+sgm+sgx+slt+stb+sth+stm+stp+stt+stx+tl+val.{
+  statement,
+}
+use Rattle.exp_dec.proofs.+app+arg+arm+asc+aso+atm+bdy+cas+cel+cor+dec+end+eq+exn+exp+fap+fct+fun+hsh+id+inc+itm+key+lex+loc+mat+mds+mny+one+opr+ops+oth+par+pre+prt+rhs+rnd+rst+sem+sep+seq+sgb+sgm+sgx+slt+stb+sth+stm+stp+stt+stx+tl+val.Tie.{
+  close,
+}
+
+abbrev μ-app : Measures 6 app-kinds.ps ℕ
+μ-app κs a = 64 * a .1 .1 .1 .1 .1 .1 .0
+
+abbrev μ-arg : Measures 6 arg-kinds.ps ℕ
+μ-arg κs a = 64 * a .1 .1 .1 .1 .1 .1 .0
+
+abbrev μ-arm : Measures 6 arm-kinds.ps ℕ
+μ-arm κs a = 64 * a .1 .1 .1 .1 .1 .1 .0 + 7
+
+abbrev μ-asc : Measures 6 asc-kinds.ps ℕ
+μ-asc κs a = 64 * a .1 .1 .1 .1 .1 .1 .0
+
+abbrev μ-aso : Measures 6 aso-kinds.ps ℕ
+μ-aso κs a = 64 * a .1 .1 .1 .1 .1 .1 .0 + 1
+
+abbrev μ-atm : Measures 6 atm-kinds.ps ℕ
+μ-atm κs a = 64 * a .1 .1 .1 .1 .1 .1 .0 + 5
+
+abbrev μ-bdy : Measures 6 bdy-kinds.ps ℕ
+μ-bdy κs a = 64 * a .1 .1 .1 .1 .1 .1 .0 + 3
+
+abbrev μ-cas : Measures 6 cas-kinds.ps ℕ
+μ-cas κs a = 64 * a .1 .1 .1 .1 .1 .1 .0 + 1
+
+abbrev μ-cel : Measures 6 cel-kinds.ps ℕ
+μ-cel κs a = 64 * a .1 .1 .1 .1 .1 .1 .0 + 7
+
+abbrev μ-cor : Measures 6 cor-kinds.ps ℕ
+μ-cor κs a = 64 * a .1 .1 .1 .1 .1 .1 .0 + 8
+
+abbrev μ-dec : Measures 6 dec-kinds.ps ℕ
+μ-dec κs a = 64 * a .1 .1 .1 .1 .1 .1 .0 + 2
+
+abbrev μ-end : Measures 6 end-kinds.ps ℕ
+μ-end κs a = 64 * a .1 .1 .1 .1 .1 .1 .0
+
+abbrev μ-eq : Measures 6 eq-kinds.ps ℕ
+μ-eq κs a = 64 * a .1 .1 .1 .1 .1 .1 .0
+
+abbrev μ-exn : Measures 6 exn-kinds.ps ℕ
+μ-exn κs a = 64 * a .1 .1 .1 .1 .1 .1 .0 + 1
+
+abbrev μ-exp : Measures 6 exp-kinds.ps ℕ
+μ-exp κs a = 64 * a .1 .1 .1 .1 .1 .1 .0 + 6
+
+abbrev μ-fap : Measures 6 fap-kinds.ps ℕ
+μ-fap κs a = 64 * a .1 .1 .1 .1 .1 .1 .0 + 3
+
+abbrev μ-fct : Measures 6 fct-kinds.ps ℕ
+μ-fct κs a = 64 * a .1 .1 .1 .1 .1 .1 .0 + 4
+
+abbrev μ-fun : Measures 6 fun-kinds.ps ℕ
+μ-fun κs a = 64 * a .1 .1 .1 .1 .1 .1 .0 + 1
+
+abbrev μ-hsh : Measures 6 hsh-kinds.ps ℕ
+μ-hsh κs a = 64 * a .1 .1 .1 .1 .1 .1 .0
+
+abbrev μ-id : Measures 6 id-kinds.ps ℕ
+μ-id κs a = 64 * a .1 .1 .1 .1 .1 .1 .0 + 1
+
+abbrev μ-inc : Measures 6 inc-kinds.ps ℕ
+μ-inc κs a = 64 * a .1 .1 .1 .1 .1 .1 .0 + 1
+
+abbrev μ-itm : Measures 6 itm-kinds.ps ℕ
+μ-itm κs a = 64 * a .1 .1 .1 .1 .1 .1 .0 + 8
+
+abbrev μ-key : Measures 6 key-kinds.ps ℕ
+μ-key κs a = 64 * a .1 .1 .1 .1 .1 .1 .0 + 7
+
+abbrev μ-lex : Measures 6 lex-kinds.ps ℕ
+μ-lex κs a = 64 * a .1 .1 .1 .1 .1 .1 .0 + 4
+
+abbrev μ-loc : Measures 6 loc-kinds.ps ℕ
+μ-loc κs a = 64 * a .1 .1 .1 .1 .1 .1 .0 + 1
+
+abbrev μ-mat : Measures 6 mat-kinds.ps ℕ
+μ-mat κs a = 64 * a .1 .1 .1 .1 .1 .1 .0
+
+abbrev μ-mds : Measures 6 mds-kinds.ps ℕ
+μ-mds κs a = 64 * a .1 .1 .1 .1 .1 .1 .0 + 7
+
+abbrev μ-mny : Measures 6 mny-kinds.ps ℕ
+μ-mny κs a = 64 * a .1 .1 .1 .1 .1 .1 .0
+
+abbrev μ-one : Measures 6 one-kinds.ps ℕ
+μ-one κs a = 64 * a .1 .1 .1 .1 .1 .1 .0
+
+abbrev μ-opr : Measures 6 opr-kinds.ps ℕ
+μ-opr κs a = 64 * a .1 .1 .1 .1 .1 .1 .0
+
+abbrev μ-ops : Measures 6 ops-kinds.ps ℕ
+μ-ops κs a = 64 * a .1 .1 .1 .1 .1 .1 .0 + 3
+
+abbrev μ-oth : Measures 6 oth-kinds.ps ℕ
+μ-oth κs a = 64 * a .1 .1 .1 .1 .1 .1 .0 + 6
+
+abbrev μ-par : Measures 6 par-kinds.ps ℕ
+μ-par κs a = 64 * a .1 .1 .1 .1 .1 .1 .0 + 3
+
+abbrev μ-pre : Measures 6 pre-kinds.ps ℕ
+μ-pre κs a = 64 * a .1 .1 .1 .1 .1 .1 .0 + 5
+
+abbrev μ-prt : Measures 6 prt-kinds.ps ℕ
+μ-prt κs a = 64 * a .1 .1 .1 .1 .1 .1 .0 + 1
+
+abbrev μ-rhs : Measures 6 rhs-kinds.ps ℕ
+μ-rhs κs a = 64 * a .1 .1 .1 .1 .1 .1 .0 + 7
+
+abbrev μ-rnd : Measures 6 rnd-kinds.ps ℕ
+μ-rnd κs a = 64 * a .1 .1 .1 .1 .1 .1 .0 + 1
+
+abbrev μ-rst : Measures 6 rst-kinds.ps ℕ
+μ-rst κs a = 64 * a .1 .1 .1 .1 .1 .1 .0 + 4
+
+abbrev μ-sem : Measures 6 sem-kinds.ps ℕ
+μ-sem κs a = 64 * a .1 .1 .1 .1 .1 .1 .0
+
+abbrev μ-sep : Measures 6 sep-kinds.ps ℕ
+μ-sep κs a = 64 * a .1 .1 .1 .1 .1 .1 .0
+
+abbrev μ-seq : Measures 6 seq-kinds.ps ℕ
+μ-seq κs a = 64 * a .1 .1 .1 .1 .1 .1 .0 + 1
+
+abbrev μ-sgb : Measures 6 sgb-kinds.ps ℕ
+μ-sgb κs a = 64 * a .1 .1 .1 .1 .1 .1 .0 + 2
+
+abbrev μ-sgm : Measures 6 sgm-kinds.ps ℕ
+μ-sgm κs a = 64 * a .1 .1 .1 .1 .1 .1 .0 + 1
+
+abbrev μ-sgx : Measures 6 sgx-kinds.ps ℕ
+μ-sgx κs a = 64 * a .1 .1 .1 .1 .1 .1 .0
+
+abbrev μ-slt : Measures 6 slt-kinds.ps ℕ
+μ-slt κs a = 64 * a .1 .1 .1 .1 .1 .1 .0 + 3
+
+abbrev μ-stb : Measures 6 stb-kinds.ps ℕ
+μ-stb κs a = 64 * a .1 .1 .1 .1 .1 .1 .0 + 2
+
+abbrev μ-sth : Measures 6 sth-kinds.ps ℕ
+μ-sth κs a = 64 * a .1 .1 .1 .1 .1 .1 .0 + 4
+
+abbrev μ-stm : Measures 6 stm-kinds.ps ℕ
+μ-stm κs a = 64 * a .1 .1 .1 .1 .1 .1 .0 + 2
+
+abbrev μ-stp : Measures 6 stp-kinds.ps ℕ
+μ-stp κs a = 64 * a .1 .1 .1 .1 .1 .1 .0 + 2
+
+abbrev μ-stt : Measures 6 stt-kinds.ps ℕ
+μ-stt κs a = 64 * a .1 .1 .1 .1 .1 .1 .0
+
+abbrev μ-stx : Measures 6 stx-kinds.ps ℕ
+μ-stx κs a = 64 * a .1 .1 .1 .1 .1 .1 .0 + 1
+
+abbrev μ-tl : Measures 6 tl-kinds.ps ℕ
+μ-tl κs a = 64 * a .1 .1 .1 .1 .1 .1 .0
+
+abbrev μ-val : Measures 6 val-kinds.ps ℕ
+μ-val κs a = 64 * a .1 .1 .1 .1 .1 .1 .0 + 1
+
+abbrev app-at : ℕ → In 6 app-kinds.ps
+app-at t = and 6 app-kinds.ps (is 6 app-kinds.ps μ-app t) app.Pre
+
+abbrev app-below : ℕ → In 6 app-kinds.ps
+app-below t = and 6 app-kinds.ps (falls 6 app-kinds.ps _<_ μ-app t) app.Pre
+
+abbrev arg-at : ℕ → In 6 arg-kinds.ps
+arg-at t = and 6 arg-kinds.ps (is 6 arg-kinds.ps μ-arg t) arg.Pre
+
+abbrev arg-below : ℕ → In 6 arg-kinds.ps
+arg-below t = and 6 arg-kinds.ps (falls 6 arg-kinds.ps _<_ μ-arg t) arg.Pre
+
+abbrev arm-at : ℕ → In 6 arm-kinds.ps
+arm-at t = and 6 arm-kinds.ps (is 6 arm-kinds.ps μ-arm t) arm.Pre
+
+abbrev arm-below : ℕ → In 6 arm-kinds.ps
+arm-below t = and 6 arm-kinds.ps (falls 6 arm-kinds.ps _<_ μ-arm t) arm.Pre
+
+abbrev asc-at : ℕ → In 6 asc-kinds.ps
+asc-at t = and 6 asc-kinds.ps (is 6 asc-kinds.ps μ-asc t) asc.Pre
+
+abbrev asc-below : ℕ → In 6 asc-kinds.ps
+asc-below t = and 6 asc-kinds.ps (falls 6 asc-kinds.ps _<_ μ-asc t) asc.Pre
+
+abbrev aso-at : ℕ → In 6 aso-kinds.ps
+aso-at t = and 6 aso-kinds.ps (is 6 aso-kinds.ps μ-aso t) aso.Pre
+
+abbrev aso-below : ℕ → In 6 aso-kinds.ps
+aso-below t = and 6 aso-kinds.ps (falls 6 aso-kinds.ps _<_ μ-aso t) aso.Pre
+
+abbrev atm-at : ℕ → In 6 atm-kinds.ps
+atm-at t = and 6 atm-kinds.ps (is 6 atm-kinds.ps μ-atm t) atm.Pre
+
+abbrev atm-below : ℕ → In 6 atm-kinds.ps
+atm-below t = and 6 atm-kinds.ps (falls 6 atm-kinds.ps _<_ μ-atm t) atm.Pre
+
+abbrev bdy-at : ℕ → In 6 bdy-kinds.ps
+bdy-at t = and 6 bdy-kinds.ps (is 6 bdy-kinds.ps μ-bdy t) bdy.Pre
+
+abbrev bdy-below : ℕ → In 6 bdy-kinds.ps
+bdy-below t = and 6 bdy-kinds.ps (falls 6 bdy-kinds.ps _<_ μ-bdy t) bdy.Pre
+
+abbrev cas-at : ℕ → In 6 cas-kinds.ps
+cas-at t = and 6 cas-kinds.ps (is 6 cas-kinds.ps μ-cas t) cas.Pre
+
+abbrev cas-below : ℕ → In 6 cas-kinds.ps
+cas-below t = and 6 cas-kinds.ps (falls 6 cas-kinds.ps _<_ μ-cas t) cas.Pre
+
+abbrev cel-at : ℕ → In 6 cel-kinds.ps
+cel-at t = and 6 cel-kinds.ps (is 6 cel-kinds.ps μ-cel t) cel.Pre
+
+abbrev cel-below : ℕ → In 6 cel-kinds.ps
+cel-below t = and 6 cel-kinds.ps (falls 6 cel-kinds.ps _<_ μ-cel t) cel.Pre
+
+abbrev cor-at : ℕ → In 6 cor-kinds.ps
+cor-at t = and 6 cor-kinds.ps (is 6 cor-kinds.ps μ-cor t) cor.Pre
+
+abbrev cor-below : ℕ → In 6 cor-kinds.ps
+cor-below t = and 6 cor-kinds.ps (falls 6 cor-kinds.ps _<_ μ-cor t) cor.Pre
+
+abbrev dec-at : ℕ → In 6 dec-kinds.ps
+dec-at t = and 6 dec-kinds.ps (is 6 dec-kinds.ps μ-dec t) dec.Pre
+
+abbrev dec-below : ℕ → In 6 dec-kinds.ps
+dec-below t = and 6 dec-kinds.ps (falls 6 dec-kinds.ps _<_ μ-dec t) dec.Pre
+
+abbrev end-at : ℕ → In 6 end-kinds.ps
+end-at t = and 6 end-kinds.ps (is 6 end-kinds.ps μ-end t) end.Pre
+
+abbrev end-below : ℕ → In 6 end-kinds.ps
+end-below t = and 6 end-kinds.ps (falls 6 end-kinds.ps _<_ μ-end t) end.Pre
+
+abbrev eq-at : ℕ → In 6 eq-kinds.ps
+eq-at t = and 6 eq-kinds.ps (is 6 eq-kinds.ps μ-eq t) eq.Pre
+
+abbrev eq-below : ℕ → In 6 eq-kinds.ps
+eq-below t = and 6 eq-kinds.ps (falls 6 eq-kinds.ps _<_ μ-eq t) eq.Pre
+
+abbrev exn-at : ℕ → In 6 exn-kinds.ps
+exn-at t = and 6 exn-kinds.ps (is 6 exn-kinds.ps μ-exn t) exn.Pre
+
+abbrev exn-below : ℕ → In 6 exn-kinds.ps
+exn-below t = and 6 exn-kinds.ps (falls 6 exn-kinds.ps _<_ μ-exn t) exn.Pre
+
+abbrev exp-at : ℕ → In 6 exp-kinds.ps
+exp-at t = and 6 exp-kinds.ps (is 6 exp-kinds.ps μ-exp t) exp.Pre
+
+abbrev exp-below : ℕ → In 6 exp-kinds.ps
+exp-below t = and 6 exp-kinds.ps (falls 6 exp-kinds.ps _<_ μ-exp t) exp.Pre
+
+abbrev fap-at : ℕ → In 6 fap-kinds.ps
+fap-at t = and 6 fap-kinds.ps (is 6 fap-kinds.ps μ-fap t) fap.Pre
+
+abbrev fap-below : ℕ → In 6 fap-kinds.ps
+fap-below t = and 6 fap-kinds.ps (falls 6 fap-kinds.ps _<_ μ-fap t) fap.Pre
+
+abbrev fct-at : ℕ → In 6 fct-kinds.ps
+fct-at t = and 6 fct-kinds.ps (is 6 fct-kinds.ps μ-fct t) fct.Pre
+
+abbrev fct-below : ℕ → In 6 fct-kinds.ps
+fct-below t = and 6 fct-kinds.ps (falls 6 fct-kinds.ps _<_ μ-fct t) fct.Pre
+
+abbrev fun-at : ℕ → In 6 fun-kinds.ps
+fun-at t = and 6 fun-kinds.ps (is 6 fun-kinds.ps μ-fun t) fun.Pre
+
+abbrev fun-below : ℕ → In 6 fun-kinds.ps
+fun-below t = and 6 fun-kinds.ps (falls 6 fun-kinds.ps _<_ μ-fun t) fun.Pre
+
+abbrev hsh-at : ℕ → In 6 hsh-kinds.ps
+hsh-at t = and 6 hsh-kinds.ps (is 6 hsh-kinds.ps μ-hsh t) hsh.Pre
+
+abbrev hsh-below : ℕ → In 6 hsh-kinds.ps
+hsh-below t = and 6 hsh-kinds.ps (falls 6 hsh-kinds.ps _<_ μ-hsh t) hsh.Pre
+
+abbrev id-at : ℕ → In 6 id-kinds.ps
+id-at t = and 6 id-kinds.ps (is 6 id-kinds.ps μ-id t) id.Pre
+
+abbrev id-below : ℕ → In 6 id-kinds.ps
+id-below t = and 6 id-kinds.ps (falls 6 id-kinds.ps _<_ μ-id t) id.Pre
+
+abbrev inc-at : ℕ → In 6 inc-kinds.ps
+inc-at t = and 6 inc-kinds.ps (is 6 inc-kinds.ps μ-inc t) inc.Pre
+
+abbrev inc-below : ℕ → In 6 inc-kinds.ps
+inc-below t = and 6 inc-kinds.ps (falls 6 inc-kinds.ps _<_ μ-inc t) inc.Pre
+
+abbrev itm-at : ℕ → In 6 itm-kinds.ps
+itm-at t = and 6 itm-kinds.ps (is 6 itm-kinds.ps μ-itm t) itm.Pre
+
+abbrev itm-below : ℕ → In 6 itm-kinds.ps
+itm-below t = and 6 itm-kinds.ps (falls 6 itm-kinds.ps _<_ μ-itm t) itm.Pre
+
+abbrev key-at : ℕ → In 6 key-kinds.ps
+key-at t = and 6 key-kinds.ps (is 6 key-kinds.ps μ-key t) key.Pre
+
+abbrev key-below : ℕ → In 6 key-kinds.ps
+key-below t = and 6 key-kinds.ps (falls 6 key-kinds.ps _<_ μ-key t) key.Pre
+
+abbrev lex-at : ℕ → In 6 lex-kinds.ps
+lex-at t = and 6 lex-kinds.ps (is 6 lex-kinds.ps μ-lex t) lex.Pre
+
+abbrev lex-below : ℕ → In 6 lex-kinds.ps
+lex-below t = and 6 lex-kinds.ps (falls 6 lex-kinds.ps _<_ μ-lex t) lex.Pre
+
+abbrev loc-at : ℕ → In 6 loc-kinds.ps
+loc-at t = and 6 loc-kinds.ps (is 6 loc-kinds.ps μ-loc t) loc.Pre
+
+abbrev loc-below : ℕ → In 6 loc-kinds.ps
+loc-below t = and 6 loc-kinds.ps (falls 6 loc-kinds.ps _<_ μ-loc t) loc.Pre
+
+abbrev mat-at : ℕ → In 6 mat-kinds.ps
+mat-at t = and 6 mat-kinds.ps (is 6 mat-kinds.ps μ-mat t) mat.Pre
+
+abbrev mat-below : ℕ → In 6 mat-kinds.ps
+mat-below t = and 6 mat-kinds.ps (falls 6 mat-kinds.ps _<_ μ-mat t) mat.Pre
+
+abbrev mds-at : ℕ → In 6 mds-kinds.ps
+mds-at t = and 6 mds-kinds.ps (is 6 mds-kinds.ps μ-mds t) mds.Pre
+
+abbrev mds-below : ℕ → In 6 mds-kinds.ps
+mds-below t = and 6 mds-kinds.ps (falls 6 mds-kinds.ps _<_ μ-mds t) mds.Pre
+
+abbrev mny-at : ℕ → In 6 mny-kinds.ps
+mny-at t = and 6 mny-kinds.ps (is 6 mny-kinds.ps μ-mny t) mny.Pre
+
+abbrev mny-below : ℕ → In 6 mny-kinds.ps
+mny-below t = and 6 mny-kinds.ps (falls 6 mny-kinds.ps _<_ μ-mny t) mny.Pre
+
+abbrev one-at : ℕ → In 6 one-kinds.ps
+one-at t = and 6 one-kinds.ps (is 6 one-kinds.ps μ-one t) one.Pre
+
+abbrev one-below : ℕ → In 6 one-kinds.ps
+one-below t = and 6 one-kinds.ps (falls 6 one-kinds.ps _<_ μ-one t) one.Pre
+
+abbrev opr-at : ℕ → In 6 opr-kinds.ps
+opr-at t = and 6 opr-kinds.ps (is 6 opr-kinds.ps μ-opr t) opr.Pre
+
+abbrev opr-below : ℕ → In 6 opr-kinds.ps
+opr-below t = and 6 opr-kinds.ps (falls 6 opr-kinds.ps _<_ μ-opr t) opr.Pre
+
+abbrev ops-at : ℕ → In 6 ops-kinds.ps
+ops-at t = and 6 ops-kinds.ps (is 6 ops-kinds.ps μ-ops t) ops.Pre
+
+abbrev ops-below : ℕ → In 6 ops-kinds.ps
+ops-below t = and 6 ops-kinds.ps (falls 6 ops-kinds.ps _<_ μ-ops t) ops.Pre
+
+abbrev oth-at : ℕ → In 6 oth-kinds.ps
+oth-at t = and 6 oth-kinds.ps (is 6 oth-kinds.ps μ-oth t) oth.Pre
+
+abbrev oth-below : ℕ → In 6 oth-kinds.ps
+oth-below t = and 6 oth-kinds.ps (falls 6 oth-kinds.ps _<_ μ-oth t) oth.Pre
+
+abbrev par-at : ℕ → In 6 par-kinds.ps
+par-at t = and 6 par-kinds.ps (is 6 par-kinds.ps μ-par t) par.Pre
+
+abbrev par-below : ℕ → In 6 par-kinds.ps
+par-below t = and 6 par-kinds.ps (falls 6 par-kinds.ps _<_ μ-par t) par.Pre
+
+abbrev pre-at : ℕ → In 6 pre-kinds.ps
+pre-at t = and 6 pre-kinds.ps (is 6 pre-kinds.ps μ-pre t) pre.Pre
+
+abbrev pre-below : ℕ → In 6 pre-kinds.ps
+pre-below t = and 6 pre-kinds.ps (falls 6 pre-kinds.ps _<_ μ-pre t) pre.Pre
+
+abbrev prt-at : ℕ → In 6 prt-kinds.ps
+prt-at t = and 6 prt-kinds.ps (is 6 prt-kinds.ps μ-prt t) prt.Pre
+
+abbrev prt-below : ℕ → In 6 prt-kinds.ps
+prt-below t = and 6 prt-kinds.ps (falls 6 prt-kinds.ps _<_ μ-prt t) prt.Pre
+
+abbrev rhs-at : ℕ → In 6 rhs-kinds.ps
+rhs-at t = and 6 rhs-kinds.ps (is 6 rhs-kinds.ps μ-rhs t) rhs.Pre
+
+abbrev rhs-below : ℕ → In 6 rhs-kinds.ps
+rhs-below t = and 6 rhs-kinds.ps (falls 6 rhs-kinds.ps _<_ μ-rhs t) rhs.Pre
+
+abbrev rnd-at : ℕ → In 6 rnd-kinds.ps
+rnd-at t = and 6 rnd-kinds.ps (is 6 rnd-kinds.ps μ-rnd t) rnd.Pre
+
+abbrev rnd-below : ℕ → In 6 rnd-kinds.ps
+rnd-below t = and 6 rnd-kinds.ps (falls 6 rnd-kinds.ps _<_ μ-rnd t) rnd.Pre
+
+abbrev rst-at : ℕ → In 6 rst-kinds.ps
+rst-at t = and 6 rst-kinds.ps (is 6 rst-kinds.ps μ-rst t) rst.Pre
+
+abbrev rst-below : ℕ → In 6 rst-kinds.ps
+rst-below t = and 6 rst-kinds.ps (falls 6 rst-kinds.ps _<_ μ-rst t) rst.Pre
+
+abbrev sem-at : ℕ → In 6 sem-kinds.ps
+sem-at t = and 6 sem-kinds.ps (is 6 sem-kinds.ps μ-sem t) sem.Pre
+
+abbrev sem-below : ℕ → In 6 sem-kinds.ps
+sem-below t = and 6 sem-kinds.ps (falls 6 sem-kinds.ps _<_ μ-sem t) sem.Pre
+
+abbrev sep-at : ℕ → In 6 sep-kinds.ps
+sep-at t = and 6 sep-kinds.ps (is 6 sep-kinds.ps μ-sep t) sep.Pre
+
+abbrev sep-below : ℕ → In 6 sep-kinds.ps
+sep-below t = and 6 sep-kinds.ps (falls 6 sep-kinds.ps _<_ μ-sep t) sep.Pre
+
+abbrev seq-at : ℕ → In 6 seq-kinds.ps
+seq-at t = and 6 seq-kinds.ps (is 6 seq-kinds.ps μ-seq t) seq.Pre
+
+abbrev seq-below : ℕ → In 6 seq-kinds.ps
+seq-below t = and 6 seq-kinds.ps (falls 6 seq-kinds.ps _<_ μ-seq t) seq.Pre
+
+abbrev sgb-at : ℕ → In 6 sgb-kinds.ps
+sgb-at t = and 6 sgb-kinds.ps (is 6 sgb-kinds.ps μ-sgb t) sgb.Pre
+
+abbrev sgb-below : ℕ → In 6 sgb-kinds.ps
+sgb-below t = and 6 sgb-kinds.ps (falls 6 sgb-kinds.ps _<_ μ-sgb t) sgb.Pre
+
+abbrev sgm-at : ℕ → In 6 sgm-kinds.ps
+sgm-at t = and 6 sgm-kinds.ps (is 6 sgm-kinds.ps μ-sgm t) sgm.Pre
+
+abbrev sgm-below : ℕ → In 6 sgm-kinds.ps
+sgm-below t = and 6 sgm-kinds.ps (falls 6 sgm-kinds.ps _<_ μ-sgm t) sgm.Pre
+
+abbrev sgx-at : ℕ → In 6 sgx-kinds.ps
+sgx-at t = and 6 sgx-kinds.ps (is 6 sgx-kinds.ps μ-sgx t) sgx.Pre
+
+abbrev sgx-below : ℕ → In 6 sgx-kinds.ps
+sgx-below t = and 6 sgx-kinds.ps (falls 6 sgx-kinds.ps _<_ μ-sgx t) sgx.Pre
+
+abbrev slt-at : ℕ → In 6 slt-kinds.ps
+slt-at t = and 6 slt-kinds.ps (is 6 slt-kinds.ps μ-slt t) slt.Pre
+
+abbrev slt-below : ℕ → In 6 slt-kinds.ps
+slt-below t = and 6 slt-kinds.ps (falls 6 slt-kinds.ps _<_ μ-slt t) slt.Pre
+
+abbrev stb-at : ℕ → In 6 stb-kinds.ps
+stb-at t = and 6 stb-kinds.ps (is 6 stb-kinds.ps μ-stb t) stb.Pre
+
+abbrev stb-below : ℕ → In 6 stb-kinds.ps
+stb-below t = and 6 stb-kinds.ps (falls 6 stb-kinds.ps _<_ μ-stb t) stb.Pre
+
+abbrev sth-at : ℕ → In 6 sth-kinds.ps
+sth-at t = and 6 sth-kinds.ps (is 6 sth-kinds.ps μ-sth t) sth.Pre
+
+abbrev sth-below : ℕ → In 6 sth-kinds.ps
+sth-below t = and 6 sth-kinds.ps (falls 6 sth-kinds.ps _<_ μ-sth t) sth.Pre
+
+abbrev stm-at : ℕ → In 6 stm-kinds.ps
+stm-at t = and 6 stm-kinds.ps (is 6 stm-kinds.ps μ-stm t) stm.Pre
+
+abbrev stm-below : ℕ → In 6 stm-kinds.ps
+stm-below t = and 6 stm-kinds.ps (falls 6 stm-kinds.ps _<_ μ-stm t) stm.Pre
+
+abbrev stp-at : ℕ → In 6 stp-kinds.ps
+stp-at t = and 6 stp-kinds.ps (is 6 stp-kinds.ps μ-stp t) stp.Pre
+
+abbrev stp-below : ℕ → In 6 stp-kinds.ps
+stp-below t = and 6 stp-kinds.ps (falls 6 stp-kinds.ps _<_ μ-stp t) stp.Pre
+
+abbrev stt-at : ℕ → In 6 stt-kinds.ps
+stt-at t = and 6 stt-kinds.ps (is 6 stt-kinds.ps μ-stt t) stt.Pre
+
+abbrev stt-below : ℕ → In 6 stt-kinds.ps
+stt-below t = and 6 stt-kinds.ps (falls 6 stt-kinds.ps _<_ μ-stt t) stt.Pre
+
+abbrev stx-at : ℕ → In 6 stx-kinds.ps
+stx-at t = and 6 stx-kinds.ps (is 6 stx-kinds.ps μ-stx t) stx.Pre
+
+abbrev stx-below : ℕ → In 6 stx-kinds.ps
+stx-below t = and 6 stx-kinds.ps (falls 6 stx-kinds.ps _<_ μ-stx t) stx.Pre
+
+abbrev tl-at : ℕ → In 6 tl-kinds.ps
+tl-at t = and 6 tl-kinds.ps (is 6 tl-kinds.ps μ-tl t) tl.Pre
+
+abbrev tl-below : ℕ → In 6 tl-kinds.ps
+tl-below t = and 6 tl-kinds.ps (falls 6 tl-kinds.ps _<_ μ-tl t) tl.Pre
+
+abbrev val-at : ℕ → In 6 val-kinds.ps
+val-at t = and 6 val-kinds.ps (is 6 val-kinds.ps μ-val t) val.Pre
+
+abbrev val-below : ℕ → In 6 val-kinds.ps
+val-below t = and 6 val-kinds.ps (falls 6 val-kinds.ps _<_ μ-val t) val.Pre
+
+app-refuse-requires : (t : ℕ) → app-lts.Need-refuse-requires (
+  refuse-reads.Asked,
+  refuse-reads.Learnt,
+  mark-reads.Asked,
+  mark-reads.Learnt,
+  arg-below t,
+  arg.Post,
+  close-reads.Asked,
+  close-reads.Learnt,
+) (app-at t) app.Post
+app-refuse-requires t c κs =
+    tt
+
+app-returns : (t : ℕ) → app-lts.Need-returns (
+  refuse-reads.Asked,
+  refuse-reads.Learnt,
+  mark-reads.Asked,
+  mark-reads.Learnt,
+  arg-below t,
+  arg.Post,
+  close-reads.Asked,
+  close-reads.Learnt,
+) (app-at t) app.Post
+unfolding expr.appExp plan choose chosen
+app-returns t c =
+    let falls = c .before .before .before .before .before .before .before .before .pre .0 in
+    let pre0 = c .before .before .before .before .before .before .before .before .pre .1 .0 in
+    let pre1 = c .before .before .before .before .before .before .before .before .pre .1 .1 in
+    let if1 = c .before .if1 .taken in
+    let refuse = c .refuse .ensures in
+    in-steps pre0 (s-deep if1 refuse s-end)
+
+app-mark-requires : (t : ℕ) → app-lts.Need-mark-requires (
+  refuse-reads.Asked,
+  refuse-reads.Learnt,
+  mark-reads.Asked,
+  mark-reads.Learnt,
+  arg-below t,
+  arg.Post,
+  close-reads.Asked,
+  close-reads.Learnt,
+) (app-at t) app.Post
+app-mark-requires t c κs =
+    tt
+
+app-sub-arg : (t : ℕ) → app-lts.Need-sub-arg (
+  refuse-reads.Asked,
+  refuse-reads.Learnt,
+  mark-reads.Asked,
+  mark-reads.Learnt,
+  arg-below t,
+  arg.Post,
+  close-reads.Asked,
+  close-reads.Learnt,
+) (app-at t) app.Post
+app-sub-arg t c =
+    let falls = c .before .before .before .before .before .before .before .before .before .before .before .pre .0 in
+    let pre0 = c .before .before .before .before .before .before .before .before .before .before .before .pre .1 .0 in
+    let pre1 = c .before .before .before .before .before .before .before .before .before .before .before .pre .1 .1 in
+    let if1 = c .before .before .before .before .if1 .left in
+    search needs
+
+app-arg-requires : (t : ℕ) → app-lts.Need-arg-requires (
+  refuse-reads.Asked,
+  refuse-reads.Learnt,
+  mark-reads.Asked,
+  mark-reads.Learnt,
+  arg-below t,
+  arg.Post,
+  close-reads.Asked,
+  close-reads.Learnt,
+) (app-at t) app.Post
+app-arg-requires t c κs =
+    let falls = c .before .before .before .before .before .before .before .before .before .before .before .pre .0 in
+    let pre0 = c .before .before .before .before .before .before .before .before .before .before .before .pre .1 .0 in
+    let pre1 = c .before .before .before .before .before .before .before .before .before .before .before .pre .1 .1 in
+    let if1 = c .before .before .before .before .if1 .left in
+    let mark = c .before .before .before .mark .ensures in
+    let mark-ok = ok-marks mark pre0 in
+    (omega arith, mark-ok)
+
+app-close-requires : (t : ℕ) → app-lts.Need-close-requires (
+  refuse-reads.Asked,
+  refuse-reads.Learnt,
+  mark-reads.Asked,
+  mark-reads.Learnt,
+  arg-below t,
+  arg.Post,
+  close-reads.Asked,
+  close-reads.Learnt,
+) (app-at t) app.Post
+app-close-requires t c κs =
+    let pre1 = c .before .before .before .before .before .before .before .before .before .before .before .before .before .before .before .before .before .before .before .pre .1 .1 in
+    let arg = c .before .before .before .before .before .before .before .arg .ensures in
+    let arg-ok = arg .ok in
+    (arg-ok .logs, pre1)
+
+app-same-length : (t : ℕ) → app-lts.Need-same-length (
+  refuse-reads.Asked,
+  refuse-reads.Learnt,
+  mark-reads.Asked,
+  mark-reads.Learnt,
+  arg-below t,
+  arg.Post,
+  close-reads.Asked,
+  close-reads.Learnt,
+) (app-at t) app.Post
+app-same-length t c =
+    c .before .before .before .before .before .before .before .before .before .before .arg .kept .1 .1 .1 .0
+
+app-same-length-2 : (t : ℕ) → app-lts.Need-same-length-2 (
+  refuse-reads.Asked,
+  refuse-reads.Learnt,
+  mark-reads.Asked,
+  mark-reads.Learnt,
+  arg-below t,
+  arg.Post,
+  close-reads.Asked,
+  close-reads.Learnt,
+) (app-at t) app.Post
+app-same-length-2 t c =
+    c .before .before .close .kept .0 ∙ c .before .before .before .before .before .before .before .before .before .before .arg .kept .1 .1 .1 .1 .0
+
+app-same-length-3 : (t : ℕ) → app-lts.Need-same-length-3 (
+  refuse-reads.Asked,
+  refuse-reads.Learnt,
+  mark-reads.Asked,
+  mark-reads.Learnt,
+  arg-below t,
+  arg.Post,
+  close-reads.Asked,
+  close-reads.Learnt,
+) (app-at t) app.Post
+app-same-length-3 t c =
+    c .before .before .before .before .before .before .before .before .before .before .arg .kept .1 .1 .1 .1 .1 .0
+
+app-returns-2 : (t : ℕ) → app-lts.Need-returns-2 (
+  refuse-reads.Asked,
+  refuse-reads.Learnt,
+  mark-reads.Asked,
+  mark-reads.Learnt,
+  arg-below t,
+  arg.Post,
+  close-reads.Asked,
+  close-reads.Learnt,
+) (app-at t) app.Post
+unfolding expr.appExp plan choose chosen
+app-returns-2 t c =
+    let falls = c .before .before .before .before .before .before .before .before .before .before .before .before .before .before .before .before .before .before .before .before .before .before .pre .0 in
+    let pre0 = c .before .before .before .before .before .before .before .before .before .before .before .before .before .before .before .before .before .before .before .before .before .before .pre .1 .0 in
+    let pre1 = c .before .before .before .before .before .before .before .before .before .before .before .before .before .before .before .before .before .before .before .before .before .before .pre .1 .1 in
+    let if1 = c .before .before .before .before .before .before .before .before .before .before .before .before .before .before .before .if1 .left in
+    let mark = c .before .before .before .before .before .before .before .before .before .before .before .before .before .before .mark .ensures in
+    let arg = c .before .before .before .before .before .before .before .before .before .before .arg .ensures in
+    let close = c .before .before .close .ensures in
+    in-steps pre0 (s-mark if1 mark (s-by _ (runs-in arg) (s-close close s-end)))
+
+arg-peek-requires : (t : ℕ) → arg-lts.Need-peek-requires (
+  peek-reads.Asked,
+  peek-reads.Learnt,
+  report-reads.Asked,
+  report-reads.Learnt,
+  refuse-reads.Asked,
+  refuse-reads.Learnt,
+  mark-reads.Asked,
+  mark-reads.Learnt,
+  atm-below t,
+  atm.Post,
+) (arg-at t) arg.Post
+arg-peek-requires t c κs =
+    let pre0 = c .before .before .before .before .before .before .pre .1 in
+    pre0 .reads
+
+arg-enum-known-k : (t : ℕ) → arg-lts.Need-enum-known-k (
+  peek-reads.Asked,
+  peek-reads.Learnt,
+  report-reads.Asked,
+  report-reads.Learnt,
+  refuse-reads.Asked,
+  refuse-reads.Learnt,
+  mark-reads.Asked,
+  mark-reads.Learnt,
+  atm-below t,
+  atm.Post,
+) (arg-at t) arg.Post
+arg-enum-known-k t c =
+    let falls = c .before .before .before .before .before .before .before .before .pre .0 in
+    let pre0 = c .before .before .before .before .before .before .before .before .pre .1 in
+    search needs
+
+arg-enum-told : (t : ℕ) → arg-lts.Need-enum-told (
+  peek-reads.Asked,
+  peek-reads.Learnt,
+  report-reads.Asked,
+  report-reads.Learnt,
+  refuse-reads.Asked,
+  refuse-reads.Learnt,
+  mark-reads.Asked,
+  mark-reads.Learnt,
+  atm-below t,
+  atm.Post,
+) (arg-at t) arg.Post
+arg-enum-told t c =
+    let falls = c .before .before .before .before .before .before .before .before .pre .0 in
+    let pre0 = c .before .before .before .before .before .before .before .before .pre .1 in
+    search needs
+
+arg-report-requires : (t : ℕ) → arg-lts.Need-report-requires (
+  peek-reads.Asked,
+  peek-reads.Learnt,
+  report-reads.Asked,
+  report-reads.Learnt,
+  refuse-reads.Asked,
+  refuse-reads.Learnt,
+  mark-reads.Asked,
+  mark-reads.Learnt,
+  atm-below t,
+  atm.Post,
+) (arg-at t) arg.Post
+arg-report-requires t c κs =
+    let falls = c .before .before .before .before .before .before .before .before .before .before .pre .0 in
+    let pre0 = c .before .before .before .before .before .before .before .before .before .before .pre .1 in
+    (pre0 .holds, (let few = pre0 .reads .few in let inside = pre0 .reads .inside in omega arith), omega arith)
+
+arg-same-length : (t : ℕ) → arg-lts.Need-same-length (
+  peek-reads.Asked,
+  peek-reads.Learnt,
+  report-reads.Asked,
+  report-reads.Learnt,
+  refuse-reads.Asked,
+  refuse-reads.Learnt,
+  mark-reads.Asked,
+  mark-reads.Learnt,
+  atm-below t,
+  atm.Post,
+) (arg-at t) arg.Post
+arg-same-length t c =
+    c .before .before .report .kept .0
+
+arg-returns : (t : ℕ) → arg-lts.Need-returns (
+  peek-reads.Asked,
+  peek-reads.Learnt,
+  report-reads.Asked,
+  report-reads.Learnt,
+  refuse-reads.Asked,
+  refuse-reads.Learnt,
+  mark-reads.Asked,
+  mark-reads.Learnt,
+  atm-below t,
+  atm.Post,
+) (arg-at t) arg.Post
+unfolding expr.atExpMust expr.atExp plan choose chosen
+arg-returns t c =
+    let falls = c .before .before .before .before .before .before .before .before .before .before .before .before .before .pre .0 in
+    let pre0 = c .before .before .before .before .before .before .before .before .before .before .before .before .before .pre .1 in
+    let peek = rw (c .before .before .before .before .enum-told .given .1) at (c .before .before .before .before .before .before .peek .ensures) in
+    let report = c .before .before .report .ensures in
+    by-steps pre0 (λ b. s-look peek (s-report report s-end))
+
+arg-refuse-requires : (t : ℕ) → arg-lts.Need-refuse-requires (
+  peek-reads.Asked,
+  peek-reads.Learnt,
+  report-reads.Asked,
+  report-reads.Learnt,
+  refuse-reads.Asked,
+  refuse-reads.Learnt,
+  mark-reads.Asked,
+  mark-reads.Learnt,
+  atm-below t,
+  atm.Post,
+) (arg-at t) arg.Post
+arg-refuse-requires t c κs =
+    tt
+
+arg-report-requires-2 : (t : ℕ) → arg-lts.Need-report-requires-2 (
+  peek-reads.Asked,
+  peek-reads.Learnt,
+  report-reads.Asked,
+  report-reads.Learnt,
+  refuse-reads.Asked,
+  refuse-reads.Learnt,
+  mark-reads.Asked,
+  mark-reads.Learnt,
+  atm-below t,
+  atm.Post,
+) (arg-at t) arg.Post
+arg-report-requires-2 t c κs =
+    let falls = c .before .before .before .before .before .before .before .before .before .before .before .before .before .pre .0 in
+    let pre0 = c .before .before .before .before .before .before .before .before .before .before .before .before .before .pre .1 in
+    let if1 = c .before .before .if1 .taken in
+    let refuse = c .before .refuse .ensures in
+    let refuse-ok = ok-refused _ refuse pre0 in
+    (refuse-ok .holds, (let few = refuse-ok .reads .few in let inside = refuse-ok .reads .inside in omega arith), omega arith)
+
+arg-same-length-2 : (t : ℕ) → arg-lts.Need-same-length-2 (
+  peek-reads.Asked,
+  peek-reads.Learnt,
+  report-reads.Asked,
+  report-reads.Learnt,
+  refuse-reads.Asked,
+  refuse-reads.Learnt,
+  mark-reads.Asked,
+  mark-reads.Learnt,
+  atm-below t,
+  atm.Post,
+) (arg-at t) arg.Post
+arg-same-length-2 t c =
+    c .before .before .report2 .kept .0
+
+arg-returns-2 : (t : ℕ) → arg-lts.Need-returns-2 (
+  peek-reads.Asked,
+  peek-reads.Learnt,
+  report-reads.Asked,
+  report-reads.Learnt,
+  refuse-reads.Asked,
+  refuse-reads.Learnt,
+  mark-reads.Asked,
+  mark-reads.Learnt,
+  atm-below t,
+  atm.Post,
+) (arg-at t) arg.Post
+unfolding expr.atExpMust expr.atExp plan choose chosen
+arg-returns-2 t c =
+    let falls = c .before .before .before .before .before .before .before .before .before .before .before .before .before .before .before .before .pre .0 in
+    let pre0 = c .before .before .before .before .before .before .before .before .before .before .before .before .before .before .before .before .pre .1 in
+    let peek = rw (c .before .before .before .before .before .before .before .k .given .1) at (c .before .before .before .before .before .before .before .before .before .peek .ensures) in
+    let if1 = c .before .before .before .before .before .if1 .taken in
+    let refuse = c .before .before .before .before .refuse .ensures in
+    let report2 = c .before .before .report2 .ensures in
+    by-steps pre0 (λ b. s-look peek (s-deep if1 refuse (s-report report2 s-end)))
+
+arg-mark-requires : (t : ℕ) → arg-lts.Need-mark-requires (
+  peek-reads.Asked,
+  peek-reads.Learnt,
+  report-reads.Asked,
+  report-reads.Learnt,
+  refuse-reads.Asked,
+  refuse-reads.Learnt,
+  mark-reads.Asked,
+  mark-reads.Learnt,
+  atm-below t,
+  atm.Post,
+) (arg-at t) arg.Post
+arg-mark-requires t c κs =
+    tt
+
+arg-sub-atm : (t : ℕ) → arg-lts.Need-sub-atm (
+  peek-reads.Asked,
+  peek-reads.Learnt,
+  report-reads.Asked,
+  report-reads.Learnt,
+  refuse-reads.Asked,
+  refuse-reads.Learnt,
+  mark-reads.Asked,
+  mark-reads.Learnt,
+  atm-below t,
+  atm.Post,
+) (arg-at t) arg.Post
+arg-sub-atm t c =
+    let falls = c .before .before .before .before .before .before .before .before .before .before .before .before .before .before .before .pre .0 in
+    let pre0 = c .before .before .before .before .before .before .before .before .before .before .before .before .before .before .before .pre .1 in
+    let if1 = c .before .before .before .before .if1 .left in
+    search needs
+
+arg-atm-requires : (t : ℕ) → arg-lts.Need-atm-requires (
+  peek-reads.Asked,
+  peek-reads.Learnt,
+  report-reads.Asked,
+  report-reads.Learnt,
+  refuse-reads.Asked,
+  refuse-reads.Learnt,
+  mark-reads.Asked,
+  mark-reads.Learnt,
+  atm-below t,
+  atm.Post,
+) (arg-at t) arg.Post
+arg-atm-requires t c κs =
+    let falls = c .before .before .before .before .before .before .before .before .before .before .before .before .before .before .before .pre .0 in
+    let pre0 = c .before .before .before .before .before .before .before .before .before .before .before .before .before .before .before .pre .1 in
+    let if1 = c .before .before .before .before .if1 .left in
+    let mark = c .before .before .before .mark .ensures in
+    let mark-ok = ok-marks mark pre0 in
+    (omega arith, (mark-ok, small-len mark-ok))
+
+arg-enum-known-got : (t : ℕ) → arg-lts.Need-enum-known-got (
+  peek-reads.Asked,
+  peek-reads.Learnt,
+  report-reads.Asked,
+  report-reads.Learnt,
+  refuse-reads.Asked,
+  refuse-reads.Learnt,
+  mark-reads.Asked,
+  mark-reads.Learnt,
+  atm-below t,
+  atm.Post,
+) (arg-at t) arg.Post
+arg-enum-known-got t c =
+    let falls = c .before .before .before .before .before .before .before .before .before .before .before .before .before .before .before .before .before .before .before .before .before .before .before .pre .0 in
+    let pre0 = c .before .before .before .before .before .before .before .before .before .before .before .before .before .before .before .before .before .before .before .before .before .before .before .pre .1 in
+    let if1 = c .before .before .before .before .before .before .before .before .before .before .before .before .if1 .left in
+    search needs
+
+arg-enum-known-got-2 : (t : ℕ) → arg-lts.Need-enum-known-got-2 (
+  peek-reads.Asked,
+  peek-reads.Learnt,
+  report-reads.Asked,
+  report-reads.Learnt,
+  refuse-reads.Asked,
+  refuse-reads.Learnt,
+  mark-reads.Asked,
+  mark-reads.Learnt,
+  atm-below t,
+  atm.Post,
+) (arg-at t) arg.Post
+arg-enum-known-got-2 t c =
+    let falls = c .before .before .before .before .before .before .before .before .before .before .before .before .before .before .before .before .before .before .before .before .before .before .before .pre .0 in
+    let pre0 = c .before .before .before .before .before .before .before .before .before .before .before .before .before .before .before .before .before .before .before .before .before .before .before .pre .1 in
+    let if1 = c .before .before .before .before .before .before .before .before .before .before .before .before .if1 .left in
+    search needs
+
+arg-report-requires-3 : (t : ℕ) → arg-lts.Need-report-requires-3 (
+  peek-reads.Asked,
+  peek-reads.Learnt,
+  report-reads.Asked,
+  report-reads.Learnt,
+  refuse-reads.Asked,
+  refuse-reads.Learnt,
+  mark-reads.Asked,
+  mark-reads.Learnt,
+  atm-below t,
+  atm.Post,
+) (arg-at t) arg.Post
+arg-report-requires-3 t c κs =
+    let falls = c .before .before .before .before .before .before .before .before .before .before .before .before .before .before .before .before .before .before .before .before .before .before .before .before .before .before .pre .0 in
+    let if1 = c .before .before .before .before .before .before .before .before .before .before .before .before .before .before .before .if1 .left in
+    let atm = rw (c .before .before .got2 .given .1) at (c .before .before .before .before .before .before .before .before .before .before .atm .ensures) in
+    let atm-ok = atm .ok in
+    (atm-ok .holds, (let few = atm-ok .reads .few in let inside = atm-ok .reads .inside in omega arith), omega arith)
+
+arg-same-length-3 : (t : ℕ) → arg-lts.Need-same-length-3 (
+  peek-reads.Asked,
+  peek-reads.Learnt,
+  report-reads.Asked,
+  report-reads.Learnt,
+  refuse-reads.Asked,
+  refuse-reads.Learnt,
+  mark-reads.Asked,
+  mark-reads.Learnt,
+  atm-below t,
+  atm.Post,
+) (arg-at t) arg.Post
+arg-same-length-3 t c =
+    c .before .before .before .before .before .before .before .before .before .atm .kept .1 .1 .1 .0
+
+arg-same-length-4 : (t : ℕ) → arg-lts.Need-same-length-4 (
+  peek-reads.Asked,
+  peek-reads.Learnt,
+  report-reads.Asked,
+  report-reads.Learnt,
+  refuse-reads.Asked,
+  refuse-reads.Learnt,
+  mark-reads.Asked,
+  mark-reads.Learnt,
+  atm-below t,
+  atm.Post,
+) (arg-at t) arg.Post
+arg-same-length-4 t c =
+    c .before .before .before .before .before .before .before .before .before .atm .kept .1 .1 .1 .1 .0
+
+arg-same-length-5 : (t : ℕ) → arg-lts.Need-same-length-5 (
+  peek-reads.Asked,
+  peek-reads.Learnt,
+  report-reads.Asked,
+  report-reads.Learnt,
+  refuse-reads.Asked,
+  refuse-reads.Learnt,
+  mark-reads.Asked,
+  mark-reads.Learnt,
+  atm-below t,
+  atm.Post,
+) (arg-at t) arg.Post
+arg-same-length-5 t c =
+    c .before .before .before .before .before .before .before .before .before .atm .kept .1 .1 .1 .1 .1 .0
+
+arg-returns-3 : (t : ℕ) → arg-lts.Need-returns-3 (
+  peek-reads.Asked,
+  peek-reads.Learnt,
+  report-reads.Asked,
+  report-reads.Learnt,
+  refuse-reads.Asked,
+  refuse-reads.Learnt,
+  mark-reads.Asked,
+  mark-reads.Learnt,
+  atm-below t,
+  atm.Post,
+) (arg-at t) arg.Post
+unfolding expr.atExpMust expr.atExp plan choose chosen
+arg-returns-3 t c =
+    let falls = c .before .before .before .before .before .before .before .before .before .before .before .before .before .before .before .before .before .before .before .before .before .before .before .before .before .pre .0 in
+    let pre0 = c .before .before .before .before .before .before .before .before .before .before .before .before .before .before .before .before .before .before .before .before .before .before .before .before .before .pre .1 in
+    let peek = rw (c .before .before .before .before .before .before .before .before .before .before .before .before .before .before .before .before .k .given .1) at (c .before .before .before .before .before .before .before .before .before .before .before .before .before .before .before .before .before .before .peek .ensures) in
+    let if1 = c .before .before .before .before .before .before .before .before .before .before .before .before .before .before .if1 .left in
+    let mark = c .before .before .before .before .before .before .before .before .before .before .before .before .before .mark .ensures in
+    let atm = rw (c .before .got .given .1) at (c .before .before .before .before .before .before .before .before .before .atm .ensures) in
+    by-steps pre0 (λ b. s-look peek (s-mark if1 mark (s-by _ atm s-end)))
+
+arg-same-length-6 : (t : ℕ) → arg-lts.Need-same-length-6 (
+  peek-reads.Asked,
+  peek-reads.Learnt,
+  report-reads.Asked,
+  report-reads.Learnt,
+  refuse-reads.Asked,
+  refuse-reads.Learnt,
+  mark-reads.Asked,
+  mark-reads.Learnt,
+  atm-below t,
+  atm.Post,
+) (arg-at t) arg.Post
+arg-same-length-6 t c =
+    c .before .before .before .before .before .before .before .before .before .before .before .before .before .atm .kept .1 .1 .1 .0
+
+arg-same-length-7 : (t : ℕ) → arg-lts.Need-same-length-7 (
+  peek-reads.Asked,
+  peek-reads.Learnt,
+  report-reads.Asked,
+  report-reads.Learnt,
+  refuse-reads.Asked,
+  refuse-reads.Learnt,
+  mark-reads.Asked,
+  mark-reads.Learnt,
+  atm-below t,
+  atm.Post,
+) (arg-at t) arg.Post
+arg-same-length-7 t c =
+    c .before .before .before .before .before .before .before .before .before .before .before .before .before .atm .kept .1 .1 .1 .1 .0
+
+arg-same-length-8 : (t : ℕ) → arg-lts.Need-same-length-8 (
+  peek-reads.Asked,
+  peek-reads.Learnt,
+  report-reads.Asked,
+  report-reads.Learnt,
+  refuse-reads.Asked,
+  refuse-reads.Learnt,
+  mark-reads.Asked,
+  mark-reads.Learnt,
+  atm-below t,
+  atm.Post,
+) (arg-at t) arg.Post
+arg-same-length-8 t c =
+    c .before .before .report3 .kept .0 ∙ c .before .before .before .before .before .before .before .before .before .before .before .before .before .atm .kept .1 .1 .1 .1 .1 .0
+
+arg-returns-4 : (t : ℕ) → arg-lts.Need-returns-4 (
+  peek-reads.Asked,
+  peek-reads.Learnt,
+  report-reads.Asked,
+  report-reads.Learnt,
+  refuse-reads.Asked,
+  refuse-reads.Learnt,
+  mark-reads.Asked,
+  mark-reads.Learnt,
+  atm-below t,
+  atm.Post,
+) (arg-at t) arg.Post
+unfolding expr.atExpMust expr.atExp plan choose chosen
+arg-returns-4 t c =
+    let falls = c .before .before .before .before .before .before .before .before .before .before .before .before .before .before .before .before .before .before .before .before .before .before .before .before .before .before .before .before .before .pre .0 in
+    let pre0 = c .before .before .before .before .before .before .before .before .before .before .before .before .before .before .before .before .before .before .before .before .before .before .before .before .before .before .before .before .before .pre .1 in
+    let peek = rw (c .before .before .before .before .before .before .before .before .before .before .before .before .before .before .before .before .before .before .before .before .k .given .1) at (c .before .before .before .before .before .before .before .before .before .before .before .before .before .before .before .before .before .before .before .before .before .before .peek .ensures) in
+    let if1 = c .before .before .before .before .before .before .before .before .before .before .before .before .before .before .before .before .before .before .if1 .left in
+    let mark = c .before .before .before .before .before .before .before .before .before .before .before .before .before .before .before .before .before .mark .ensures in
+    let atm = rw (c .before .before .before .before .before .got2 .given .1) at (c .before .before .before .before .before .before .before .before .before .before .before .before .before .atm .ensures) in
+    let report3 = c .before .before .report3 .ensures in
+    by-steps pre0 (λ b. s-look peek (s-mark if1 mark (s-by _ atm (s-report report3 s-end))))
+
+arm-pat-prec-requires : (t : ℕ) → arm-lts.Need-pat-prec-requires (
+  pat-prec-reads.Asked,
+  pat-prec-reads.Learnt,
+  report-reads.Asked,
+  report-reads.Learnt,
+  want-reads.Asked,
+  want-reads.Learnt,
+  exp-below t,
+  exp.Post,
+) (arm-at t) arm.Post
+arm-pat-prec-requires t c κs =
+    let pre0 = c .before .before .before .before .before .before .before .before .before .pre .1 in
+    pre0
+
+arm-enum-known-got : (t : ℕ) → arm-lts.Need-enum-known-got (
+  pat-prec-reads.Asked,
+  pat-prec-reads.Learnt,
+  report-reads.Asked,
+  report-reads.Learnt,
+  want-reads.Asked,
+  want-reads.Learnt,
+  exp-below t,
+  exp.Post,
+) (arm-at t) arm.Post
+arm-enum-known-got t c =
+    let falls = c .before .before .before .before .before .before .before .before .before .before .before .before .before .before .before .pre .0 in
+    let pre0 = c .before .before .before .before .before .before .before .before .before .before .before .before .before .before .before .pre .1 in
+    search needs
+
+arm-report-requires : (t : ℕ) → arm-lts.Need-report-requires (
+  pat-prec-reads.Asked,
+  pat-prec-reads.Learnt,
+  report-reads.Asked,
+  report-reads.Learnt,
+  want-reads.Asked,
+  want-reads.Learnt,
+  exp-below t,
+  exp.Post,
+) (arm-at t) arm.Post
+arm-report-requires t c κs =
+    let falls = c .before .before .before .before .before .before .before .before .before .before .before .before .before .before .before .before .before .before .pre .0 in
+    let pat-prec = rw (c .before .before .got .given .1) at (c .before .before .before .before .before .before .before .before .pat-prec .ensures) in
+    let pat-prec-ok = pat-prec .ok in
+    (pat-prec-ok .holds, (let few = pat-prec-ok .reads .few in let inside = pat-prec-ok .reads .inside in omega arith), omega arith)
+
+arm-enum-known-got-2 : (t : ℕ) → arm-lts.Need-enum-known-got-2 (
+  pat-prec-reads.Asked,
+  pat-prec-reads.Learnt,
+  report-reads.Asked,
+  report-reads.Learnt,
+  want-reads.Asked,
+  want-reads.Learnt,
+  exp-below t,
+  exp.Post,
+) (arm-at t) arm.Post
+arm-enum-known-got-2 t c =
+    let falls = c .before .before .before .before .before .before .before .before .before .before .before .before .before .before .before .pre .0 in
+    let pre0 = c .before .before .before .before .before .before .before .before .before .before .before .before .before .before .before .pre .1 in
+    search needs
+
+arm-want-requires : (t : ℕ) → arm-lts.Need-want-requires (
+  pat-prec-reads.Asked,
+  pat-prec-reads.Learnt,
+  report-reads.Asked,
+  report-reads.Learnt,
+  want-reads.Asked,
+  want-reads.Learnt,
+  exp-below t,
+  exp.Post,
+) (arm-at t) arm.Post
+arm-want-requires t c κs =
+    let falls = c .before .before .before .before .before .before .before .before .before .before .before .before .before .before .before .before .before .before .before .before .pre .0 in
+    let pat-prec = rw (c .before .before .before .before .got2 .given .1) at (c .before .before .before .before .before .before .before .before .before .before .pat-prec .ensures) in
+    let pat-prec-ok = pat-prec .ok in
+    (pat-prec-ok, omega arith)
+
+arm-exp-requires : (t : ℕ) → arm-lts.Need-exp-requires (
+  pat-prec-reads.Asked,
+  pat-prec-reads.Learnt,
+  report-reads.Asked,
+  report-reads.Learnt,
+  want-reads.Asked,
+  want-reads.Learnt,
+  exp-below t,
+  exp.Post,
+) (arm-at t) arm.Post
+arm-exp-requires t c κs =
+    let falls = c .before .before .before .before .before .before .before .before .before .before .before .before .before .before .before .before .before .before .before .before .before .before .before .before .before .before .before .before .pre .0 in
+    let want = c .before .before .before .before .before .before .before .want .ensures in
+    let want-ok = want .ok in
+    (omega arith, want-ok)
+
+arm-same-length : (t : ℕ) → arm-lts.Need-same-length (
+  pat-prec-reads.Asked,
+  pat-prec-reads.Learnt,
+  report-reads.Asked,
+  report-reads.Learnt,
+  want-reads.Asked,
+  want-reads.Learnt,
+  exp-below t,
+  exp.Post,
+) (arm-at t) arm.Post
+arm-same-length t c =
+    refl
+
+arm-same-length-2 : (t : ℕ) → arm-lts.Need-same-length-2 (
+  pat-prec-reads.Asked,
+  pat-prec-reads.Learnt,
+  report-reads.Asked,
+  report-reads.Learnt,
+  want-reads.Asked,
+  want-reads.Learnt,
+  exp-below t,
+  exp.Post,
+) (arm-at t) arm.Post
+arm-same-length-2 t c =
+    c .before .before .before .before .before .before .before .before .before .before .before .pat-prec .kept .1 .1 .1 .1 .0
+
+arm-same-length-3 : (t : ℕ) → arm-lts.Need-same-length-3 (
+  pat-prec-reads.Asked,
+  pat-prec-reads.Learnt,
+  report-reads.Asked,
+  report-reads.Learnt,
+  want-reads.Asked,
+  want-reads.Learnt,
+  exp-below t,
+  exp.Post,
+) (arm-at t) arm.Post
+arm-same-length-3 t c =
+    c .before .before .report .kept .0 ∙ c .before .before .before .before .before .before .before .before .before .before .before .pat-prec .kept .1 .1 .1 .1 .1 .0
+
+arm-returns : (t : ℕ) → arm-lts.Need-returns (
+  pat-prec-reads.Asked,
+  pat-prec-reads.Learnt,
+  report-reads.Asked,
+  report-reads.Learnt,
+  want-reads.Asked,
+  want-reads.Learnt,
+  exp-below t,
+  exp.Post,
+) (arm-at t) arm.Post
+unfolding expr.arm plan choose chosen
+arm-returns t c =
+    let falls = c .before .before .before .before .before .before .before .before .before .before .before .before .before .before .before .before .before .before .before .before .before .pre .0 in
+    let pre0 = c .before .before .before .before .before .before .before .before .before .before .before .before .before .before .before .before .before .before .before .before .before .pre .1 in
+    let pat-prec = rw (c .before .before .before .before .before .got .given .1) at (c .before .before .before .before .before .before .before .before .before .before .before .pat-prec .ensures) in
+    let report = c .before .before .report .ensures in
+    by-steps pre0 (λ b. s-run (runs-in pat-prec) (s-report report s-end))
+
+arm-same-length-4 : (t : ℕ) → arm-lts.Need-same-length-4 (
+  pat-prec-reads.Asked,
+  pat-prec-reads.Learnt,
+  report-reads.Asked,
+  report-reads.Learnt,
+  want-reads.Asked,
+  want-reads.Learnt,
+  exp-below t,
+  exp.Post,
+) (arm-at t) arm.Post
+arm-same-length-4 t c =
+    c .before .before .before .before .before .before .exp .kept .1 .1 .1 .0
+
+arm-same-length-5 : (t : ℕ) → arm-lts.Need-same-length-5 (
+  pat-prec-reads.Asked,
+  pat-prec-reads.Learnt,
+  report-reads.Asked,
+  report-reads.Learnt,
+  want-reads.Asked,
+  want-reads.Learnt,
+  exp-below t,
+  exp.Post,
+) (arm-at t) arm.Post
+arm-same-length-5 t c =
+    c .before .before .before .before .before .before .exp .kept .1 .1 .1 .1 .0 ∙ c .before .before .before .before .before .before .before .before .before .before .before .before .before .before .want .kept .1 .1 .1 .1 .0 ∙ c .before .before .before .before .before .before .before .before .before .before .before .before .before .before .before .before .before .before .before .before .before .before .before .before .before .pat-prec .kept .1 .1 .1 .1 .0
+
+arm-same-length-6 : (t : ℕ) → arm-lts.Need-same-length-6 (
+  pat-prec-reads.Asked,
+  pat-prec-reads.Learnt,
+  report-reads.Asked,
+  report-reads.Learnt,
+  want-reads.Asked,
+  want-reads.Learnt,
+  exp-below t,
+  exp.Post,
+) (arm-at t) arm.Post
+arm-same-length-6 t c =
+    c .before .before .before .before .before .before .exp .kept .1 .1 .1 .1 .1 .0 ∙ c .before .before .before .before .before .before .before .before .before .before .before .before .before .before .want .kept .1 .1 .1 .1 .1 .0 ∙ c .before .before .before .before .before .before .before .before .before .before .before .before .before .before .before .before .before .before .before .before .before .before .before .before .before .pat-prec .kept .1 .1 .1 .1 .1 .0
+
+arm-returns-2 : (t : ℕ) → arm-lts.Need-returns-2 (
+  pat-prec-reads.Asked,
+  pat-prec-reads.Learnt,
+  report-reads.Asked,
+  report-reads.Learnt,
+  want-reads.Asked,
+  want-reads.Learnt,
+  exp-below t,
+  exp.Post,
+) (arm-at t) arm.Post
+unfolding expr.arm plan choose chosen
+arm-returns-2 t c =
+    let falls = c .before .before .before .before .before .before .before .before .before .before .before .before .before .before .before .before .before .before .before .before .before .before .before .before .before .before .before .before .before .before .before .before .before .before .before .pre .0 in
+    let pre0 = c .before .before .before .before .before .before .before .before .before .before .before .before .before .before .before .before .before .before .before .before .before .before .before .before .before .before .before .before .before .before .before .before .before .before .before .pre .1 in
+    let pat-prec = rw (c .before .before .before .before .before .before .before .before .before .before .before .before .before .before .before .before .before .before .before .got2 .given .1) at (c .before .before .before .before .before .before .before .before .before .before .before .before .before .before .before .before .before .before .before .before .before .before .before .before .before .pat-prec .ensures) in
+    let want = c .before .before .before .before .before .before .before .before .before .before .before .before .before .before .want .ensures in
+    let exp = c .before .before .before .before .before .before .exp .ensures in
+    by-steps pre0 (λ b. s-run (runs-in pat-prec) (s-by _ (runs-always want) (s-by _ (runs-in exp) s-end)))
+
+asc-refuse-requires : (t : ℕ) → asc-lts.Need-refuse-requires (
+  refuse-reads.Asked,
+  refuse-reads.Learnt,
+  mark-reads.Asked,
+  mark-reads.Learnt,
+  bump-reads.Asked,
+  bump-reads.Learnt,
+  sgm-below t,
+  sgm.Post,
+  close-reads.Asked,
+  close-reads.Learnt,
+) (asc-at t) asc.Post
+asc-refuse-requires t c κs =
+    tt
+
+asc-returns : (t : ℕ) → asc-lts.Need-returns (
+  refuse-reads.Asked,
+  refuse-reads.Learnt,
+  mark-reads.Asked,
+  mark-reads.Learnt,
+  bump-reads.Asked,
+  bump-reads.Learnt,
+  sgm-below t,
+  sgm.Post,
+  close-reads.Asked,
+  close-reads.Learnt,
+) (asc-at t) asc.Post
+unfolding decl.ascriptionTail plan choose chosen
+asc-returns t c =
+    let falls = c .before .before .before .before .before .before .before .before .pre .0 in
+    let pre0 = c .before .before .before .before .before .before .before .before .pre .1 in
+    let if1 = c .before .if1 .taken in
+    let refuse = c .refuse .ensures in
+    by-steps pre0 (λ b. s-deep if1 refuse s-end)
+
+asc-mark-requires : (t : ℕ) → asc-lts.Need-mark-requires (
+  refuse-reads.Asked,
+  refuse-reads.Learnt,
+  mark-reads.Asked,
+  mark-reads.Learnt,
+  bump-reads.Asked,
+  bump-reads.Learnt,
+  sgm-below t,
+  sgm.Post,
+  close-reads.Asked,
+  close-reads.Learnt,
+) (asc-at t) asc.Post
+asc-mark-requires t c κs =
+    tt
+
+asc-bump-requires : (t : ℕ) → asc-lts.Need-bump-requires (
+  refuse-reads.Asked,
+  refuse-reads.Learnt,
+  mark-reads.Asked,
+  mark-reads.Learnt,
+  bump-reads.Asked,
+  bump-reads.Learnt,
+  sgm-below t,
+  sgm.Post,
+  close-reads.Asked,
+  close-reads.Learnt,
+) (asc-at t) asc.Post
+asc-bump-requires t c κs =
+    let pre0 = c .before .before .before .before .before .before .before .before .before .pre .1 in
+    let mark = c .before .mark .ensures in
+    let mark-ok = ok-marks mark pre0 in
+    (mark-ok .reads, mark-ok .logs)
+
+asc-sub-sgm : (t : ℕ) → asc-lts.Need-sub-sgm (
+  refuse-reads.Asked,
+  refuse-reads.Learnt,
+  mark-reads.Asked,
+  mark-reads.Learnt,
+  bump-reads.Asked,
+  bump-reads.Learnt,
+  sgm-below t,
+  sgm.Post,
+  close-reads.Asked,
+  close-reads.Learnt,
+) (asc-at t) asc.Post
+asc-sub-sgm t c =
+    let falls = c .before .before .before .before .before .before .before .before .before .before .before .before .before .before .before .pre .0 in
+    let pre0 = c .before .before .before .before .before .before .before .before .before .before .before .before .before .before .before .pre .1 in
+    let if1 = c .before .before .before .before .before .before .before .before .if1 .left in
+    search needs
+
+asc-sgm-requires : (t : ℕ) → asc-lts.Need-sgm-requires (
+  refuse-reads.Asked,
+  refuse-reads.Learnt,
+  mark-reads.Asked,
+  mark-reads.Learnt,
+  bump-reads.Asked,
+  bump-reads.Learnt,
+  sgm-below t,
+  sgm.Post,
+  close-reads.Asked,
+  close-reads.Learnt,
+) (asc-at t) asc.Post
+asc-sgm-requires t c κs =
+    let falls = c .before .before .before .before .before .before .before .before .before .before .before .before .before .before .before .pre .0 in
+    let pre0 = c .before .before .before .before .before .before .before .before .before .before .before .before .before .before .before .pre .1 in
+    let if1 = c .before .before .before .before .before .before .before .before .if1 .left in
+    let mark = c .before .before .before .before .before .before .before .mark .ensures in
+    let mark-ok = ok-marks mark pre0 in
+    let bump = c .before .before .before .before .before .bump .ensures in
+    let bump-ok = ok-bumps bump mark-ok in
+    (omega arith, bump-ok)
+
+asc-close-requires : (t : ℕ) → asc-lts.Need-close-requires (
+  refuse-reads.Asked,
+  refuse-reads.Learnt,
+  mark-reads.Asked,
+  mark-reads.Learnt,
+  bump-reads.Asked,
+  bump-reads.Learnt,
+  sgm-below t,
+  sgm.Post,
+  close-reads.Asked,
+  close-reads.Learnt,
+) (asc-at t) asc.Post
+asc-close-requires t c κs =
+    let pre0 = c .before .before .before .before .before .before .before .before .before .before .before .before .before .before .before .before .before .before .before .before .before .before .before .pre .1 in
+    let mark = c .before .before .before .before .before .before .before .before .before .before .before .before .before .before .before .mark .ensures in
+    let mark-ok = ok-marks mark pre0 in
+    let sgm = c .before .before .before .before .before .before .before .sgm .ensures in
+    let sgm-ok = sgm .ok in
+    (sgm-ok .logs, small-len mark-ok)
+
+asc-same-length : (t : ℕ) → asc-lts.Need-same-length (
+  refuse-reads.Asked,
+  refuse-reads.Learnt,
+  mark-reads.Asked,
+  mark-reads.Learnt,
+  bump-reads.Asked,
+  bump-reads.Learnt,
+  sgm-below t,
+  sgm.Post,
+  close-reads.Asked,
+  close-reads.Learnt,
+) (asc-at t) asc.Post
+asc-same-length t c =
+    c .before .before .before .before .before .before .before .before .before .before .sgm .kept .1 .1 .1 .0
+
+asc-same-length-2 : (t : ℕ) → asc-lts.Need-same-length-2 (
+  refuse-reads.Asked,
+  refuse-reads.Learnt,
+  mark-reads.Asked,
+  mark-reads.Learnt,
+  bump-reads.Asked,
+  bump-reads.Learnt,
+  sgm-below t,
+  sgm.Post,
+  close-reads.Asked,
+  close-reads.Learnt,
+) (asc-at t) asc.Post
+asc-same-length-2 t c =
+    c .before .before .close .kept .0 ∙ c .before .before .before .before .before .before .before .before .before .before .sgm .kept .1 .1 .1 .1 .0 ∙ c .before .before .before .before .before .before .before .before .before .before .before .before .before .before .before .before .bump .kept .1 .0
+
+asc-same-length-3 : (t : ℕ) → asc-lts.Need-same-length-3 (
+  refuse-reads.Asked,
+  refuse-reads.Learnt,
+  mark-reads.Asked,
+  mark-reads.Learnt,
+  bump-reads.Asked,
+  bump-reads.Learnt,
+  sgm-below t,
+  sgm.Post,
+  close-reads.Asked,
+  close-reads.Learnt,
+) (asc-at t) asc.Post
+asc-same-length-3 t c =
+    c .before .before .before .before .before .before .before .before .before .before .sgm .kept .1 .1 .1 .1 .1 .0
+
+asc-returns-2 : (t : ℕ) → asc-lts.Need-returns-2 (
+  refuse-reads.Asked,
+  refuse-reads.Learnt,
+  mark-reads.Asked,
+  mark-reads.Learnt,
+  bump-reads.Asked,
+  bump-reads.Learnt,
+  sgm-below t,
+  sgm.Post,
+  close-reads.Asked,
+  close-reads.Learnt,
+) (asc-at t) asc.Post
+unfolding decl.ascriptionTail plan choose chosen
+asc-returns-2 t c =
+    let falls = c .before .before .before .before .before .before .before .before .before .before .before .before .before .before .before .before .before .before .before .before .before .before .before .before .before .before .pre .0 in
+    let pre0 = c .before .before .before .before .before .before .before .before .before .before .before .before .before .before .before .before .before .before .before .before .before .before .before .before .before .before .pre .1 in
+    let if1 = c .before .before .before .before .before .before .before .before .before .before .before .before .before .before .before .before .before .before .before .if1 .left in
+    let mark = c .before .before .before .before .before .before .before .before .before .before .before .before .before .before .before .before .before .before .mark .ensures in
+    let bump = c .before .before .before .before .before .before .before .before .before .before .before .before .before .before .before .before .bump .ensures in
+    let sgm = c .before .before .before .before .before .before .before .before .before .before .sgm .ensures in
+    let close = c .before .before .close .ensures in
+    by-steps pre0 (λ b. s-mark if1 mark (s-bump bump (s-by _ (runs-in sgm) (s-close close s-end))))
+
+aso-peek-requires : (t : ℕ) → aso-lts.Need-peek-requires (
+  peek-reads.Asked,
+  peek-reads.Learnt,
+  ascription-reads.Asked,
+  ascription-reads.Learnt,
+  asc-below t,
+  asc.Post,
+) (aso-at t) aso.Post
+aso-peek-requires t c κs =
+    let pre0 = c .before .before .before .before .before .before .pre .1 in
+    pre0 .reads
+
+aso-enum-known-k : (t : ℕ) → aso-lts.Need-enum-known-k (
+  peek-reads.Asked,
+  peek-reads.Learnt,
+  ascription-reads.Asked,
+  ascription-reads.Learnt,
+  asc-below t,
+  asc.Post,
+) (aso-at t) aso.Post
+aso-enum-known-k t c =
+    let falls = c .before .before .before .before .before .before .before .before .pre .0 in
+    let pre0 = c .before .before .before .before .before .before .before .before .pre .1 in
+    search needs
+
+aso-enum-told : (t : ℕ) → aso-lts.Need-enum-told (
+  peek-reads.Asked,
+  peek-reads.Learnt,
+  ascription-reads.Asked,
+  ascription-reads.Learnt,
+  asc-below t,
+  asc.Post,
+) (aso-at t) aso.Post
+aso-enum-told t c =
+    let falls = c .before .before .before .before .before .before .before .before .pre .0 in
+    let pre0 = c .before .before .before .before .before .before .before .before .pre .1 in
+    search needs
+
+aso-returns : (t : ℕ) → aso-lts.Need-returns (
+  peek-reads.Asked,
+  peek-reads.Learnt,
+  ascription-reads.Asked,
+  ascription-reads.Learnt,
+  asc-below t,
+  asc.Post,
+) (aso-at t) aso.Post
+unfolding decl.ascriptionOpt plan choose chosen
+aso-returns t c =
+    let falls = c .before .before .before .before .before .before .before .before .before .pre .0 in
+    let pre0 = c .before .before .before .before .before .before .before .before .before .pre .1 in
+    let peek = rw (c .enum-told .given .1) at (c .before .before .peek .ensures) in
+    by-steps pre0 (λ b. s-look peek s-end)
+
+aso-ascription-requires : (t : ℕ) → aso-lts.Need-ascription-requires (
+  peek-reads.Asked,
+  peek-reads.Learnt,
+  ascription-reads.Asked,
+  ascription-reads.Learnt,
+  asc-below t,
+  asc.Post,
+) (aso-at t) aso.Post
+aso-ascription-requires t c κs =
+    tt
+
+aso-asc-requires : (t : ℕ) → aso-lts.Need-asc-requires (
+  peek-reads.Asked,
+  peek-reads.Learnt,
+  ascription-reads.Asked,
+  ascription-reads.Learnt,
+  asc-below t,
+  asc.Post,
+) (aso-at t) aso.Post
+aso-asc-requires t c κs =
+    let falls = c .before .before .before .before .before .before .before .before .before .before .before .before .before .before .before .pre .0 in
+    let pre0 = c .before .before .before .before .before .before .before .before .before .before .before .before .before .before .before .pre .1 in
+    let if1 = c .before .before .before .if1 .taken in
+    (omega arith, pre0)
+
+aso-same-length : (t : ℕ) → aso-lts.Need-same-length (
+  peek-reads.Asked,
+  peek-reads.Learnt,
+  ascription-reads.Asked,
+  ascription-reads.Learnt,
+  asc-below t,
+  asc.Post,
+) (aso-at t) aso.Post
+aso-same-length t c =
+    c .before .before .before .before .before .before .asc .kept .1 .1 .1 .0
+
+aso-same-length-2 : (t : ℕ) → aso-lts.Need-same-length-2 (
+  peek-reads.Asked,
+  peek-reads.Learnt,
+  ascription-reads.Asked,
+  ascription-reads.Learnt,
+  asc-below t,
+  asc.Post,
+) (aso-at t) aso.Post
+aso-same-length-2 t c =
+    c .before .before .before .before .before .before .asc .kept .1 .1 .1 .1 .0
+
+aso-same-length-3 : (t : ℕ) → aso-lts.Need-same-length-3 (
+  peek-reads.Asked,
+  peek-reads.Learnt,
+  ascription-reads.Asked,
+  ascription-reads.Learnt,
+  asc-below t,
+  asc.Post,
+) (aso-at t) aso.Post
+aso-same-length-3 t c =
+    c .before .before .before .before .before .before .asc .kept .1 .1 .1 .1 .1 .0
+
+aso-returns-2 : (t : ℕ) → aso-lts.Need-returns-2 (
+  peek-reads.Asked,
+  peek-reads.Learnt,
+  ascription-reads.Asked,
+  ascription-reads.Learnt,
+  asc-below t,
+  asc.Post,
+) (aso-at t) aso.Post
+unfolding decl.ascriptionOpt plan choose chosen
+aso-returns-2 t c =
+    let falls = c .before .before .before .before .before .before .before .before .before .before .before .before .before .before .before .before .before .before .before .before .before .before .pre .0 in
+    let pre0 = c .before .before .before .before .before .before .before .before .before .before .before .before .before .before .before .before .before .before .before .before .before .before .pre .1 in
+    let peek = rw (c .before .before .before .before .before .before .before .before .before .before .before .before .before .k .given .1) at (c .before .before .before .before .before .before .before .before .before .before .before .before .before .before .before .peek .ensures) in
+    let ascription = c .before .before .before .before .before .before .before .before .before .before .before .ascription .ensures in
+    let if1 = c .before .before .before .before .before .before .before .before .before .before .if1 .taken in
+    let asc = c .before .before .before .before .before .before .asc .ensures in
+    by-steps pre0 (λ b. s-look peek (s-true _ _ (test-true ascription if1) (s-by _ (runs-in asc) s-end)))
+
+aso-returns-3 : (t : ℕ) → aso-lts.Need-returns-3 (
+  peek-reads.Asked,
+  peek-reads.Learnt,
+  ascription-reads.Asked,
+  ascription-reads.Learnt,
+  asc-below t,
+  asc.Post,
+) (aso-at t) aso.Post
+unfolding decl.ascriptionOpt plan choose chosen
+aso-returns-3 t c =
+    let falls = c .before .before .before .before .before .before .before .before .before .before .before .before .pre .0 in
+    let pre0 = c .before .before .before .before .before .before .before .before .before .before .before .before .pre .1 in
+    let peek = rw (c .before .before .before .k .given .1) at (c .before .before .before .before .before .peek .ensures) in
+    let ascription = c .before .ascription .ensures in
+    let if1 = c .if1 .left in
+    by-steps pre0 (λ b. s-look peek (s-false _ _ (test-false ascription if1) s-end))
+
+atm-bump-requires : (t : ℕ) → atm-lts.Need-bump-requires (
+  bump-reads.Asked,
+  bump-reads.Learnt,
+  record-update-reads.Asked,
+  record-update-reads.Learnt,
+  sep-below t,
+  sep.Post,
+  close-reads.Asked,
+  close-reads.Learnt,
+  hsh-below t,
+  hsh.Post,
+  rnd-below t,
+  rnd.Post,
+  lex-below t,
+  lex.Post,
+  leaf-reads.Asked,
+  leaf-reads.Learnt,
+) (atm-at t) atm.Post
+atm-bump-requires t c κs =
+    let pre0 = c .before .before .before .before .before .before .before .before .pre .1 .0 in
+    (pre0 .reads, pre0 .logs)
+
+atm-record-update-requires : (t : ℕ) → atm-lts.Need-record-update-requires (
+  bump-reads.Asked,
+  bump-reads.Learnt,
+  record-update-reads.Asked,
+  record-update-reads.Learnt,
+  sep-below t,
+  sep.Post,
+  close-reads.Asked,
+  close-reads.Learnt,
+  hsh-below t,
+  hsh.Post,
+  rnd-below t,
+  rnd.Post,
+  lex-below t,
+  lex.Post,
+  leaf-reads.Asked,
+  leaf-reads.Learnt,
+) (atm-at t) atm.Post
+atm-record-update-requires t c κs =
+    let pre0 = c .before .before .before .before .before .before .before .before .before .before .before .before .before .before .pre .1 .0 in
+    let bump = c .before .before .before .before .before .bump .ensures in
+    let bump-ok = ok-bumps bump pre0 in
+    bump-ok
+
+atm-sep-requires : (t : ℕ) → atm-lts.Need-sep-requires (
+  bump-reads.Asked,
+  bump-reads.Learnt,
+  record-update-reads.Asked,
+  record-update-reads.Learnt,
+  sep-below t,
+  sep.Post,
+  close-reads.Asked,
+  close-reads.Learnt,
+  hsh-below t,
+  hsh.Post,
+  rnd-below t,
+  rnd.Post,
+  lex-below t,
+  lex.Post,
+  leaf-reads.Asked,
+  leaf-reads.Learnt,
+) (atm-at t) atm.Post
+atm-sep-requires t c κs =
+    let falls = c .before .before .before .before .before .before .before .before .before .before .before .before .before .before .before .before .before .before .before .before .before .before .pre .0 in
+    let pre1 = c .before .before .before .before .before .before .before .before .before .before .before .before .before .before .before .before .before .before .before .before .before .before .pre .1 .1 in
+    let if1 = c .before .before .before .before .before .before .before .before .before .before .before .before .before .before .before .if1 .taken in
+    let record-update = c .before .before .before .before .before .before .before .record-update .ensures in
+    let record-update-ok = record-update .ok in
+    (omega arith, (record-update-ok, omega arith))
+
+atm-close-requires : (t : ℕ) → atm-lts.Need-close-requires (
+  bump-reads.Asked,
+  bump-reads.Learnt,
+  record-update-reads.Asked,
+  record-update-reads.Learnt,
+  sep-below t,
+  sep.Post,
+  close-reads.Asked,
+  close-reads.Learnt,
+  hsh-below t,
+  hsh.Post,
+  rnd-below t,
+  rnd.Post,
+  lex-below t,
+  lex.Post,
+  leaf-reads.Asked,
+  leaf-reads.Learnt,
+) (atm-at t) atm.Post
+atm-close-requires t c κs =
+    let pre1 = c .before .before .before .before .before .before .before .before .before .before .before .before .before .before .before .before .before .before .before .before .before .before .before .before .before .before .before .before .before .before .pre .1 .1 in
+    let sep = c .before .before .before .before .before .before .before .sep .ensures in
+    let sep-ok = sep .ok in
+    (sep-ok .logs, pre1)
+
+atm-same-length : (t : ℕ) → atm-lts.Need-same-length (
+  bump-reads.Asked,
+  bump-reads.Learnt,
+  record-update-reads.Asked,
+  record-update-reads.Learnt,
+  sep-below t,
+  sep.Post,
+  close-reads.Asked,
+  close-reads.Learnt,
+  hsh-below t,
+  hsh.Post,
+  rnd-below t,
+  rnd.Post,
+  lex-below t,
+  lex.Post,
+  leaf-reads.Asked,
+  leaf-reads.Learnt,
+) (atm-at t) atm.Post
+atm-same-length t c =
+    c .before .before .before .before .before .before .before .before .before .before .sep .kept .1 .1 .1 .0
+
+atm-same-length-2 : (t : ℕ) → atm-lts.Need-same-length-2 (
+  bump-reads.Asked,
+  bump-reads.Learnt,
+  record-update-reads.Asked,
+  record-update-reads.Learnt,
+  sep-below t,
+  sep.Post,
+  close-reads.Asked,
+  close-reads.Learnt,
+  hsh-below t,
+  hsh.Post,
+  rnd-below t,
+  rnd.Post,
+  lex-below t,
+  lex.Post,
+  leaf-reads.Asked,
+  leaf-reads.Learnt,
+) (atm-at t) atm.Post
+atm-same-length-2 t c =
+    c .before .before .close .kept .0 ∙ c .before .before .before .before .before .before .before .before .before .before .sep .kept .1 .1 .1 .1 .0 ∙ c .before .before .before .before .before .before .before .before .before .before .before .before .before .before .before .before .before .before .record-update .kept .1 .1 .1 .1 .0 ∙ c .before .before .before .before .before .before .before .before .before .before .before .before .before .before .before .before .before .before .before .before .before .before .before .before .bump .kept .1 .0
+
+atm-same-length-3 : (t : ℕ) → atm-lts.Need-same-length-3 (
+  bump-reads.Asked,
+  bump-reads.Learnt,
+  record-update-reads.Asked,
+  record-update-reads.Learnt,
+  sep-below t,
+  sep.Post,
+  close-reads.Asked,
+  close-reads.Learnt,
+  hsh-below t,
+  hsh.Post,
+  rnd-below t,
+  rnd.Post,
+  lex-below t,
+  lex.Post,
+  leaf-reads.Asked,
+  leaf-reads.Learnt,
+) (atm-at t) atm.Post
+atm-same-length-3 t c =
+    c .before .before .before .before .before .before .before .before .before .before .sep .kept .1 .1 .1 .1 .1 .0 ∙ c .before .before .before .before .before .before .before .before .before .before .before .before .before .before .before .before .before .before .record-update .kept .1 .1 .1 .1 .1 .0
+
+atm-returns : (t : ℕ) → atm-lts.Need-returns (
+  bump-reads.Asked,
+  bump-reads.Learnt,
+  record-update-reads.Asked,
+  record-update-reads.Learnt,
+  sep-below t,
+  sep.Post,
+  close-reads.Asked,
+  close-reads.Learnt,
+  hsh-below t,
+  hsh.Post,
+  rnd-below t,
+  rnd.Post,
+  lex-below t,
+  lex.Post,
+  leaf-reads.Asked,
+  leaf-reads.Learnt,
+) (atm-at t) atm.Post
+unfolding expr.atExpHead util.endSep expr.endClosure util.choose plan choose chosen
+atm-returns t c =
+    let falls = c .before .before .before .before .before .before .before .before .before .before .before .before .before .before .before .before .before .before .before .before .before .before .before .before .before .before .before .before .before .before .before .before .before .pre .0 in
+    let pre0 = c .before .before .before .before .before .before .before .before .before .before .before .before .before .before .before .before .before .before .before .before .before .before .before .before .before .before .before .before .before .before .before .before .before .pre .1 .0 in
+    let pre1 = c .before .before .before .before .before .before .before .before .before .before .before .before .before .before .before .before .before .before .before .before .before .before .before .before .before .before .before .before .before .before .before .before .before .pre .1 .1 in
+    let if1 = c .before .before .before .before .before .before .before .before .before .before .before .before .before .before .before .before .before .before .before .before .before .before .before .before .before .before .if1 .taken in
+    let bump = c .before .before .before .before .before .before .before .before .before .before .before .before .before .before .before .before .before .before .before .before .before .before .before .before .bump .ensures in
+    let record-update = c .before .before .before .before .before .before .before .before .before .before .before .before .before .before .before .before .before .before .record-update .ensures in
+    let sep = c .before .before .before .before .before .before .before .before .before .before .sep .ensures in
+    let close = c .before .before .close .ensures in
+    in-steps pre0 (s-true _ _ (kind-is if1) (s-bump bump (s-by _ (runs-in record-update) (s-run sep (s-close close s-end)))))
+
+atm-hsh-requires : (t : ℕ) → atm-lts.Need-hsh-requires (
+  bump-reads.Asked,
+  bump-reads.Learnt,
+  record-update-reads.Asked,
+  record-update-reads.Learnt,
+  sep-below t,
+  sep.Post,
+  close-reads.Asked,
+  close-reads.Learnt,
+  hsh-below t,
+  hsh.Post,
+  rnd-below t,
+  rnd.Post,
+  lex-below t,
+  lex.Post,
+  leaf-reads.Asked,
+  leaf-reads.Learnt,
+) (atm-at t) atm.Post
+atm-hsh-requires t c κs =
+    let falls = c .before .before .before .before .before .before .before .before .before .before .before .pre .0 in
+    let pre0 = c .before .before .before .before .before .before .before .before .before .before .before .pre .1 .0 in
+    let pre1 = c .before .before .before .before .before .before .before .before .before .before .before .pre .1 .1 in
+    let if1 = c .before .before .before .before .if1 .left in
+    let if2 = c .before .before .before .if2 .taken in
+    (omega arith, (pre0, pre1))
+
+atm-same-length-4 : (t : ℕ) → atm-lts.Need-same-length-4 (
+  bump-reads.Asked,
+  bump-reads.Learnt,
+  record-update-reads.Asked,
+  record-update-reads.Learnt,
+  sep-below t,
+  sep.Post,
+  close-reads.Asked,
+  close-reads.Learnt,
+  hsh-below t,
+  hsh.Post,
+  rnd-below t,
+  rnd.Post,
+  lex-below t,
+  lex.Post,
+  leaf-reads.Asked,
+  leaf-reads.Learnt,
+) (atm-at t) atm.Post
+atm-same-length-4 t c =
+    c .before .before .before .before .before .before .hsh .kept .1 .1 .1 .0
+
+atm-same-length-5 : (t : ℕ) → atm-lts.Need-same-length-5 (
+  bump-reads.Asked,
+  bump-reads.Learnt,
+  record-update-reads.Asked,
+  record-update-reads.Learnt,
+  sep-below t,
+  sep.Post,
+  close-reads.Asked,
+  close-reads.Learnt,
+  hsh-below t,
+  hsh.Post,
+  rnd-below t,
+  rnd.Post,
+  lex-below t,
+  lex.Post,
+  leaf-reads.Asked,
+  leaf-reads.Learnt,
+) (atm-at t) atm.Post
+atm-same-length-5 t c =
+    c .before .before .before .before .before .before .hsh .kept .1 .1 .1 .1 .0
+
+atm-same-length-6 : (t : ℕ) → atm-lts.Need-same-length-6 (
+  bump-reads.Asked,
+  bump-reads.Learnt,
+  record-update-reads.Asked,
+  record-update-reads.Learnt,
+  sep-below t,
+  sep.Post,
+  close-reads.Asked,
+  close-reads.Learnt,
+  hsh-below t,
+  hsh.Post,
+  rnd-below t,
+  rnd.Post,
+  lex-below t,
+  lex.Post,
+  leaf-reads.Asked,
+  leaf-reads.Learnt,
+) (atm-at t) atm.Post
+atm-same-length-6 t c =
+    c .before .before .before .before .before .before .hsh .kept .1 .1 .1 .1 .1 .0
+
+atm-returns-2 : (t : ℕ) → atm-lts.Need-returns-2 (
+  bump-reads.Asked,
+  bump-reads.Learnt,
+  record-update-reads.Asked,
+  record-update-reads.Learnt,
+  sep-below t,
+  sep.Post,
+  close-reads.Asked,
+  close-reads.Learnt,
+  hsh-below t,
+  hsh.Post,
+  rnd-below t,
+  rnd.Post,
+  lex-below t,
+  lex.Post,
+  leaf-reads.Asked,
+  leaf-reads.Learnt,
+) (atm-at t) atm.Post
+unfolding expr.atExpHead util.endSep expr.endClosure util.choose plan choose chosen
+atm-returns-2 t c =
+    let falls = c .before .before .before .before .before .before .before .before .before .before .before .before .before .before .before .before .before .before .pre .0 in
+    let pre0 = c .before .before .before .before .before .before .before .before .before .before .before .before .before .before .before .before .before .before .pre .1 .0 in
+    let pre1 = c .before .before .before .before .before .before .before .before .before .before .before .before .before .before .before .before .before .before .pre .1 .1 in
+    let if1 = c .before .before .before .before .before .before .before .before .before .before .before .if1 .left in
+    let if2 = c .before .before .before .before .before .before .before .before .before .before .if2 .taken in
+    let hsh = c .before .before .before .before .before .before .hsh .ensures in
+    in-steps pre0 (s-false _ _ (kind-not if1) (s-true _ _ (kind-is if2) (s-by _ hsh s-end)))
+
+atm-bump-requires-2 : (t : ℕ) → atm-lts.Need-bump-requires-2 (
+  bump-reads.Asked,
+  bump-reads.Learnt,
+  record-update-reads.Asked,
+  record-update-reads.Learnt,
+  sep-below t,
+  sep.Post,
+  close-reads.Asked,
+  close-reads.Learnt,
+  hsh-below t,
+  hsh.Post,
+  rnd-below t,
+  rnd.Post,
+  lex-below t,
+  lex.Post,
+  leaf-reads.Asked,
+  leaf-reads.Learnt,
+) (atm-at t) atm.Post
+atm-bump-requires-2 t c κs =
+    let pre0 = c .before .before .before .before .before .before .before .before .before .before .pre .1 .0 in
+    (pre0 .reads, pre0 .logs)
+
+atm-rnd-requires : (t : ℕ) → atm-lts.Need-rnd-requires (
+  bump-reads.Asked,
+  bump-reads.Learnt,
+  record-update-reads.Asked,
+  record-update-reads.Learnt,
+  sep-below t,
+  sep.Post,
+  close-reads.Asked,
+  close-reads.Learnt,
+  hsh-below t,
+  hsh.Post,
+  rnd-below t,
+  rnd.Post,
+  lex-below t,
+  lex.Post,
+  leaf-reads.Asked,
+  leaf-reads.Learnt,
+) (atm-at t) atm.Post
+atm-rnd-requires t c κs =
+    let falls = c .before .before .before .before .before .before .before .before .before .before .before .before .before .before .before .before .pre .0 in
+    let pre0 = c .before .before .before .before .before .before .before .before .before .before .before .before .before .before .before .before .pre .1 .0 in
+    let pre1 = c .before .before .before .before .before .before .before .before .before .before .before .before .before .before .before .before .pre .1 .1 in
+    let if1 = c .before .before .before .before .before .before .before .before .before .if1 .left in
+    let if2 = c .before .before .before .before .before .before .before .before .if2 .left in
+    let if3 = c .before .before .before .before .before .before .before .if3 .taken in
+    let bump2 = c .before .before .before .before .before .bump2 .ensures in
+    let bump2-ok = ok-bumps bump2 pre0 in
+    (omega arith, (bump2-ok, pre1))
+
+atm-same-length-7 : (t : ℕ) → atm-lts.Need-same-length-7 (
+  bump-reads.Asked,
+  bump-reads.Learnt,
+  record-update-reads.Asked,
+  record-update-reads.Learnt,
+  sep-below t,
+  sep.Post,
+  close-reads.Asked,
+  close-reads.Learnt,
+  hsh-below t,
+  hsh.Post,
+  rnd-below t,
+  rnd.Post,
+  lex-below t,
+  lex.Post,
+  leaf-reads.Asked,
+  leaf-reads.Learnt,
+) (atm-at t) atm.Post
+atm-same-length-7 t c =
+    c .before .before .before .before .before .before .rnd .kept .1 .1 .1 .0
+
+atm-same-length-8 : (t : ℕ) → atm-lts.Need-same-length-8 (
+  bump-reads.Asked,
+  bump-reads.Learnt,
+  record-update-reads.Asked,
+  record-update-reads.Learnt,
+  sep-below t,
+  sep.Post,
+  close-reads.Asked,
+  close-reads.Learnt,
+  hsh-below t,
+  hsh.Post,
+  rnd-below t,
+  rnd.Post,
+  lex-below t,
+  lex.Post,
+  leaf-reads.Asked,
+  leaf-reads.Learnt,
+) (atm-at t) atm.Post
+atm-same-length-8 t c =
+    c .before .before .before .before .before .before .rnd .kept .1 .1 .1 .1 .0 ∙ c .before .before .before .before .before .before .before .before .before .before .before .before .bump2 .kept .1 .0
+
+atm-same-length-9 : (t : ℕ) → atm-lts.Need-same-length-9 (
+  bump-reads.Asked,
+  bump-reads.Learnt,
+  record-update-reads.Asked,
+  record-update-reads.Learnt,
+  sep-below t,
+  sep.Post,
+  close-reads.Asked,
+  close-reads.Learnt,
+  hsh-below t,
+  hsh.Post,
+  rnd-below t,
+  rnd.Post,
+  lex-below t,
+  lex.Post,
+  leaf-reads.Asked,
+  leaf-reads.Learnt,
+) (atm-at t) atm.Post
+atm-same-length-9 t c =
+    c .before .before .before .before .before .before .rnd .kept .1 .1 .1 .1 .1 .0
+
+atm-returns-3 : (t : ℕ) → atm-lts.Need-returns-3 (
+  bump-reads.Asked,
+  bump-reads.Learnt,
+  record-update-reads.Asked,
+  record-update-reads.Learnt,
+  sep-below t,
+  sep.Post,
+  close-reads.Asked,
+  close-reads.Learnt,
+  hsh-below t,
+  hsh.Post,
+  rnd-below t,
+  rnd.Post,
+  lex-below t,
+  lex.Post,
+  leaf-reads.Asked,
+  leaf-reads.Learnt,
+) (atm-at t) atm.Post
+unfolding expr.atExpHead util.endSep expr.endClosure util.choose plan choose chosen
+atm-returns-3 t c =
+    let falls = c .before .before .before .before .before .before .before .before .before .before .before .before .before .before .before .before .before .before .before .before .before .before .before .pre .0 in
+    let pre0 = c .before .before .before .before .before .before .before .before .before .before .before .before .before .before .before .before .before .before .before .before .before .before .before .pre .1 .0 in
+    let pre1 = c .before .before .before .before .before .before .before .before .before .before .before .before .before .before .before .before .before .before .before .before .before .before .before .pre .1 .1 in
+    let if1 = c .before .before .before .before .before .before .before .before .before .before .before .before .before .before .before .before .if1 .left in
+    let if2 = c .before .before .before .before .before .before .before .before .before .before .before .before .before .before .before .if2 .left in
+    let if3 = c .before .before .before .before .before .before .before .before .before .before .before .before .before .before .if3 .taken in
+    let bump2 = c .before .before .before .before .before .before .before .before .before .before .before .before .bump2 .ensures in
+    let rnd = c .before .before .before .before .before .before .rnd .ensures in
+    in-steps pre0 (s-false _ _ (kind-not if1) (s-false _ _ (kind-not if2) (s-true _ _ (kind-is if3) (s-bump bump2 (s-by _ rnd s-end)))))
+
+atm-bump-requires-3 : (t : ℕ) → atm-lts.Need-bump-requires-3 (
+  bump-reads.Asked,
+  bump-reads.Learnt,
+  record-update-reads.Asked,
+  record-update-reads.Learnt,
+  sep-below t,
+  sep.Post,
+  close-reads.Asked,
+  close-reads.Learnt,
+  hsh-below t,
+  hsh.Post,
+  rnd-below t,
+  rnd.Post,
+  lex-below t,
+  lex.Post,
+  leaf-reads.Asked,
+  leaf-reads.Learnt,
+) (atm-at t) atm.Post
+atm-bump-requires-3 t c κs =
+    let pre0 = c .before .before .before .before .before .before .before .before .before .before .before .pre .1 .0 in
+    (pre0 .reads, pre0 .logs)
+
+atm-sep-requires-2 : (t : ℕ) → atm-lts.Need-sep-requires-2 (
+  bump-reads.Asked,
+  bump-reads.Learnt,
+  record-update-reads.Asked,
+  record-update-reads.Learnt,
+  sep-below t,
+  sep.Post,
+  close-reads.Asked,
+  close-reads.Learnt,
+  hsh-below t,
+  hsh.Post,
+  rnd-below t,
+  rnd.Post,
+  lex-below t,
+  lex.Post,
+  leaf-reads.Asked,
+  leaf-reads.Learnt,
+) (atm-at t) atm.Post
+atm-sep-requires-2 t c κs =
+    let falls = c .before .before .before .before .before .before .before .before .before .before .before .before .before .before .before .before .before .pre .0 in
+    let pre0 = c .before .before .before .before .before .before .before .before .before .before .before .before .before .before .before .before .before .pre .1 .0 in
+    let pre1 = c .before .before .before .before .before .before .before .before .before .before .before .before .before .before .before .before .before .pre .1 .1 in
+    let if1 = c .before .before .before .before .before .before .before .before .before .before .if1 .left in
+    let if2 = c .before .before .before .before .before .before .before .before .before .if2 .left in
+    let if3 = c .before .before .before .before .before .before .before .before .if3 .left in
+    let if4 = c .before .before .before .before .before .before .before .if4 .taken in
+    let bump3 = c .before .before .before .before .before .bump3 .ensures in
+    let bump3-ok = ok-bumps bump3 pre0 in
+    (omega arith, (bump3-ok, omega arith))
+
+atm-close-requires-2 : (t : ℕ) → atm-lts.Need-close-requires-2 (
+  bump-reads.Asked,
+  bump-reads.Learnt,
+  record-update-reads.Asked,
+  record-update-reads.Learnt,
+  sep-below t,
+  sep.Post,
+  close-reads.Asked,
+  close-reads.Learnt,
+  hsh-below t,
+  hsh.Post,
+  rnd-below t,
+  rnd.Post,
+  lex-below t,
+  lex.Post,
+  leaf-reads.Asked,
+  leaf-reads.Learnt,
+) (atm-at t) atm.Post
+atm-close-requires-2 t c κs =
+    let pre1 = c .before .before .before .before .before .before .before .before .before .before .before .before .before .before .before .before .before .before .before .before .before .before .before .before .before .pre .1 .1 in
+    let sep2 = c .before .before .before .before .before .before .before .sep2 .ensures in
+    let sep2-ok = sep2 .ok in
+    (sep2-ok .logs, pre1)
+
+atm-same-length-10 : (t : ℕ) → atm-lts.Need-same-length-10 (
+  bump-reads.Asked,
+  bump-reads.Learnt,
+  record-update-reads.Asked,
+  record-update-reads.Learnt,
+  sep-below t,
+  sep.Post,
+  close-reads.Asked,
+  close-reads.Learnt,
+  hsh-below t,
+  hsh.Post,
+  rnd-below t,
+  rnd.Post,
+  lex-below t,
+  lex.Post,
+  leaf-reads.Asked,
+  leaf-reads.Learnt,
+) (atm-at t) atm.Post
+atm-same-length-10 t c =
+    c .before .before .before .before .before .before .before .before .before .before .sep2 .kept .1 .1 .1 .0
+
+atm-same-length-11 : (t : ℕ) → atm-lts.Need-same-length-11 (
+  bump-reads.Asked,
+  bump-reads.Learnt,
+  record-update-reads.Asked,
+  record-update-reads.Learnt,
+  sep-below t,
+  sep.Post,
+  close-reads.Asked,
+  close-reads.Learnt,
+  hsh-below t,
+  hsh.Post,
+  rnd-below t,
+  rnd.Post,
+  lex-below t,
+  lex.Post,
+  leaf-reads.Asked,
+  leaf-reads.Learnt,
+) (atm-at t) atm.Post
+atm-same-length-11 t c =
+    c .before .before .close2 .kept .0 ∙ c .before .before .before .before .before .before .before .before .before .before .sep2 .kept .1 .1 .1 .1 .0 ∙ c .before .before .before .before .before .before .before .before .before .before .before .before .before .before .before .before .bump3 .kept .1 .0
+
+atm-same-length-12 : (t : ℕ) → atm-lts.Need-same-length-12 (
+  bump-reads.Asked,
+  bump-reads.Learnt,
+  record-update-reads.Asked,
+  record-update-reads.Learnt,
+  sep-below t,
+  sep.Post,
+  close-reads.Asked,
+  close-reads.Learnt,
+  hsh-below t,
+  hsh.Post,
+  rnd-below t,
+  rnd.Post,
+  lex-below t,
+  lex.Post,
+  leaf-reads.Asked,
+  leaf-reads.Learnt,
+) (atm-at t) atm.Post
+atm-same-length-12 t c =
+    c .before .before .before .before .before .before .before .before .before .before .sep2 .kept .1 .1 .1 .1 .1 .0
+
+atm-returns-4 : (t : ℕ) → atm-lts.Need-returns-4 (
+  bump-reads.Asked,
+  bump-reads.Learnt,
+  record-update-reads.Asked,
+  record-update-reads.Learnt,
+  sep-below t,
+  sep.Post,
+  close-reads.Asked,
+  close-reads.Learnt,
+  hsh-below t,
+  hsh.Post,
+  rnd-below t,
+  rnd.Post,
+  lex-below t,
+  lex.Post,
+  leaf-reads.Asked,
+  leaf-reads.Learnt,
+) (atm-at t) atm.Post
+unfolding expr.atExpHead util.endSep expr.endClosure util.choose plan choose chosen
+atm-returns-4 t c =
+    let falls = c .before .before .before .before .before .before .before .before .before .before .before .before .before .before .before .before .before .before .before .before .before .before .before .before .before .before .before .before .pre .0 in
+    let pre0 = c .before .before .before .before .before .before .before .before .before .before .before .before .before .before .before .before .before .before .before .before .before .before .before .before .before .before .before .before .pre .1 .0 in
+    let pre1 = c .before .before .before .before .before .before .before .before .before .before .before .before .before .before .before .before .before .before .before .before .before .before .before .before .before .before .before .before .pre .1 .1 in
+    let if1 = c .before .before .before .before .before .before .before .before .before .before .before .before .before .before .before .before .before .before .before .before .before .if1 .left in
+    let if2 = c .before .before .before .before .before .before .before .before .before .before .before .before .before .before .before .before .before .before .before .before .if2 .left in
+    let if3 = c .before .before .before .before .before .before .before .before .before .before .before .before .before .before .before .before .before .before .before .if3 .left in
+    let if4 = c .before .before .before .before .before .before .before .before .before .before .before .before .before .before .before .before .before .before .if4 .taken in
+    let bump3 = c .before .before .before .before .before .before .before .before .before .before .before .before .before .before .before .before .bump3 .ensures in
+    let sep2 = c .before .before .before .before .before .before .before .before .before .before .sep2 .ensures in
+    let close2 = c .before .before .close2 .ensures in
+    in-steps pre0 (s-false _ _ (kind-not if1) (s-false _ _ (kind-not if2) (s-false _ _ (kind-not if3) (s-true _ _ (kind-is if4) (s-bump bump3 (s-run sep2 (s-close close2 s-end)))))))
+
+atm-lex-requires : (t : ℕ) → atm-lts.Need-lex-requires (
+  bump-reads.Asked,
+  bump-reads.Learnt,
+  record-update-reads.Asked,
+  record-update-reads.Learnt,
+  sep-below t,
+  sep.Post,
+  close-reads.Asked,
+  close-reads.Learnt,
+  hsh-below t,
+  hsh.Post,
+  rnd-below t,
+  rnd.Post,
+  lex-below t,
+  lex.Post,
+  leaf-reads.Asked,
+  leaf-reads.Learnt,
+) (atm-at t) atm.Post
+atm-lex-requires t c κs =
+    let falls = c .before .before .before .before .before .before .before .before .before .before .before .before .before .before .pre .0 in
+    let pre0 = c .before .before .before .before .before .before .before .before .before .before .before .before .before .before .pre .1 .0 in
+    let pre1 = c .before .before .before .before .before .before .before .before .before .before .before .before .before .before .pre .1 .1 in
+    let if1 = c .before .before .before .before .before .before .before .if1 .left in
+    let if2 = c .before .before .before .before .before .before .if2 .left in
+    let if3 = c .before .before .before .before .before .if3 .left in
+    let if4 = c .before .before .before .before .if4 .left in
+    let if5 = c .before .before .before .if5 .taken in
+    (omega arith, (pre0, pre1))
+
+atm-same-length-13 : (t : ℕ) → atm-lts.Need-same-length-13 (
+  bump-reads.Asked,
+  bump-reads.Learnt,
+  record-update-reads.Asked,
+  record-update-reads.Learnt,
+  sep-below t,
+  sep.Post,
+  close-reads.Asked,
+  close-reads.Learnt,
+  hsh-below t,
+  hsh.Post,
+  rnd-below t,
+  rnd.Post,
+  lex-below t,
+  lex.Post,
+  leaf-reads.Asked,
+  leaf-reads.Learnt,
+) (atm-at t) atm.Post
+atm-same-length-13 t c =
+    c .before .before .before .before .before .before .lex .kept .1 .1 .1 .0
+
+atm-same-length-14 : (t : ℕ) → atm-lts.Need-same-length-14 (
+  bump-reads.Asked,
+  bump-reads.Learnt,
+  record-update-reads.Asked,
+  record-update-reads.Learnt,
+  sep-below t,
+  sep.Post,
+  close-reads.Asked,
+  close-reads.Learnt,
+  hsh-below t,
+  hsh.Post,
+  rnd-below t,
+  rnd.Post,
+  lex-below t,
+  lex.Post,
+  leaf-reads.Asked,
+  leaf-reads.Learnt,
+) (atm-at t) atm.Post
+atm-same-length-14 t c =
+    c .before .before .before .before .before .before .lex .kept .1 .1 .1 .1 .0
+
+atm-same-length-15 : (t : ℕ) → atm-lts.Need-same-length-15 (
+  bump-reads.Asked,
+  bump-reads.Learnt,
+  record-update-reads.Asked,
+  record-update-reads.Learnt,
+  sep-below t,
+  sep.Post,
+  close-reads.Asked,
+  close-reads.Learnt,
+  hsh-below t,
+  hsh.Post,
+  rnd-below t,
+  rnd.Post,
+  lex-below t,
+  lex.Post,
+  leaf-reads.Asked,
+  leaf-reads.Learnt,
+) (atm-at t) atm.Post
+atm-same-length-15 t c =
+    c .before .before .before .before .before .before .lex .kept .1 .1 .1 .1 .1 .0
+
+atm-returns-5 : (t : ℕ) → atm-lts.Need-returns-5 (
+  bump-reads.Asked,
+  bump-reads.Learnt,
+  record-update-reads.Asked,
+  record-update-reads.Learnt,
+  sep-below t,
+  sep.Post,
+  close-reads.Asked,
+  close-reads.Learnt,
+  hsh-below t,
+  hsh.Post,
+  rnd-below t,
+  rnd.Post,
+  lex-below t,
+  lex.Post,
+  leaf-reads.Asked,
+  leaf-reads.Learnt,
+) (atm-at t) atm.Post
+unfolding expr.atExpHead util.endSep expr.endClosure util.choose plan choose chosen
+atm-returns-5 t c =
+    let falls = c .before .before .before .before .before .before .before .before .before .before .before .before .before .before .before .before .before .before .before .before .before .pre .0 in
+    let pre0 = c .before .before .before .before .before .before .before .before .before .before .before .before .before .before .before .before .before .before .before .before .before .pre .1 .0 in
+    let pre1 = c .before .before .before .before .before .before .before .before .before .before .before .before .before .before .before .before .before .before .before .before .before .pre .1 .1 in
+    let if1 = c .before .before .before .before .before .before .before .before .before .before .before .before .before .before .if1 .left in
+    let if2 = c .before .before .before .before .before .before .before .before .before .before .before .before .before .if2 .left in
+    let if3 = c .before .before .before .before .before .before .before .before .before .before .before .before .if3 .left in
+    let if4 = c .before .before .before .before .before .before .before .before .before .before .before .if4 .left in
+    let if5 = c .before .before .before .before .before .before .before .before .before .before .if5 .taken in
+    let lex = c .before .before .before .before .before .before .lex .ensures in
+    in-steps pre0 (s-false _ _ (kind-not if1) (s-false _ _ (kind-not if2) (s-false _ _ (kind-not if3) (s-false _ _ (kind-not if4) (s-true _ _ (kind-is if5) (s-by _ lex s-end))))))
+
+atm-leaf-requires : (t : ℕ) → atm-lts.Need-leaf-requires (
+  bump-reads.Asked,
+  bump-reads.Learnt,
+  record-update-reads.Asked,
+  record-update-reads.Learnt,
+  sep-below t,
+  sep.Post,
+  close-reads.Asked,
+  close-reads.Learnt,
+  hsh-below t,
+  hsh.Post,
+  rnd-below t,
+  rnd.Post,
+  lex-below t,
+  lex.Post,
+  leaf-reads.Asked,
+  leaf-reads.Learnt,
+) (atm-at t) atm.Post
+atm-leaf-requires t c κs =
+    let pre0 = c .before .before .before .before .before .before .before .before .before .before .before .before .before .before .pre .1 .0 in
+    let pre1 = c .before .before .before .before .before .before .before .before .before .before .before .before .before .before .pre .1 .1 in
+    (pre0, pre1)
+
+atm-same-length-16 : (t : ℕ) → atm-lts.Need-same-length-16 (
+  bump-reads.Asked,
+  bump-reads.Learnt,
+  record-update-reads.Asked,
+  record-update-reads.Learnt,
+  sep-below t,
+  sep.Post,
+  close-reads.Asked,
+  close-reads.Learnt,
+  hsh-below t,
+  hsh.Post,
+  rnd-below t,
+  rnd.Post,
+  lex-below t,
+  lex.Post,
+  leaf-reads.Asked,
+  leaf-reads.Learnt,
+) (atm-at t) atm.Post
+atm-same-length-16 t c =
+    refl
+
+atm-same-length-17 : (t : ℕ) → atm-lts.Need-same-length-17 (
+  bump-reads.Asked,
+  bump-reads.Learnt,
+  record-update-reads.Asked,
+  record-update-reads.Learnt,
+  sep-below t,
+  sep.Post,
+  close-reads.Asked,
+  close-reads.Learnt,
+  hsh-below t,
+  hsh.Post,
+  rnd-below t,
+  rnd.Post,
+  lex-below t,
+  lex.Post,
+  leaf-reads.Asked,
+  leaf-reads.Learnt,
+) (atm-at t) atm.Post
+atm-same-length-17 t c =
+    c .before .before .before .before .leaf .kept .1 .1 .1 .1 .0
+
+atm-same-length-18 : (t : ℕ) → atm-lts.Need-same-length-18 (
+  bump-reads.Asked,
+  bump-reads.Learnt,
+  record-update-reads.Asked,
+  record-update-reads.Learnt,
+  sep-below t,
+  sep.Post,
+  close-reads.Asked,
+  close-reads.Learnt,
+  hsh-below t,
+  hsh.Post,
+  rnd-below t,
+  rnd.Post,
+  lex-below t,
+  lex.Post,
+  leaf-reads.Asked,
+  leaf-reads.Learnt,
+) (atm-at t) atm.Post
+atm-same-length-18 t c =
+    c .before .before .before .before .leaf .kept .1 .1 .1 .1 .1 .0
+
+atm-returns-6 : (t : ℕ) → atm-lts.Need-returns-6 (
+  bump-reads.Asked,
+  bump-reads.Learnt,
+  record-update-reads.Asked,
+  record-update-reads.Learnt,
+  sep-below t,
+  sep.Post,
+  close-reads.Asked,
+  close-reads.Learnt,
+  hsh-below t,
+  hsh.Post,
+  rnd-below t,
+  rnd.Post,
+  lex-below t,
+  lex.Post,
+  leaf-reads.Asked,
+  leaf-reads.Learnt,
+) (atm-at t) atm.Post
+unfolding expr.atExpHead util.endSep expr.endClosure util.choose plan choose chosen
+atm-returns-6 t c =
+    let falls = c .before .before .before .before .before .before .before .before .before .before .before .before .before .before .before .before .before .before .before .pre .0 in
+    let pre0 = c .before .before .before .before .before .before .before .before .before .before .before .before .before .before .before .before .before .before .before .pre .1 .0 in
+    let pre1 = c .before .before .before .before .before .before .before .before .before .before .before .before .before .before .before .before .before .before .before .pre .1 .1 in
+    let if1 = c .before .before .before .before .before .before .before .before .before .before .before .before .if1 .left in
+    let if2 = c .before .before .before .before .before .before .before .before .before .before .before .if2 .left in
+    let if3 = c .before .before .before .before .before .before .before .before .before .before .if3 .left in
+    let if4 = c .before .before .before .before .before .before .before .before .before .if4 .left in
+    let if5 = c .before .before .before .before .before .before .before .before .if5 .left in
+    let leaf = c .before .before .before .before .leaf .ensures in
+    in-steps pre0 (s-false _ _ (kind-not if1) (s-false _ _ (kind-not if2) (s-false _ _ (kind-not if3) (s-false _ _ (kind-not if4) (s-false _ _ (kind-not if5) (s-by _ leaf s-end))))))
+
+bdy-dec-requires : (t : ℕ) → bdy-lts.Need-dec-requires (
+  dec-below t,
+  dec.Post,
+  state-reads.Asked,
+  state-reads.Learnt,
+  want-reads.Asked,
+  want-reads.Learnt,
+  sep-below t,
+  sep.Post,
+) (bdy-at t) bdy.Post
+bdy-dec-requires t c κs =
+    let falls = c .before .before .before .before .before .before .before .before .before .pre .0 in
+    let pre0 = c .before .before .before .before .before .before .before .before .before .pre .1 in
+    (omega arith, pre0)
+
+bdy-state-requires : (t : ℕ) → bdy-lts.Need-state-requires (
+  dec-below t,
+  dec.Post,
+  state-reads.Asked,
+  state-reads.Learnt,
+  want-reads.Asked,
+  want-reads.Learnt,
+  sep-below t,
+  sep.Post,
+) (bdy-at t) bdy.Post
+bdy-state-requires t c κs =
+    tt
+
+bdy-want-requires : (t : ℕ) → bdy-lts.Need-want-requires (
+  dec-below t,
+  dec.Post,
+  state-reads.Asked,
+  state-reads.Learnt,
+  want-reads.Asked,
+  want-reads.Learnt,
+  sep-below t,
+  sep.Post,
+) (bdy-at t) bdy.Post
+bdy-want-requires t c κs =
+    let falls = c .before .before .before .before .before .before .before .before .before .before .before .before .before .before .before .before .before .before .before .before .pre .0 in
+    let dec = c .before .before .before .before .before .before .before .before .before .before .dec .ensures in
+    let dec-ok = dec .ok in
+    let state = c .before .before .before .state .ensures in
+    let state-ok = ok-state state dec-ok in
+    (state-ok, omega arith)
+
+bdy-sep-requires : (t : ℕ) → bdy-lts.Need-sep-requires (
+  dec-below t,
+  dec.Post,
+  state-reads.Asked,
+  state-reads.Learnt,
+  want-reads.Asked,
+  want-reads.Learnt,
+  sep-below t,
+  sep.Post,
+) (bdy-at t) bdy.Post
+bdy-sep-requires t c κs =
+    let falls = c .before .before .before .before .before .before .before .before .before .before .before .before .before .before .before .before .before .before .before .before .before .before .before .before .before .before .before .before .pre .0 in
+    let want = c .before .before .before .before .before .before .before .want .ensures in
+    let want-ok = want .ok in
+    (omega arith, (want-ok, omega arith))
+
+bdy-same-length : (t : ℕ) → bdy-lts.Need-same-length (
+  dec-below t,
+  dec.Post,
+  state-reads.Asked,
+  state-reads.Learnt,
+  want-reads.Asked,
+  want-reads.Learnt,
+  sep-below t,
+  sep.Post,
+) (bdy-at t) bdy.Post
+bdy-same-length t c =
+    c .before .before .before .before .before .before .sep .kept .1 .1 .1 .0 ∙ c .before .before .before .before .before .before .before .before .before .before .before .before .before .before .before .before .before .before .before .before .before .before .before .before .before .dec .kept .1 .1 .1 .0
+
+bdy-same-length-2 : (t : ℕ) → bdy-lts.Need-same-length-2 (
+  dec-below t,
+  dec.Post,
+  state-reads.Asked,
+  state-reads.Learnt,
+  want-reads.Asked,
+  want-reads.Learnt,
+  sep-below t,
+  sep.Post,
+) (bdy-at t) bdy.Post
+bdy-same-length-2 t c =
+    c .before .before .before .before .before .before .sep .kept .1 .1 .1 .1 .0 ∙ c .before .before .before .before .before .before .before .before .before .before .before .before .before .before .want .kept .1 .1 .1 .1 .0 ∙ c .before .before .before .before .before .before .before .before .before .before .before .before .before .before .before .before .before .before .before .before .before .before .before .before .before .dec .kept .1 .1 .1 .1 .0
+
+bdy-same-length-3 : (t : ℕ) → bdy-lts.Need-same-length-3 (
+  dec-below t,
+  dec.Post,
+  state-reads.Asked,
+  state-reads.Learnt,
+  want-reads.Asked,
+  want-reads.Learnt,
+  sep-below t,
+  sep.Post,
+) (bdy-at t) bdy.Post
+bdy-same-length-3 t c =
+    c .before .before .before .before .before .before .sep .kept .1 .1 .1 .1 .1 .0 ∙ c .before .before .before .before .before .before .before .before .before .before .before .before .before .before .want .kept .1 .1 .1 .1 .1 .0 ∙ c .before .before .before .before .before .before .before .before .before .before .before .before .before .before .before .before .before .before .before .before .before .before .before .before .before .dec .kept .1 .1 .1 .1 .1 .0
+
+bdy-returns : (t : ℕ) → bdy-lts.Need-returns (
+  dec-below t,
+  dec.Post,
+  state-reads.Asked,
+  state-reads.Learnt,
+  want-reads.Asked,
+  want-reads.Learnt,
+  sep-below t,
+  sep.Post,
+) (bdy-at t) bdy.Post
+unfolding expr.letBody util.endSep expr.endClosure util.choose plan choose chosen
+bdy-returns t c =
+    let falls = c .before .before .before .before .before .before .before .before .before .before .before .before .before .before .before .before .before .before .before .before .before .before .before .before .before .before .before .before .before .before .before .before .before .before .before .pre .0 in
+    let pre0 = c .before .before .before .before .before .before .before .before .before .before .before .before .before .before .before .before .before .before .before .before .before .before .before .before .before .before .before .before .before .before .before .before .before .before .before .pre .1 in
+    let dec = c .before .before .before .before .before .before .before .before .before .before .before .before .before .before .before .before .before .before .before .before .before .before .before .before .before .dec .ensures in
+    let state = c .before .before .before .before .before .before .before .before .before .before .before .before .before .before .before .before .before .before .state .ensures in
+    let want = c .before .before .before .before .before .before .before .before .before .before .before .before .before .before .want .ensures in
+    let sep = c .before .before .before .before .before .before .sep .ensures in
+    in-steps pre0 (s-run (settled state (runs-in dec)) (s-by _ (runs-always want) (s-run sep s-end)))
+
+cas-fun-left-requires : (t : ℕ) → cas-lts.Need-fun-left-requires (
+  fun-left-reads.Asked,
+  fun-left-reads.Learnt,
+  ty-annotation-reads.Asked,
+  ty-annotation-reads.Learnt,
+  state-reads.Asked,
+  state-reads.Learnt,
+  eq-below t,
+  eq.Post,
+) (cas-at t) cas.Post
+cas-fun-left-requires t c κs =
+    let pre0 = c .before .before .before .before .before .before .before .before .before .pre .1 in
+    pre0
+
+cas-ty-annotation-requires : (t : ℕ) → cas-lts.Need-ty-annotation-requires (
+  fun-left-reads.Asked,
+  fun-left-reads.Learnt,
+  ty-annotation-reads.Asked,
+  ty-annotation-reads.Learnt,
+  state-reads.Asked,
+  state-reads.Learnt,
+  eq-below t,
+  eq.Post,
+) (cas-at t) cas.Post
+cas-ty-annotation-requires t c κs =
+    let fun-left = c .before .before .before .before .before .before .before .fun-left .ensures in
+    let fun-left-ok = fun-left .ok in
+    fun-left-ok
+
+cas-state-requires : (t : ℕ) → cas-lts.Need-state-requires (
+  fun-left-reads.Asked,
+  fun-left-reads.Learnt,
+  ty-annotation-reads.Asked,
+  ty-annotation-reads.Learnt,
+  state-reads.Asked,
+  state-reads.Learnt,
+  eq-below t,
+  eq.Post,
+) (cas-at t) cas.Post
+cas-state-requires t c κs =
+    tt
+
+cas-eq-requires : (t : ℕ) → cas-lts.Need-eq-requires (
+  fun-left-reads.Asked,
+  fun-left-reads.Learnt,
+  ty-annotation-reads.Asked,
+  ty-annotation-reads.Learnt,
+  state-reads.Asked,
+  state-reads.Learnt,
+  eq-below t,
+  eq.Post,
+) (cas-at t) cas.Post
+cas-eq-requires t c κs =
+    let falls = c .before .before .before .before .before .before .before .before .before .before .before .before .before .before .before .before .before .before .before .before .before .before .before .before .before .before .pre .0 in
+    let ty-annotation = c .before .before .before .before .before .before .before .before .ty-annotation .ensures in
+    let ty-annotation-ok = ty-annotation .ok in
+    let state = c .before .before .before .state .ensures in
+    let state-ok = ok-state state ty-annotation-ok in
+    (omega arith, state-ok)
+
+cas-same-length : (t : ℕ) → cas-lts.Need-same-length (
+  fun-left-reads.Asked,
+  fun-left-reads.Learnt,
+  ty-annotation-reads.Asked,
+  ty-annotation-reads.Learnt,
+  state-reads.Asked,
+  state-reads.Learnt,
+  eq-below t,
+  eq.Post,
+) (cas-at t) cas.Post
+cas-same-length t c =
+    c .before .before .before .before .before .before .eq .kept .1 .1 .1 .0
+
+cas-same-length-2 : (t : ℕ) → cas-lts.Need-same-length-2 (
+  fun-left-reads.Asked,
+  fun-left-reads.Learnt,
+  ty-annotation-reads.Asked,
+  ty-annotation-reads.Learnt,
+  state-reads.Asked,
+  state-reads.Learnt,
+  eq-below t,
+  eq.Post,
+) (cas-at t) cas.Post
+cas-same-length-2 t c =
+    c .before .before .before .before .before .before .eq .kept .1 .1 .1 .1 .0 ∙ c .before .before .before .before .before .before .before .before .before .before .before .before .before .before .before .ty-annotation .kept .1 .1 .1 .1 .0 ∙ c .before .before .before .before .before .before .before .before .before .before .before .before .before .before .before .before .before .before .before .before .before .before .before .fun-left .kept .1 .1 .1 .1 .0
+
+cas-same-length-3 : (t : ℕ) → cas-lts.Need-same-length-3 (
+  fun-left-reads.Asked,
+  fun-left-reads.Learnt,
+  ty-annotation-reads.Asked,
+  ty-annotation-reads.Learnt,
+  state-reads.Asked,
+  state-reads.Learnt,
+  eq-below t,
+  eq.Post,
+) (cas-at t) cas.Post
+cas-same-length-3 t c =
+    c .before .before .before .before .before .before .eq .kept .1 .1 .1 .1 .1 .0 ∙ c .before .before .before .before .before .before .before .before .before .before .before .before .before .before .before .ty-annotation .kept .1 .1 .1 .1 .1 .0 ∙ c .before .before .before .before .before .before .before .before .before .before .before .before .before .before .before .before .before .before .before .before .before .before .before .fun-left .kept .1 .1 .1 .1 .1 .0
+
+cas-returns : (t : ℕ) → cas-lts.Need-returns (
+  fun-left-reads.Asked,
+  fun-left-reads.Learnt,
+  ty-annotation-reads.Asked,
+  ty-annotation-reads.Learnt,
+  state-reads.Asked,
+  state-reads.Learnt,
+  eq-below t,
+  eq.Post,
+) (cas-at t) cas.Post
+unfolding decl.funCase plan choose chosen
+cas-returns t c =
+    let falls = c .before .before .before .before .before .before .before .before .before .before .before .before .before .before .before .before .before .before .before .before .before .before .before .before .before .before .before .before .before .before .before .before .before .pre .0 in
+    let pre0 = c .before .before .before .before .before .before .before .before .before .before .before .before .before .before .before .before .before .before .before .before .before .before .before .before .before .before .before .before .before .before .before .before .before .pre .1 in
+    let fun-left = c .before .before .before .before .before .before .before .before .before .before .before .before .before .before .before .before .before .before .before .before .before .before .before .fun-left .ensures in
+    let ty-annotation = c .before .before .before .before .before .before .before .before .before .before .before .before .before .before .before .ty-annotation .ensures in
+    let state = c .before .before .before .before .before .before .before .before .before .before .state .ensures in
+    let eq = c .before .before .before .before .before .before .eq .ensures in
+    by-steps pre0 (λ b. s-by _ (runs-in fun-left) (s-by _ (settled state (runs-in ty-annotation)) (s-by _ (runs-in eq) s-end)))
+
+cel-lab-requires : (t : ℕ) → cel-lts.Need-lab-requires (
+  lab-reads.Asked,
+  lab-reads.Learnt,
+  eq-below t,
+  eq.Post,
+  exp-below t,
+  exp.Post,
+) (cel-at t) cel.Post
+cel-lab-requires t c κs =
+    let pre0 = c .before .before .before .before .before .before .before .before .before .before .before .pre .1 in
+    pre0
+
+cel-eq-requires : (t : ℕ) → cel-lts.Need-eq-requires (
+  lab-reads.Asked,
+  lab-reads.Learnt,
+  eq-below t,
+  eq.Post,
+  exp-below t,
+  exp.Post,
+) (cel-at t) cel.Post
+cel-eq-requires t c κs =
+    let falls = c .before .before .before .before .before .before .before .before .before .before .before .before .before .before .before .before .before .before .before .pre .0 in
+    let if1 = c .before .before .before .before .before .before .before .before .before .before .before .if1 .taken in
+    let lab = c .before .before .before .before .before .before .before .lab .ensures in
+    let lab-ok = lab .ok in
+    (omega arith, lab-ok)
+
+cel-same-length : (t : ℕ) → cel-lts.Need-same-length (
+  lab-reads.Asked,
+  lab-reads.Learnt,
+  eq-below t,
+  eq.Post,
+  exp-below t,
+  exp.Post,
+) (cel-at t) cel.Post
+cel-same-length t c =
+    c .before .before .before .before .before .before .eq .kept .1 .1 .1 .0
+
+cel-same-length-2 : (t : ℕ) → cel-lts.Need-same-length-2 (
+  lab-reads.Asked,
+  lab-reads.Learnt,
+  eq-below t,
+  eq.Post,
+  exp-below t,
+  exp.Post,
+) (cel-at t) cel.Post
+cel-same-length-2 t c =
+    c .before .before .before .before .before .before .eq .kept .1 .1 .1 .1 .0 ∙ c .before .before .before .before .before .before .before .before .before .before .before .before .before .before .lab .kept .1 .1 .1 .1 .0
+
+cel-same-length-3 : (t : ℕ) → cel-lts.Need-same-length-3 (
+  lab-reads.Asked,
+  lab-reads.Learnt,
+  eq-below t,
+  eq.Post,
+  exp-below t,
+  exp.Post,
+) (cel-at t) cel.Post
+cel-same-length-3 t c =
+    c .before .before .before .before .before .before .eq .kept .1 .1 .1 .1 .1 .0 ∙ c .before .before .before .before .before .before .before .before .before .before .before .before .before .before .lab .kept .1 .1 .1 .1 .1 .0
+
+cel-returns : (t : ℕ) → cel-lts.Need-returns (
+  lab-reads.Asked,
+  lab-reads.Learnt,
+  eq-below t,
+  eq.Post,
+  exp-below t,
+  exp.Post,
+) (cel-at t) cel.Post
+unfolding expr.endClosure expr.expRow plan choose chosen
+cel-returns t c =
+    let falls = c .before .before .before .before .before .before .before .before .before .before .before .before .before .before .before .before .before .before .before .before .before .before .before .before .before .before .pre .0 in
+    let pre0 = c .before .before .before .before .before .before .before .before .before .before .before .before .before .before .before .before .before .before .before .before .before .before .before .before .before .before .pre .1 in
+    let if1 = c .before .before .before .before .before .before .before .before .before .before .before .before .before .before .before .before .before .before .if1 .taken in
+    let lab = c .before .before .before .before .before .before .before .before .before .before .before .before .before .before .lab .ensures in
+    let eq = c .before .before .before .before .before .before .eq .ensures in
+    by-steps pre0 (λ b. s-first _ _ _ _ _ _ (eq-eqb _ _ if1) (s-by _ (runs-always lab) (s-by _ (runs-in eq) s-end)))
+
+cel-exp-requires : (t : ℕ) → cel-lts.Need-exp-requires (
+  lab-reads.Asked,
+  lab-reads.Learnt,
+  eq-below t,
+  eq.Post,
+  exp-below t,
+  exp.Post,
+) (cel-at t) cel.Post
+cel-exp-requires t c κs =
+    let falls = c .before .before .before .before .before .before .before .before .before .before .before .pre .0 in
+    let pre0 = c .before .before .before .before .before .before .before .before .before .before .before .pre .1 in
+    let if1 = c .before .before .before .if1 .left in
+    (omega arith, pre0)
+
+cel-same-length-4 : (t : ℕ) → cel-lts.Need-same-length-4 (
+  lab-reads.Asked,
+  lab-reads.Learnt,
+  eq-below t,
+  eq.Post,
+  exp-below t,
+  exp.Post,
+) (cel-at t) cel.Post
+cel-same-length-4 t c =
+    c .before .before .before .before .before .before .exp .kept .1 .1 .1 .0
+
+cel-same-length-5 : (t : ℕ) → cel-lts.Need-same-length-5 (
+  lab-reads.Asked,
+  lab-reads.Learnt,
+  eq-below t,
+  eq.Post,
+  exp-below t,
+  exp.Post,
+) (cel-at t) cel.Post
+cel-same-length-5 t c =
+    c .before .before .before .before .before .before .exp .kept .1 .1 .1 .1 .0
+
+cel-same-length-6 : (t : ℕ) → cel-lts.Need-same-length-6 (
+  lab-reads.Asked,
+  lab-reads.Learnt,
+  eq-below t,
+  eq.Post,
+  exp-below t,
+  exp.Post,
+) (cel-at t) cel.Post
+cel-same-length-6 t c =
+    c .before .before .before .before .before .before .exp .kept .1 .1 .1 .1 .1 .0
+
+cel-returns-2 : (t : ℕ) → cel-lts.Need-returns-2 (
+  lab-reads.Asked,
+  lab-reads.Learnt,
+  eq-below t,
+  eq.Post,
+  exp-below t,
+  exp.Post,
+) (cel-at t) cel.Post
+unfolding expr.endClosure expr.expRow plan choose chosen
+cel-returns-2 t c =
+    let falls = c .before .before .before .before .before .before .before .before .before .before .before .before .before .before .before .before .before .before .pre .0 in
+    let pre0 = c .before .before .before .before .before .before .before .before .before .before .before .before .before .before .before .before .before .before .pre .1 in
+    let if1 = c .before .before .before .before .before .before .before .before .before .before .if1 .left in
+    let exp = c .before .before .before .before .before .before .exp .ensures in
+    by-steps pre0 (λ b. s-second _ _ _ _ _ _ (ne-eqb _ _ if1) (s-by _ (runs-in exp) s-end))
+
+cor-bump-vars-requires : (t : ℕ) → cor-lts.Need-bump-vars-requires (
+  bump-vars-reads.Asked,
+  bump-vars-reads.Learnt,
+  mny-below t,
+  mny.Post,
+  close-reads.Asked,
+  close-reads.Learnt,
+  bump-reads.Asked,
+  bump-reads.Learnt,
+  exp-below t,
+  exp.Post,
+  mds-below t,
+  mds.Post,
+) (cor-at t) cor.Post
+cor-bump-vars-requires t c κs =
+    let pre0 = c .before .before .before .before .before .before .before .before .before .before .pre .1 .0 in
+    pre0
+
+cor-mny-requires : (t : ℕ) → cor-lts.Need-mny-requires (
+  bump-vars-reads.Asked,
+  bump-vars-reads.Learnt,
+  mny-below t,
+  mny.Post,
+  close-reads.Asked,
+  close-reads.Learnt,
+  bump-reads.Asked,
+  bump-reads.Learnt,
+  exp-below t,
+  exp.Post,
+  mds-below t,
+  mds.Post,
+) (cor-at t) cor.Post
+cor-mny-requires t c κs =
+    let falls = c .before .before .before .before .before .before .before .before .before .before .before .before .before .before .before .before .before .before .pre .0 in
+    let pre1 = c .before .before .before .before .before .before .before .before .before .before .before .before .before .before .before .before .before .before .pre .1 .1 in
+    let if1 = c .before .before .before .before .before .before .before .before .before .before .before .if1 .taken in
+    let bump-vars = c .before .before .before .before .before .before .before .bump-vars .ensures in
+    let bump-vars-ok = bump-vars .ok in
+    (omega arith, bump-vars-ok)
+
+cor-close-requires : (t : ℕ) → cor-lts.Need-close-requires (
+  bump-vars-reads.Asked,
+  bump-vars-reads.Learnt,
+  mny-below t,
+  mny.Post,
+  close-reads.Asked,
+  close-reads.Learnt,
+  bump-reads.Asked,
+  bump-reads.Learnt,
+  exp-below t,
+  exp.Post,
+  mds-below t,
+  mds.Post,
+) (cor-at t) cor.Post
+cor-close-requires t c κs =
+    let pre1 = c .before .before .before .before .before .before .before .before .before .before .before .before .before .before .before .before .before .before .before .before .before .before .before .before .before .before .pre .1 .1 in
+    let mny = c .before .before .before .before .before .before .before .mny .ensures in
+    let mny-ok = mny .ok in
+    (mny-ok .logs, pre1)
+
+cor-same-length : (t : ℕ) → cor-lts.Need-same-length (
+  bump-vars-reads.Asked,
+  bump-vars-reads.Learnt,
+  mny-below t,
+  mny.Post,
+  close-reads.Asked,
+  close-reads.Learnt,
+  bump-reads.Asked,
+  bump-reads.Learnt,
+  exp-below t,
+  exp.Post,
+  mds-below t,
+  mds.Post,
+) (cor-at t) cor.Post
+cor-same-length t c =
+    c .before .before .before .before .before .before .before .before .before .before .mny .kept .1 .1 .1 .0
+
+cor-same-length-2 : (t : ℕ) → cor-lts.Need-same-length-2 (
+  bump-vars-reads.Asked,
+  bump-vars-reads.Learnt,
+  mny-below t,
+  mny.Post,
+  close-reads.Asked,
+  close-reads.Learnt,
+  bump-reads.Asked,
+  bump-reads.Learnt,
+  exp-below t,
+  exp.Post,
+  mds-below t,
+  mds.Post,
+) (cor-at t) cor.Post
+cor-same-length-2 t c =
+    c .before .before .close .kept .0 ∙ c .before .before .before .before .before .before .before .before .before .before .mny .kept .1 .1 .1 .1 .0 ∙ c .before .before .before .before .before .before .before .before .before .before .before .before .before .before .before .before .before .before .bump-vars .kept .1 .1 .1 .1 .0
+
+cor-same-length-3 : (t : ℕ) → cor-lts.Need-same-length-3 (
+  bump-vars-reads.Asked,
+  bump-vars-reads.Learnt,
+  mny-below t,
+  mny.Post,
+  close-reads.Asked,
+  close-reads.Learnt,
+  bump-reads.Asked,
+  bump-reads.Learnt,
+  exp-below t,
+  exp.Post,
+  mds-below t,
+  mds.Post,
+) (cor-at t) cor.Post
+cor-same-length-3 t c =
+    c .before .before .before .before .before .before .before .before .before .before .mny .kept .1 .1 .1 .1 .1 .0 ∙ c .before .before .before .before .before .before .before .before .before .before .before .before .before .before .before .before .before .before .bump-vars .kept .1 .1 .1 .1 .1 .0
+
+cor-returns : (t : ℕ) → cor-lts.Need-returns (
+  bump-vars-reads.Asked,
+  bump-vars-reads.Learnt,
+  mny-below t,
+  mny.Post,
+  close-reads.Asked,
+  close-reads.Learnt,
+  bump-reads.Asked,
+  bump-reads.Learnt,
+  exp-below t,
+  exp.Post,
+  mds-below t,
+  mds.Post,
+) (cor-at t) cor.Post
+unfolding decl.coreDec util.manySep decl.manyClosure util.choose plan choose chosen
+cor-returns t c =
+    let falls = c .before .before .before .before .before .before .before .before .before .before .before .before .before .before .before .before .before .before .before .before .before .before .before .before .before .before .before .before .before .pre .0 in
+    let pre0 = c .before .before .before .before .before .before .before .before .before .before .before .before .before .before .before .before .before .before .before .before .before .before .before .before .before .before .before .before .before .pre .1 .0 in
+    let pre1 = c .before .before .before .before .before .before .before .before .before .before .before .before .before .before .before .before .before .before .before .before .before .before .before .before .before .before .before .before .before .pre .1 .1 in
+    let if1 = c .before .before .before .before .before .before .before .before .before .before .before .before .before .before .before .before .before .before .before .before .before .before .if1 .taken in
+    let bump-vars = c .before .before .before .before .before .before .before .before .before .before .before .before .before .before .before .before .before .before .bump-vars .ensures in
+    let mny = c .before .before .before .before .before .before .before .before .before .before .mny .ensures in
+    let close = c .before .before .close .ensures in
+    in-steps pre0 (s-true _ _ (kind-is if1) (s-by _ (runs-in bump-vars) (s-run mny (s-close close s-end))))
+
+cor-bump-vars-requires-2 : (t : ℕ) → cor-lts.Need-bump-vars-requires-2 (
+  bump-vars-reads.Asked,
+  bump-vars-reads.Learnt,
+  mny-below t,
+  mny.Post,
+  close-reads.Asked,
+  close-reads.Learnt,
+  bump-reads.Asked,
+  bump-reads.Learnt,
+  exp-below t,
+  exp.Post,
+  mds-below t,
+  mds.Post,
+) (cor-at t) cor.Post
+cor-bump-vars-requires-2 t c κs =
+    let pre0 = c .before .before .before .before .before .before .before .before .before .before .before .pre .1 .0 in
+    pre0
+
+cor-mny-requires-2 : (t : ℕ) → cor-lts.Need-mny-requires-2 (
+  bump-vars-reads.Asked,
+  bump-vars-reads.Learnt,
+  mny-below t,
+  mny.Post,
+  close-reads.Asked,
+  close-reads.Learnt,
+  bump-reads.Asked,
+  bump-reads.Learnt,
+  exp-below t,
+  exp.Post,
+  mds-below t,
+  mds.Post,
+) (cor-at t) cor.Post
+cor-mny-requires-2 t c κs =
+    let falls = c .before .before .before .before .before .before .before .before .before .before .before .before .before .before .before .before .before .before .before .pre .0 in
+    let pre1 = c .before .before .before .before .before .before .before .before .before .before .before .before .before .before .before .before .before .before .before .pre .1 .1 in
+    let if1 = c .before .before .before .before .before .before .before .before .before .before .before .before .if1 .left in
+    let if2 = c .before .before .before .before .before .before .before .before .before .before .before .if2 .taken in
+    let bump-vars2 = c .before .before .before .before .before .before .before .bump-vars2 .ensures in
+    let bump-vars2-ok = bump-vars2 .ok in
+    (omega arith, bump-vars2-ok)
+
+cor-close-requires-2 : (t : ℕ) → cor-lts.Need-close-requires-2 (
+  bump-vars-reads.Asked,
+  bump-vars-reads.Learnt,
+  mny-below t,
+  mny.Post,
+  close-reads.Asked,
+  close-reads.Learnt,
+  bump-reads.Asked,
+  bump-reads.Learnt,
+  exp-below t,
+  exp.Post,
+  mds-below t,
+  mds.Post,
+) (cor-at t) cor.Post
+cor-close-requires-2 t c κs =
+    let pre1 = c .before .before .before .before .before .before .before .before .before .before .before .before .before .before .before .before .before .before .before .before .before .before .before .before .before .before .before .pre .1 .1 in
+    let mny2 = c .before .before .before .before .before .before .before .mny2 .ensures in
+    let mny2-ok = mny2 .ok in
+    (mny2-ok .logs, pre1)
+
+cor-same-length-4 : (t : ℕ) → cor-lts.Need-same-length-4 (
+  bump-vars-reads.Asked,
+  bump-vars-reads.Learnt,
+  mny-below t,
+  mny.Post,
+  close-reads.Asked,
+  close-reads.Learnt,
+  bump-reads.Asked,
+  bump-reads.Learnt,
+  exp-below t,
+  exp.Post,
+  mds-below t,
+  mds.Post,
+) (cor-at t) cor.Post
+cor-same-length-4 t c =
+    c .before .before .before .before .before .before .before .before .before .before .mny2 .kept .1 .1 .1 .0
+
+cor-same-length-5 : (t : ℕ) → cor-lts.Need-same-length-5 (
+  bump-vars-reads.Asked,
+  bump-vars-reads.Learnt,
+  mny-below t,
+  mny.Post,
+  close-reads.Asked,
+  close-reads.Learnt,
+  bump-reads.Asked,
+  bump-reads.Learnt,
+  exp-below t,
+  exp.Post,
+  mds-below t,
+  mds.Post,
+) (cor-at t) cor.Post
+cor-same-length-5 t c =
+    c .before .before .close2 .kept .0 ∙ c .before .before .before .before .before .before .before .before .before .before .mny2 .kept .1 .1 .1 .1 .0 ∙ c .before .before .before .before .before .before .before .before .before .before .before .before .before .before .before .before .before .before .bump-vars2 .kept .1 .1 .1 .1 .0
+
+cor-same-length-6 : (t : ℕ) → cor-lts.Need-same-length-6 (
+  bump-vars-reads.Asked,
+  bump-vars-reads.Learnt,
+  mny-below t,
+  mny.Post,
+  close-reads.Asked,
+  close-reads.Learnt,
+  bump-reads.Asked,
+  bump-reads.Learnt,
+  exp-below t,
+  exp.Post,
+  mds-below t,
+  mds.Post,
+) (cor-at t) cor.Post
+cor-same-length-6 t c =
+    c .before .before .before .before .before .before .before .before .before .before .mny2 .kept .1 .1 .1 .1 .1 .0 ∙ c .before .before .before .before .before .before .before .before .before .before .before .before .before .before .before .before .before .before .bump-vars2 .kept .1 .1 .1 .1 .1 .0
+
+cor-returns-2 : (t : ℕ) → cor-lts.Need-returns-2 (
+  bump-vars-reads.Asked,
+  bump-vars-reads.Learnt,
+  mny-below t,
+  mny.Post,
+  close-reads.Asked,
+  close-reads.Learnt,
+  bump-reads.Asked,
+  bump-reads.Learnt,
+  exp-below t,
+  exp.Post,
+  mds-below t,
+  mds.Post,
+) (cor-at t) cor.Post
+unfolding decl.coreDec util.manySep decl.manyClosure util.choose plan choose chosen
+cor-returns-2 t c =
+    let falls = c .before .before .before .before .before .before .before .before .before .before .before .before .before .before .before .before .before .before .before .before .before .before .before .before .before .before .before .before .before .before .pre .0 in
+    let pre0 = c .before .before .before .before .before .before .before .before .before .before .before .before .before .before .before .before .before .before .before .before .before .before .before .before .before .before .before .before .before .before .pre .1 .0 in
+    let pre1 = c .before .before .before .before .before .before .before .before .before .before .before .before .before .before .before .before .before .before .before .before .before .before .before .before .before .before .before .before .before .before .pre .1 .1 in
+    let if1 = c .before .before .before .before .before .before .before .before .before .before .before .before .before .before .before .before .before .before .before .before .before .before .before .if1 .left in
+    let if2 = c .before .before .before .before .before .before .before .before .before .before .before .before .before .before .before .before .before .before .before .before .before .before .if2 .taken in
+    let bump-vars2 = c .before .before .before .before .before .before .before .before .before .before .before .before .before .before .before .before .before .before .bump-vars2 .ensures in
+    let mny2 = c .before .before .before .before .before .before .before .before .before .before .mny2 .ensures in
+    let close2 = c .before .before .close2 .ensures in
+    in-steps pre0 (s-false _ _ (kind-not if1) (s-true _ _ (kind-is if2) (s-by _ (runs-in bump-vars2) (s-run mny2 (s-close close2 s-end)))))
+
+cor-bump-requires : (t : ℕ) → cor-lts.Need-bump-requires (
+  bump-vars-reads.Asked,
+  bump-vars-reads.Learnt,
+  mny-below t,
+  mny.Post,
+  close-reads.Asked,
+  close-reads.Learnt,
+  bump-reads.Asked,
+  bump-reads.Learnt,
+  exp-below t,
+  exp.Post,
+  mds-below t,
+  mds.Post,
+) (cor-at t) cor.Post
+cor-bump-requires t c κs =
+    let pre0 = c .before .before .before .before .before .before .before .before .before .before .pre .1 .0 in
+    (pre0 .reads, pre0 .logs)
+
+cor-mny-requires-3 : (t : ℕ) → cor-lts.Need-mny-requires-3 (
+  bump-vars-reads.Asked,
+  bump-vars-reads.Learnt,
+  mny-below t,
+  mny.Post,
+  close-reads.Asked,
+  close-reads.Learnt,
+  bump-reads.Asked,
+  bump-reads.Learnt,
+  exp-below t,
+  exp.Post,
+  mds-below t,
+  mds.Post,
+) (cor-at t) cor.Post
+cor-mny-requires-3 t c κs =
+    let falls = c .before .before .before .before .before .before .before .before .before .before .before .before .before .before .before .before .pre .0 in
+    let pre0 = c .before .before .before .before .before .before .before .before .before .before .before .before .before .before .before .before .pre .1 .0 in
+    let pre1 = c .before .before .before .before .before .before .before .before .before .before .before .before .before .before .before .before .pre .1 .1 in
+    let if1 = c .before .before .before .before .before .before .before .before .before .if1 .left in
+    let if2 = c .before .before .before .before .before .before .before .before .if2 .left in
+    let if3 = c .before .before .before .before .before .before .before .if3 .taken in
+    let bump = c .before .before .before .before .before .bump .ensures in
+    let bump-ok = ok-bumps bump pre0 in
+    (omega arith, bump-ok)
+
+cor-close-requires-3 : (t : ℕ) → cor-lts.Need-close-requires-3 (
+  bump-vars-reads.Asked,
+  bump-vars-reads.Learnt,
+  mny-below t,
+  mny.Post,
+  close-reads.Asked,
+  close-reads.Learnt,
+  bump-reads.Asked,
+  bump-reads.Learnt,
+  exp-below t,
+  exp.Post,
+  mds-below t,
+  mds.Post,
+) (cor-at t) cor.Post
+cor-close-requires-3 t c κs =
+    let pre1 = c .before .before .before .before .before .before .before .before .before .before .before .before .before .before .before .before .before .before .before .before .before .before .before .before .pre .1 .1 in
+    let mny3 = c .before .before .before .before .before .before .before .mny3 .ensures in
+    let mny3-ok = mny3 .ok in
+    (mny3-ok .logs, pre1)
+
+cor-same-length-7 : (t : ℕ) → cor-lts.Need-same-length-7 (
+  bump-vars-reads.Asked,
+  bump-vars-reads.Learnt,
+  mny-below t,
+  mny.Post,
+  close-reads.Asked,
+  close-reads.Learnt,
+  bump-reads.Asked,
+  bump-reads.Learnt,
+  exp-below t,
+  exp.Post,
+  mds-below t,
+  mds.Post,
+) (cor-at t) cor.Post
+cor-same-length-7 t c =
+    c .before .before .before .before .before .before .before .before .before .before .mny3 .kept .1 .1 .1 .0
+
+cor-same-length-8 : (t : ℕ) → cor-lts.Need-same-length-8 (
+  bump-vars-reads.Asked,
+  bump-vars-reads.Learnt,
+  mny-below t,
+  mny.Post,
+  close-reads.Asked,
+  close-reads.Learnt,
+  bump-reads.Asked,
+  bump-reads.Learnt,
+  exp-below t,
+  exp.Post,
+  mds-below t,
+  mds.Post,
+) (cor-at t) cor.Post
+cor-same-length-8 t c =
+    c .before .before .close3 .kept .0 ∙ c .before .before .before .before .before .before .before .before .before .before .mny3 .kept .1 .1 .1 .1 .0 ∙ c .before .before .before .before .before .before .before .before .before .before .before .before .before .before .before .before .bump .kept .1 .0
+
+cor-same-length-9 : (t : ℕ) → cor-lts.Need-same-length-9 (
+  bump-vars-reads.Asked,
+  bump-vars-reads.Learnt,
+  mny-below t,
+  mny.Post,
+  close-reads.Asked,
+  close-reads.Learnt,
+  bump-reads.Asked,
+  bump-reads.Learnt,
+  exp-below t,
+  exp.Post,
+  mds-below t,
+  mds.Post,
+) (cor-at t) cor.Post
+cor-same-length-9 t c =
+    c .before .before .before .before .before .before .before .before .before .before .mny3 .kept .1 .1 .1 .1 .1 .0
+
+cor-returns-3 : (t : ℕ) → cor-lts.Need-returns-3 (
+  bump-vars-reads.Asked,
+  bump-vars-reads.Learnt,
+  mny-below t,
+  mny.Post,
+  close-reads.Asked,
+  close-reads.Learnt,
+  bump-reads.Asked,
+  bump-reads.Learnt,
+  exp-below t,
+  exp.Post,
+  mds-below t,
+  mds.Post,
+) (cor-at t) cor.Post
+unfolding decl.coreDec util.manySep decl.manyClosure util.choose plan choose chosen
+cor-returns-3 t c =
+    let falls = c .before .before .before .before .before .before .before .before .before .before .before .before .before .before .before .before .before .before .before .before .before .before .before .before .before .before .before .pre .0 in
+    let pre0 = c .before .before .before .before .before .before .before .before .before .before .before .before .before .before .before .before .before .before .before .before .before .before .before .before .before .before .before .pre .1 .0 in
+    let pre1 = c .before .before .before .before .before .before .before .before .before .before .before .before .before .before .before .before .before .before .before .before .before .before .before .before .before .before .before .pre .1 .1 in
+    let if1 = c .before .before .before .before .before .before .before .before .before .before .before .before .before .before .before .before .before .before .before .before .if1 .left in
+    let if2 = c .before .before .before .before .before .before .before .before .before .before .before .before .before .before .before .before .before .before .before .if2 .left in
+    let if3 = c .before .before .before .before .before .before .before .before .before .before .before .before .before .before .before .before .before .before .if3 .taken in
+    let bump = c .before .before .before .before .before .before .before .before .before .before .before .before .before .before .before .before .bump .ensures in
+    let mny3 = c .before .before .before .before .before .before .before .before .before .before .mny3 .ensures in
+    let close3 = c .before .before .close3 .ensures in
+    in-steps pre0 (s-false _ _ (kind-not if1) (s-false _ _ (kind-not if2) (s-true _ _ (kind-is if3) (s-bump bump (s-run mny3 (s-close close3 s-end))))))
+
+cor-bump-requires-2 : (t : ℕ) → cor-lts.Need-bump-requires-2 (
+  bump-vars-reads.Asked,
+  bump-vars-reads.Learnt,
+  mny-below t,
+  mny.Post,
+  close-reads.Asked,
+  close-reads.Learnt,
+  bump-reads.Asked,
+  bump-reads.Learnt,
+  exp-below t,
+  exp.Post,
+  mds-below t,
+  mds.Post,
+) (cor-at t) cor.Post
+cor-bump-requires-2 t c κs =
+    let pre0 = c .before .before .before .before .before .before .before .before .before .before .before .pre .1 .0 in
+    (pre0 .reads, pre0 .logs)
+
+cor-exp-requires : (t : ℕ) → cor-lts.Need-exp-requires (
+  bump-vars-reads.Asked,
+  bump-vars-reads.Learnt,
+  mny-below t,
+  mny.Post,
+  close-reads.Asked,
+  close-reads.Learnt,
+  bump-reads.Asked,
+  bump-reads.Learnt,
+  exp-below t,
+  exp.Post,
+  mds-below t,
+  mds.Post,
+) (cor-at t) cor.Post
+cor-exp-requires t c κs =
+    let falls = c .before .before .before .before .before .before .before .before .before .before .before .before .before .before .before .before .before .pre .0 in
+    let pre0 = c .before .before .before .before .before .before .before .before .before .before .before .before .before .before .before .before .before .pre .1 .0 in
+    let pre1 = c .before .before .before .before .before .before .before .before .before .before .before .before .before .before .before .before .before .pre .1 .1 in
+    let if1 = c .before .before .before .before .before .before .before .before .before .before .if1 .left in
+    let if2 = c .before .before .before .before .before .before .before .before .before .if2 .left in
+    let if3 = c .before .before .before .before .before .before .before .before .if3 .left in
+    let if4 = c .before .before .before .before .before .before .before .if4 .taken in
+    let bump2 = c .before .before .before .before .before .bump2 .ensures in
+    let bump2-ok = ok-bumps bump2 pre0 in
+    (omega arith, bump2-ok)
+
+cor-close-requires-4 : (t : ℕ) → cor-lts.Need-close-requires-4 (
+  bump-vars-reads.Asked,
+  bump-vars-reads.Learnt,
+  mny-below t,
+  mny.Post,
+  close-reads.Asked,
+  close-reads.Learnt,
+  bump-reads.Asked,
+  bump-reads.Learnt,
+  exp-below t,
+  exp.Post,
+  mds-below t,
+  mds.Post,
+) (cor-at t) cor.Post
+cor-close-requires-4 t c κs =
+    let pre1 = c .before .before .before .before .before .before .before .before .before .before .before .before .before .before .before .before .before .before .before .before .before .before .before .before .before .pre .1 .1 in
+    let exp = c .before .before .before .before .before .before .before .exp .ensures in
+    let exp-ok = exp .ok in
+    (exp-ok .logs, pre1)
+
+cor-same-length-10 : (t : ℕ) → cor-lts.Need-same-length-10 (
+  bump-vars-reads.Asked,
+  bump-vars-reads.Learnt,
+  mny-below t,
+  mny.Post,
+  close-reads.Asked,
+  close-reads.Learnt,
+  bump-reads.Asked,
+  bump-reads.Learnt,
+  exp-below t,
+  exp.Post,
+  mds-below t,
+  mds.Post,
+) (cor-at t) cor.Post
+cor-same-length-10 t c =
+    c .before .before .before .before .before .before .before .before .before .before .exp .kept .1 .1 .1 .0
+
+cor-same-length-11 : (t : ℕ) → cor-lts.Need-same-length-11 (
+  bump-vars-reads.Asked,
+  bump-vars-reads.Learnt,
+  mny-below t,
+  mny.Post,
+  close-reads.Asked,
+  close-reads.Learnt,
+  bump-reads.Asked,
+  bump-reads.Learnt,
+  exp-below t,
+  exp.Post,
+  mds-below t,
+  mds.Post,
+) (cor-at t) cor.Post
+cor-same-length-11 t c =
+    c .before .before .close4 .kept .0 ∙ c .before .before .before .before .before .before .before .before .before .before .exp .kept .1 .1 .1 .1 .0 ∙ c .before .before .before .before .before .before .before .before .before .before .before .before .before .before .before .before .bump2 .kept .1 .0
+
+cor-same-length-12 : (t : ℕ) → cor-lts.Need-same-length-12 (
+  bump-vars-reads.Asked,
+  bump-vars-reads.Learnt,
+  mny-below t,
+  mny.Post,
+  close-reads.Asked,
+  close-reads.Learnt,
+  bump-reads.Asked,
+  bump-reads.Learnt,
+  exp-below t,
+  exp.Post,
+  mds-below t,
+  mds.Post,
+) (cor-at t) cor.Post
+cor-same-length-12 t c =
+    c .before .before .before .before .before .before .before .before .before .before .exp .kept .1 .1 .1 .1 .1 .0
+
+cor-returns-4 : (t : ℕ) → cor-lts.Need-returns-4 (
+  bump-vars-reads.Asked,
+  bump-vars-reads.Learnt,
+  mny-below t,
+  mny.Post,
+  close-reads.Asked,
+  close-reads.Learnt,
+  bump-reads.Asked,
+  bump-reads.Learnt,
+  exp-below t,
+  exp.Post,
+  mds-below t,
+  mds.Post,
+) (cor-at t) cor.Post
+unfolding decl.coreDec util.manySep decl.manyClosure util.choose plan choose chosen
+cor-returns-4 t c =
+    let falls = c .before .before .before .before .before .before .before .before .before .before .before .before .before .before .before .before .before .before .before .before .before .before .before .before .before .before .before .before .pre .0 in
+    let pre0 = c .before .before .before .before .before .before .before .before .before .before .before .before .before .before .before .before .before .before .before .before .before .before .before .before .before .before .before .before .pre .1 .0 in
+    let pre1 = c .before .before .before .before .before .before .before .before .before .before .before .before .before .before .before .before .before .before .before .before .before .before .before .before .before .before .before .before .pre .1 .1 in
+    let if1 = c .before .before .before .before .before .before .before .before .before .before .before .before .before .before .before .before .before .before .before .before .before .if1 .left in
+    let if2 = c .before .before .before .before .before .before .before .before .before .before .before .before .before .before .before .before .before .before .before .before .if2 .left in
+    let if3 = c .before .before .before .before .before .before .before .before .before .before .before .before .before .before .before .before .before .before .before .if3 .left in
+    let if4 = c .before .before .before .before .before .before .before .before .before .before .before .before .before .before .before .before .before .before .if4 .taken in
+    let bump2 = c .before .before .before .before .before .before .before .before .before .before .before .before .before .before .before .before .bump2 .ensures in
+    let exp = c .before .before .before .before .before .before .before .before .before .before .exp .ensures in
+    let close4 = c .before .before .close4 .ensures in
+    in-steps pre0 (s-false _ _ (kind-not if1) (s-false _ _ (kind-not if2) (s-false _ _ (kind-not if3) (s-true _ _ (kind-is if4) (s-bump bump2 (s-by _ (runs-in exp) (s-close close4 s-end)))))))
+
+cor-mds-requires : (t : ℕ) → cor-lts.Need-mds-requires (
+  bump-vars-reads.Asked,
+  bump-vars-reads.Learnt,
+  mny-below t,
+  mny.Post,
+  close-reads.Asked,
+  close-reads.Learnt,
+  bump-reads.Asked,
+  bump-reads.Learnt,
+  exp-below t,
+  exp.Post,
+  mds-below t,
+  mds.Post,
+) (cor-at t) cor.Post
+cor-mds-requires t c κs =
+    let falls = c .before .before .before .before .before .before .before .before .before .before .before .before .before .pre .0 in
+    let pre0 = c .before .before .before .before .before .before .before .before .before .before .before .before .before .pre .1 .0 in
+    let pre1 = c .before .before .before .before .before .before .before .before .before .before .before .before .before .pre .1 .1 in
+    let if1 = c .before .before .before .before .before .before .if1 .left in
+    let if2 = c .before .before .before .before .before .if2 .left in
+    let if3 = c .before .before .before .before .if3 .left in
+    let if4 = c .before .before .before .if4 .left in
+    (omega arith, (pre0, pre1))
+
+cor-same-length-13 : (t : ℕ) → cor-lts.Need-same-length-13 (
+  bump-vars-reads.Asked,
+  bump-vars-reads.Learnt,
+  mny-below t,
+  mny.Post,
+  close-reads.Asked,
+  close-reads.Learnt,
+  bump-reads.Asked,
+  bump-reads.Learnt,
+  exp-below t,
+  exp.Post,
+  mds-below t,
+  mds.Post,
+) (cor-at t) cor.Post
+cor-same-length-13 t c =
+    c .before .before .before .before .before .before .mds .kept .1 .1 .1 .0
+
+cor-same-length-14 : (t : ℕ) → cor-lts.Need-same-length-14 (
+  bump-vars-reads.Asked,
+  bump-vars-reads.Learnt,
+  mny-below t,
+  mny.Post,
+  close-reads.Asked,
+  close-reads.Learnt,
+  bump-reads.Asked,
+  bump-reads.Learnt,
+  exp-below t,
+  exp.Post,
+  mds-below t,
+  mds.Post,
+) (cor-at t) cor.Post
+cor-same-length-14 t c =
+    c .before .before .before .before .before .before .mds .kept .1 .1 .1 .1 .0
+
+cor-same-length-15 : (t : ℕ) → cor-lts.Need-same-length-15 (
+  bump-vars-reads.Asked,
+  bump-vars-reads.Learnt,
+  mny-below t,
+  mny.Post,
+  close-reads.Asked,
+  close-reads.Learnt,
+  bump-reads.Asked,
+  bump-reads.Learnt,
+  exp-below t,
+  exp.Post,
+  mds-below t,
+  mds.Post,
+) (cor-at t) cor.Post
+cor-same-length-15 t c =
+    c .before .before .before .before .before .before .mds .kept .1 .1 .1 .1 .1 .0
+
+cor-returns-5 : (t : ℕ) → cor-lts.Need-returns-5 (
+  bump-vars-reads.Asked,
+  bump-vars-reads.Learnt,
+  mny-below t,
+  mny.Post,
+  close-reads.Asked,
+  close-reads.Learnt,
+  bump-reads.Asked,
+  bump-reads.Learnt,
+  exp-below t,
+  exp.Post,
+  mds-below t,
+  mds.Post,
+) (cor-at t) cor.Post
+unfolding decl.coreDec util.manySep decl.manyClosure util.choose plan choose chosen
+cor-returns-5 t c =
+    let falls = c .before .before .before .before .before .before .before .before .before .before .before .before .before .before .before .before .before .before .before .before .pre .0 in
+    let pre0 = c .before .before .before .before .before .before .before .before .before .before .before .before .before .before .before .before .before .before .before .before .pre .1 .0 in
+    let pre1 = c .before .before .before .before .before .before .before .before .before .before .before .before .before .before .before .before .before .before .before .before .pre .1 .1 in
+    let if1 = c .before .before .before .before .before .before .before .before .before .before .before .before .before .if1 .left in
+    let if2 = c .before .before .before .before .before .before .before .before .before .before .before .before .if2 .left in
+    let if3 = c .before .before .before .before .before .before .before .before .before .before .before .if3 .left in
+    let if4 = c .before .before .before .before .before .before .before .before .before .before .if4 .left in
+    let mds = c .before .before .before .before .before .before .mds .ensures in
+    in-steps pre0 (s-false _ _ (kind-not if1) (s-false _ _ (kind-not if2) (s-false _ _ (kind-not if3) (s-false _ _ (kind-not if4) (s-by _ mds s-end)))))
+
+dec-sem-requires : (t : ℕ) → dec-lts.Need-sem-requires (
+  sem-below t,
+  sem.Post,
+  seq-below t,
+  seq.Post,
+) (dec-at t) dec.Post
+dec-sem-requires t c κs =
+    let falls = c .before .before .before .before .before .before .before .before .before .pre .0 in
+    let pre0 = c .before .before .before .before .before .before .before .before .before .pre .1 in
+    (omega arith, pre0)
+
+dec-enum-known-turn : (t : ℕ) → dec-lts.Need-enum-known-turn (
+  sem-below t,
+  sem.Post,
+  seq-below t,
+  seq.Post,
+) (dec-at t) dec.Post
+dec-enum-known-turn t c =
+    let falls = c .before .before .before .before .before .before .before .before .before .before .before .before .before .before .before .before .before .pre .0 in
+    let pre0 = c .before .before .before .before .before .before .before .before .before .before .before .before .before .before .before .before .before .pre .1 in
+    search needs
+
+dec-enum-known-turn-2 : (t : ℕ) → dec-lts.Need-enum-known-turn-2 (
+  sem-below t,
+  sem.Post,
+  seq-below t,
+  seq.Post,
+) (dec-at t) dec.Post
+dec-enum-known-turn-2 t c =
+    let falls = c .before .before .before .before .before .before .before .before .before .before .before .before .before .before .before .before .before .pre .0 in
+    let pre0 = c .before .before .before .before .before .before .before .before .before .before .before .before .before .before .before .before .before .pre .1 in
+    search needs
+
+dec-seq-requires : (t : ℕ) → dec-lts.Need-seq-requires (
+  sem-below t,
+  sem.Post,
+  seq-below t,
+  seq.Post,
+) (dec-at t) dec.Post
+dec-seq-requires t c κs =
+    let falls = c .before .before .before .before .before .before .before .before .before .before .before .before .before .before .before .before .before .before .before .before .before .before .pre .0 in
+    let sem = rw (c .before .before .before .before .turn2 .given .1) at (c .before .before .before .before .before .before .before .before .before .before .before .before .sem .ensures) in
+    let sem-ok = sem true .ok in
+    (omega arith, sem-ok)
+
+dec-same-length : (t : ℕ) → dec-lts.Need-same-length (
+  sem-below t,
+  sem.Post,
+  seq-below t,
+  seq.Post,
+) (dec-at t) dec.Post
+dec-same-length t c =
+    c .before .before .before .before .before .before .before .before .before .sem .kept .1 .1 .1 .0
+
+dec-same-length-2 : (t : ℕ) → dec-lts.Need-same-length-2 (
+  sem-below t,
+  sem.Post,
+  seq-below t,
+  seq.Post,
+) (dec-at t) dec.Post
+dec-same-length-2 t c =
+    c .before .before .before .before .before .before .before .before .before .sem .kept .1 .1 .1 .1 .0
+
+dec-same-length-3 : (t : ℕ) → dec-lts.Need-same-length-3 (
+  sem-below t,
+  sem.Post,
+  seq-below t,
+  seq.Post,
+) (dec-at t) dec.Post
+dec-same-length-3 t c =
+    c .before .before .before .before .before .before .before .before .before .sem .kept .1 .1 .1 .1 .1 .0
+
+dec-returns :
+    (t : ℕ) →
+    dec-lts.Need-returns (sem-below t, sem.Post, seq-below t, seq.Post) (dec-at t) dec.Post
+unfolding root.body decl.decs util.maybeSemiSep decl.semiClosure util.choose plan choose chosen
+dec-returns t c =
+    let falls = c .before .before .before .before .before .before .before .before .before .before .before .before .before .before .before .before .before .before .before .pre .0 in
+    let pre0 = c .before .before .before .before .before .before .before .before .before .before .before .before .before .before .before .before .before .before .before .pre .1 in
+    let sem = rw (c .before .turn .given .1) at (c .before .before .before .before .before .before .before .before .before .sem .ensures) in
+    by-steps pre0 (λ b. s-rule (s-by _ (runs-in (sem _)) s-end))
+
+dec-same-length-4 : (t : ℕ) → dec-lts.Need-same-length-4 (
+  sem-below t,
+  sem.Post,
+  seq-below t,
+  seq.Post,
+) (dec-at t) dec.Post
+dec-same-length-4 t c =
+    c .before .before .before .before .before .before .seq .kept .1 .1 .1 .0 ∙ c .before .before .before .before .before .before .before .before .before .before .before .before .before .before .before .before .before .before .before .sem .kept .1 .1 .1 .0
+
+dec-same-length-5 : (t : ℕ) → dec-lts.Need-same-length-5 (
+  sem-below t,
+  sem.Post,
+  seq-below t,
+  seq.Post,
+) (dec-at t) dec.Post
+dec-same-length-5 t c =
+    c .before .before .before .before .before .before .seq .kept .1 .1 .1 .1 .0 ∙ c .before .before .before .before .before .before .before .before .before .before .before .before .before .before .before .before .before .before .before .sem .kept .1 .1 .1 .1 .0
+
+dec-same-length-6 : (t : ℕ) → dec-lts.Need-same-length-6 (
+  sem-below t,
+  sem.Post,
+  seq-below t,
+  seq.Post,
+) (dec-at t) dec.Post
+dec-same-length-6 t c =
+    c .before .before .before .before .before .before .seq .kept .1 .1 .1 .1 .1 .0 ∙ c .before .before .before .before .before .before .before .before .before .before .before .before .before .before .before .before .before .before .before .sem .kept .1 .1 .1 .1 .1 .0
+
+dec-returns-2 :
+    (t : ℕ) →
+    dec-lts.Need-returns-2 (sem-below t, sem.Post, seq-below t, seq.Post) (dec-at t) dec.Post
+unfolding root.body decl.decs util.maybeSemiSep decl.semiClosure util.choose plan choose chosen
+dec-returns-2 t c =
+    let falls = c .before .before .before .before .before .before .before .before .before .before .before .before .before .before .before .before .before .before .before .before .before .before .before .before .before .before .before .before .before .pre .0 in
+    let pre0 = c .before .before .before .before .before .before .before .before .before .before .before .before .before .before .before .before .before .before .before .before .before .before .before .before .before .before .before .before .before .pre .1 in
+    let sem = rw (c .before .before .before .before .before .before .before .before .before .before .before .turn2 .given .1) at (c .before .before .before .before .before .before .before .before .before .before .before .before .before .before .before .before .before .before .before .sem .ensures) in
+    let seq = c .before .before .before .before .before .before .seq .ensures in
+    by-steps pre0 (λ b. s-rule (s-by _ (runs-in (sem _)) (s-run (seq _) s-end)))
+
+end-refuse-requires : (t : ℕ) → end-lts.Need-refuse-requires (
+  refuse-reads.Asked,
+  refuse-reads.Learnt,
+  want-reads.Asked,
+  want-reads.Learnt,
+  close-reads.Asked,
+  close-reads.Learnt,
+  mark-reads.Asked,
+  mark-reads.Learnt,
+  dec-below t,
+  dec.Post,
+  state-reads.Asked,
+  state-reads.Learnt,
+) (end-at t) end.Post
+end-refuse-requires t c κs =
+    tt
+
+end-want-requires : (t : ℕ) → end-lts.Need-want-requires (
+  refuse-reads.Asked,
+  refuse-reads.Learnt,
+  want-reads.Asked,
+  want-reads.Learnt,
+  close-reads.Asked,
+  close-reads.Learnt,
+  mark-reads.Asked,
+  mark-reads.Learnt,
+  dec-below t,
+  dec.Post,
+  state-reads.Asked,
+  state-reads.Learnt,
+) (end-at t) end.Post
+end-want-requires t c κs =
+    let falls = c .before .before .before .before .before .before .before .before .before .before .before .pre .0 in
+    let pre0 = c .before .before .before .before .before .before .before .before .before .before .before .pre .1 .0 in
+    let pre1 = c .before .before .before .before .before .before .before .before .before .before .before .pre .1 .1 in
+    let if1 = c .before .before .before .before .if1 .taken in
+    let refuse = c .before .before .before .refuse .ensures in
+    let refuse-ok = ok-refused _ refuse pre0 in
+    (refuse-ok, omega arith)
+
+end-close-requires : (t : ℕ) → end-lts.Need-close-requires (
+  refuse-reads.Asked,
+  refuse-reads.Learnt,
+  want-reads.Asked,
+  want-reads.Learnt,
+  close-reads.Asked,
+  close-reads.Learnt,
+  mark-reads.Asked,
+  mark-reads.Learnt,
+  dec-below t,
+  dec.Post,
+  state-reads.Asked,
+  state-reads.Learnt,
+) (end-at t) end.Post
+end-close-requires t c κs =
+    let pre1 = c .before .before .before .before .before .before .before .before .before .before .before .before .before .before .before .before .before .pre .1 .1 in
+    let want = c .before .before .before .before .before .want .ensures in
+    let want-ok = want .ok in
+    (want-ok .logs, pre1)
+
+end-same-length : (t : ℕ) → end-lts.Need-same-length (
+  refuse-reads.Asked,
+  refuse-reads.Learnt,
+  want-reads.Asked,
+  want-reads.Learnt,
+  close-reads.Asked,
+  close-reads.Learnt,
+  mark-reads.Asked,
+  mark-reads.Learnt,
+  dec-below t,
+  dec.Post,
+  state-reads.Asked,
+  state-reads.Learnt,
+) (end-at t) end.Post
+end-same-length t c =
+    refl
+
+end-same-length-2 : (t : ℕ) → end-lts.Need-same-length-2 (
+  refuse-reads.Asked,
+  refuse-reads.Learnt,
+  want-reads.Asked,
+  want-reads.Learnt,
+  close-reads.Asked,
+  close-reads.Learnt,
+  mark-reads.Asked,
+  mark-reads.Learnt,
+  dec-below t,
+  dec.Post,
+  state-reads.Asked,
+  state-reads.Learnt,
+) (end-at t) end.Post
+end-same-length-2 t c =
+    c .before .before .close .kept .0 ∙ c .before .before .before .before .before .before .before .before .want .kept .1 .1 .1 .1 .0
+
+end-same-length-3 : (t : ℕ) → end-lts.Need-same-length-3 (
+  refuse-reads.Asked,
+  refuse-reads.Learnt,
+  want-reads.Asked,
+  want-reads.Learnt,
+  close-reads.Asked,
+  close-reads.Learnt,
+  mark-reads.Asked,
+  mark-reads.Learnt,
+  dec-below t,
+  dec.Post,
+  state-reads.Asked,
+  state-reads.Learnt,
+) (end-at t) end.Post
+end-same-length-3 t c =
+    c .before .before .before .before .before .before .before .before .want .kept .1 .1 .1 .1 .1 .0
+
+end-returns : (t : ℕ) → end-lts.Need-returns (
+  refuse-reads.Asked,
+  refuse-reads.Learnt,
+  want-reads.Asked,
+  want-reads.Learnt,
+  close-reads.Asked,
+  close-reads.Learnt,
+  mark-reads.Asked,
+  mark-reads.Learnt,
+  dec-below t,
+  dec.Post,
+  state-reads.Asked,
+  state-reads.Learnt,
+) (end-at t) end.Post
+unfolding decl.localTail plan choose chosen
+end-returns t c =
+    let falls = c .before .before .before .before .before .before .before .before .before .before .before .before .before .before .before .before .before .before .before .before .pre .0 in
+    let pre0 = c .before .before .before .before .before .before .before .before .before .before .before .before .before .before .before .before .before .before .before .before .pre .1 .0 in
+    let pre1 = c .before .before .before .before .before .before .before .before .before .before .before .before .before .before .before .before .before .before .before .before .pre .1 .1 in
+    let if1 = c .before .before .before .before .before .before .before .before .before .before .before .before .before .if1 .taken in
+    let refuse = c .before .before .before .before .before .before .before .before .before .before .before .before .refuse .ensures in
+    let want = c .before .before .before .before .before .before .before .before .want .ensures in
+    let close = c .before .before .close .ensures in
+    in-steps pre0 (s-deep if1 refuse (s-by _ (runs-always want) (s-close close s-end)))
+
+end-mark-requires : (t : ℕ) → end-lts.Need-mark-requires (
+  refuse-reads.Asked,
+  refuse-reads.Learnt,
+  want-reads.Asked,
+  want-reads.Learnt,
+  close-reads.Asked,
+  close-reads.Learnt,
+  mark-reads.Asked,
+  mark-reads.Learnt,
+  dec-below t,
+  dec.Post,
+  state-reads.Asked,
+  state-reads.Learnt,
+) (end-at t) end.Post
+end-mark-requires t c κs =
+    tt
+
+end-want-requires-2 : (t : ℕ) → end-lts.Need-want-requires-2 (
+  refuse-reads.Asked,
+  refuse-reads.Learnt,
+  want-reads.Asked,
+  want-reads.Learnt,
+  close-reads.Asked,
+  close-reads.Learnt,
+  mark-reads.Asked,
+  mark-reads.Learnt,
+  dec-below t,
+  dec.Post,
+  state-reads.Asked,
+  state-reads.Learnt,
+) (end-at t) end.Post
+end-want-requires-2 t c κs =
+    let falls = c .before .before .before .before .before .before .before .before .before .before .before .pre .0 in
+    let pre0 = c .before .before .before .before .before .before .before .before .before .before .before .pre .1 .0 in
+    let pre1 = c .before .before .before .before .before .before .before .before .before .before .before .pre .1 .1 in
+    let if1 = c .before .before .before .before .if1 .left in
+    let mark = c .before .before .before .mark .ensures in
+    let mark-ok = ok-marks mark pre0 in
+    (mark-ok, omega arith)
+
+end-sub-dec : (t : ℕ) → end-lts.Need-sub-dec (
+  refuse-reads.Asked,
+  refuse-reads.Learnt,
+  want-reads.Asked,
+  want-reads.Learnt,
+  close-reads.Asked,
+  close-reads.Learnt,
+  mark-reads.Asked,
+  mark-reads.Learnt,
+  dec-below t,
+  dec.Post,
+  state-reads.Asked,
+  state-reads.Learnt,
+) (end-at t) end.Post
+end-sub-dec t c =
+    let falls = c .before .before .before .before .before .before .before .before .before .before .before .before .before .before .before .before .before .before .before .pre .0 in
+    let pre0 = c .before .before .before .before .before .before .before .before .before .before .before .before .before .before .before .before .before .before .before .pre .1 .0 in
+    let pre1 = c .before .before .before .before .before .before .before .before .before .before .before .before .before .before .before .before .before .before .before .pre .1 .1 in
+    let if1 = c .before .before .before .before .before .before .before .before .before .before .before .before .if1 .left in
+    search needs
+
+end-dec-requires : (t : ℕ) → end-lts.Need-dec-requires (
+  refuse-reads.Asked,
+  refuse-reads.Learnt,
+  want-reads.Asked,
+  want-reads.Learnt,
+  close-reads.Asked,
+  close-reads.Learnt,
+  mark-reads.Asked,
+  mark-reads.Learnt,
+  dec-below t,
+  dec.Post,
+  state-reads.Asked,
+  state-reads.Learnt,
+) (end-at t) end.Post
+end-dec-requires t c κs =
+    let falls = c .before .before .before .before .before .before .before .before .before .before .before .before .before .before .before .before .before .before .before .pre .0 in
+    let pre1 = c .before .before .before .before .before .before .before .before .before .before .before .before .before .before .before .before .before .before .before .pre .1 .1 in
+    let if1 = c .before .before .before .before .before .before .before .before .before .before .before .before .if1 .left in
+    let want2 = c .before .before .before .before .before .before .before .want2 .ensures in
+    let want2-ok = want2 .ok in
+    (omega arith, want2-ok)
+
+end-state-requires : (t : ℕ) → end-lts.Need-state-requires (
+  refuse-reads.Asked,
+  refuse-reads.Learnt,
+  want-reads.Asked,
+  want-reads.Learnt,
+  close-reads.Asked,
+  close-reads.Learnt,
+  mark-reads.Asked,
+  mark-reads.Learnt,
+  dec-below t,
+  dec.Post,
+  state-reads.Asked,
+  state-reads.Learnt,
+) (end-at t) end.Post
+end-state-requires t c κs =
+    tt
+
+end-close-requires-2 : (t : ℕ) → end-lts.Need-close-requires-2 (
+  refuse-reads.Asked,
+  refuse-reads.Learnt,
+  want-reads.Asked,
+  want-reads.Learnt,
+  close-reads.Asked,
+  close-reads.Learnt,
+  mark-reads.Asked,
+  mark-reads.Learnt,
+  dec-below t,
+  dec.Post,
+  state-reads.Asked,
+  state-reads.Learnt,
+) (end-at t) end.Post
+end-close-requires-2 t c κs =
+    let pre0 = c .before .before .before .before .before .before .before .before .before .before .before .before .before .before .before .before .before .before .before .before .before .before .before .before .before .before .before .before .pre .1 .0 in
+    let mark = c .before .before .before .before .before .before .before .before .before .before .before .before .before .before .before .before .before .before .before .before .mark .ensures in
+    let mark-ok = ok-marks mark pre0 in
+    let dec = c .before .before .before .before .before .before .before .before .dec .ensures in
+    let dec-ok = dec .ok in
+    let state = c .before .state .ensures in
+    let state-ok = ok-state state dec-ok in
+    (state-ok .logs, small-len mark-ok)
+
+end-want-requires-3 : (t : ℕ) → end-lts.Need-want-requires-3 (
+  refuse-reads.Asked,
+  refuse-reads.Learnt,
+  want-reads.Asked,
+  want-reads.Learnt,
+  close-reads.Asked,
+  close-reads.Learnt,
+  mark-reads.Asked,
+  mark-reads.Learnt,
+  dec-below t,
+  dec.Post,
+  state-reads.Asked,
+  state-reads.Learnt,
+) (end-at t) end.Post
+end-want-requires-3 t c κs =
+    let falls = c .before .before .before .before .before .before .before .before .before .before .before .before .before .before .before .before .before .before .before .before .before .before .before .before .before .before .before .before .before .before .before .before .before .before .pre .0 in
+    let pre1 = c .before .before .before .before .before .before .before .before .before .before .before .before .before .before .before .before .before .before .before .before .before .before .before .before .before .before .before .before .before .before .before .before .before .before .pre .1 .1 in
+    let if1 = c .before .before .before .before .before .before .before .before .before .before .before .before .before .before .before .before .before .before .before .before .before .before .before .before .before .before .before .if1 .left in
+    let dec = c .before .before .before .before .before .before .before .before .before .before .before .before .before .before .dec .ensures in
+    let dec-ok = dec .ok in
+    let state = c .before .before .before .before .before .before .before .state .ensures in
+    let state-ok = ok-state state dec-ok in
+    let close2 = c .before .before .before .before .before .close2 .ensures in
+    let close2-ok = ok-adds close2 state-ok in
+    (close2-ok, omega arith)
+
+end-close-requires-3 : (t : ℕ) → end-lts.Need-close-requires-3 (
+  refuse-reads.Asked,
+  refuse-reads.Learnt,
+  want-reads.Asked,
+  want-reads.Learnt,
+  close-reads.Asked,
+  close-reads.Learnt,
+  mark-reads.Asked,
+  mark-reads.Learnt,
+  dec-below t,
+  dec.Post,
+  state-reads.Asked,
+  state-reads.Learnt,
+) (end-at t) end.Post
+end-close-requires-3 t c κs =
+    let pre1 = c .before .before .before .before .before .before .before .before .before .before .before .before .before .before .before .before .before .before .before .before .before .before .before .before .before .before .before .before .before .before .before .before .before .before .before .before .before .before .before .before .pre .1 .1 in
+    let want3 = c .before .before .before .before .before .want3 .ensures in
+    let want3-ok = want3 .ok in
+    (want3-ok .logs, pre1)
+
+end-same-length-4 : (t : ℕ) → end-lts.Need-same-length-4 (
+  refuse-reads.Asked,
+  refuse-reads.Learnt,
+  want-reads.Asked,
+  want-reads.Learnt,
+  close-reads.Asked,
+  close-reads.Learnt,
+  mark-reads.Asked,
+  mark-reads.Learnt,
+  dec-below t,
+  dec.Post,
+  state-reads.Asked,
+  state-reads.Learnt,
+) (end-at t) end.Post
+end-same-length-4 t c =
+    c .before .before .before .before .before .before .before .before .before .before .before .before .before .before .before .before .before .before .before .before .before .before .before .dec .kept .1 .1 .1 .0
+
+end-same-length-5 : (t : ℕ) → end-lts.Need-same-length-5 (
+  refuse-reads.Asked,
+  refuse-reads.Learnt,
+  want-reads.Asked,
+  want-reads.Learnt,
+  close-reads.Asked,
+  close-reads.Learnt,
+  mark-reads.Asked,
+  mark-reads.Learnt,
+  dec-below t,
+  dec.Post,
+  state-reads.Asked,
+  state-reads.Learnt,
+) (end-at t) end.Post
+end-same-length-5 t c =
+    c .before .before .close3 .kept .0 ∙ c .before .before .before .before .before .before .before .before .want3 .kept .1 .1 .1 .1 .0 ∙ c .before .before .before .before .before .before .before .before .before .before .before .before .before .before .close2 .kept .0 ∙ c .before .before .before .before .before .before .before .before .before .before .before .before .before .before .before .before .before .before .before .before .before .before .before .dec .kept .1 .1 .1 .1 .0 ∙ c .before .before .before .before .before .before .before .before .before .before .before .before .before .before .before .before .before .before .before .before .before .before .before .before .before .before .before .before .before .before .before .want2 .kept .1 .1 .1 .1 .0
+
+end-same-length-6 : (t : ℕ) → end-lts.Need-same-length-6 (
+  refuse-reads.Asked,
+  refuse-reads.Learnt,
+  want-reads.Asked,
+  want-reads.Learnt,
+  close-reads.Asked,
+  close-reads.Learnt,
+  mark-reads.Asked,
+  mark-reads.Learnt,
+  dec-below t,
+  dec.Post,
+  state-reads.Asked,
+  state-reads.Learnt,
+) (end-at t) end.Post
+end-same-length-6 t c =
+    c .before .before .before .before .before .before .before .before .want3 .kept .1 .1 .1 .1 .1 .0 ∙ c .before .before .before .before .before .before .before .before .before .before .before .before .before .before .before .before .before .before .before .before .before .before .before .dec .kept .1 .1 .1 .1 .1 .0 ∙ c .before .before .before .before .before .before .before .before .before .before .before .before .before .before .before .before .before .before .before .before .before .before .before .before .before .before .before .before .before .before .before .want2 .kept .1 .1 .1 .1 .1 .0
+
+end-returns-2 : (t : ℕ) → end-lts.Need-returns-2 (
+  refuse-reads.Asked,
+  refuse-reads.Learnt,
+  want-reads.Asked,
+  want-reads.Learnt,
+  close-reads.Asked,
+  close-reads.Learnt,
+  mark-reads.Asked,
+  mark-reads.Learnt,
+  dec-below t,
+  dec.Post,
+  state-reads.Asked,
+  state-reads.Learnt,
+) (end-at t) end.Post
+unfolding decl.localTail plan choose chosen
+end-returns-2 t c =
+    let falls = c .before .before .before .before .before .before .before .before .before .before .before .before .before .before .before .before .before .before .before .before .before .before .before .before .before .before .before .before .before .before .before .before .before .before .before .before .before .before .before .before .before .before .before .pre .0 in
+    let pre0 = c .before .before .before .before .before .before .before .before .before .before .before .before .before .before .before .before .before .before .before .before .before .before .before .before .before .before .before .before .before .before .before .before .before .before .before .before .before .before .before .before .before .before .before .pre .1 .0 in
+    let pre1 = c .before .before .before .before .before .before .before .before .before .before .before .before .before .before .before .before .before .before .before .before .before .before .before .before .before .before .before .before .before .before .before .before .before .before .before .before .before .before .before .before .before .before .before .pre .1 .1 in
+    let if1 = c .before .before .before .before .before .before .before .before .before .before .before .before .before .before .before .before .before .before .before .before .before .before .before .before .before .before .before .before .before .before .before .before .before .before .before .before .if1 .left in
+    let mark = c .before .before .before .before .before .before .before .before .before .before .before .before .before .before .before .before .before .before .before .before .before .before .before .before .before .before .before .before .before .before .before .before .before .before .before .mark .ensures in
+    let want2 = c .before .before .before .before .before .before .before .before .before .before .before .before .before .before .before .before .before .before .before .before .before .before .before .before .before .before .before .before .before .before .before .want2 .ensures in
+    let dec = c .before .before .before .before .before .before .before .before .before .before .before .before .before .before .before .before .before .before .before .before .before .before .before .dec .ensures in
+    let state = c .before .before .before .before .before .before .before .before .before .before .before .before .before .before .before .before .state .ensures in
+    let close2 = c .before .before .before .before .before .before .before .before .before .before .before .before .before .before .close2 .ensures in
+    let want3 = c .before .before .before .before .before .before .before .before .want3 .ensures in
+    let close3 = c .before .before .close3 .ensures in
+    in-steps pre0 (s-mark if1 mark (s-by _ (runs-always want2) (s-run (settled state (runs-in dec)) (s-close close2 (s-by _ (runs-always want3) (s-close close3 s-end))))))
+
+eq-at-requires : (t : ℕ) → eq-lts.Need-at-requires (
+  at-reads.Asked,
+  at-reads.Learnt,
+  refuse-reads.Asked,
+  refuse-reads.Learnt,
+  mark-reads.Asked,
+  mark-reads.Learnt,
+  bump-reads.Asked,
+  bump-reads.Learnt,
+  exp-below t,
+  exp.Post,
+  close-reads.Asked,
+  close-reads.Learnt,
+) (eq-at t) eq.Post
+eq-at-requires t c κs =
+    let pre0 = c .before .before .before .before .before .before .pre .1 in
+    pre0 .reads
+
+eq-refuse-requires : (t : ℕ) → eq-lts.Need-refuse-requires (
+  at-reads.Asked,
+  at-reads.Learnt,
+  refuse-reads.Asked,
+  refuse-reads.Learnt,
+  mark-reads.Asked,
+  mark-reads.Learnt,
+  bump-reads.Asked,
+  bump-reads.Learnt,
+  exp-below t,
+  exp.Post,
+  close-reads.Asked,
+  close-reads.Learnt,
+) (eq-at t) eq.Post
+eq-refuse-requires t c κs =
+    tt
+
+eq-returns : (t : ℕ) → eq-lts.Need-returns (
+  at-reads.Asked,
+  at-reads.Learnt,
+  refuse-reads.Asked,
+  refuse-reads.Learnt,
+  mark-reads.Asked,
+  mark-reads.Learnt,
+  bump-reads.Asked,
+  bump-reads.Learnt,
+  exp-below t,
+  exp.Post,
+  close-reads.Asked,
+  close-reads.Learnt,
+) (eq-at t) eq.Post
+unfolding expr.eqExp plan choose chosen
+eq-returns t c =
+    let falls = c .before .before .before .before .before .before .before .before .before .before .pre .0 in
+    let pre0 = c .before .before .before .before .before .before .before .before .before .before .pre .1 in
+    let at = c .before .before .before .at .ensures in
+    let if1 = c .before .before .if1 .taken in
+    let if2 = c .before .if2 .taken in
+    let refuse = c .refuse .ensures in
+    by-steps pre0 (λ b. s-kind (s-true _ _ (kind-at _ _ _ _ at if1) (s-deep if2 refuse s-end)))
+
+eq-mark-requires : (t : ℕ) → eq-lts.Need-mark-requires (
+  at-reads.Asked,
+  at-reads.Learnt,
+  refuse-reads.Asked,
+  refuse-reads.Learnt,
+  mark-reads.Asked,
+  mark-reads.Learnt,
+  bump-reads.Asked,
+  bump-reads.Learnt,
+  exp-below t,
+  exp.Post,
+  close-reads.Asked,
+  close-reads.Learnt,
+) (eq-at t) eq.Post
+eq-mark-requires t c κs =
+    tt
+
+eq-bump-requires : (t : ℕ) → eq-lts.Need-bump-requires (
+  at-reads.Asked,
+  at-reads.Learnt,
+  refuse-reads.Asked,
+  refuse-reads.Learnt,
+  mark-reads.Asked,
+  mark-reads.Learnt,
+  bump-reads.Asked,
+  bump-reads.Learnt,
+  exp-below t,
+  exp.Post,
+  close-reads.Asked,
+  close-reads.Learnt,
+) (eq-at t) eq.Post
+eq-bump-requires t c κs =
+    let pre0 = c .before .before .before .before .before .before .before .before .before .before .before .pre .1 in
+    let mark = c .before .mark .ensures in
+    let mark-ok = ok-marks mark pre0 in
+    (mark-ok .reads, mark-ok .logs)
+
+eq-sub-exp : (t : ℕ) → eq-lts.Need-sub-exp (
+  at-reads.Asked,
+  at-reads.Learnt,
+  refuse-reads.Asked,
+  refuse-reads.Learnt,
+  mark-reads.Asked,
+  mark-reads.Learnt,
+  bump-reads.Asked,
+  bump-reads.Learnt,
+  exp-below t,
+  exp.Post,
+  close-reads.Asked,
+  close-reads.Learnt,
+) (eq-at t) eq.Post
+eq-sub-exp t c =
+    let falls = c .before .before .before .before .before .before .before .before .before .before .before .before .before .before .before .before .before .pre .0 in
+    let pre0 = c .before .before .before .before .before .before .before .before .before .before .before .before .before .before .before .before .before .pre .1 in
+    let if1 = c .before .before .before .before .before .before .before .before .before .if1 .taken in
+    let if2 = c .before .before .before .before .before .before .before .before .if2 .left in
+    search needs
+
+eq-exp-requires : (t : ℕ) → eq-lts.Need-exp-requires (
+  at-reads.Asked,
+  at-reads.Learnt,
+  refuse-reads.Asked,
+  refuse-reads.Learnt,
+  mark-reads.Asked,
+  mark-reads.Learnt,
+  bump-reads.Asked,
+  bump-reads.Learnt,
+  exp-below t,
+  exp.Post,
+  close-reads.Asked,
+  close-reads.Learnt,
+) (eq-at t) eq.Post
+eq-exp-requires t c κs =
+    let falls = c .before .before .before .before .before .before .before .before .before .before .before .before .before .before .before .before .before .pre .0 in
+    let pre0 = c .before .before .before .before .before .before .before .before .before .before .before .before .before .before .before .before .before .pre .1 in
+    let if1 = c .before .before .before .before .before .before .before .before .before .if1 .taken in
+    let if2 = c .before .before .before .before .before .before .before .before .if2 .left in
+    let mark = c .before .before .before .before .before .before .before .mark .ensures in
+    let mark-ok = ok-marks mark pre0 in
+    let bump = c .before .before .before .before .before .bump .ensures in
+    let bump-ok = ok-bumps bump mark-ok in
+    (omega arith, bump-ok)
+
+eq-close-requires : (t : ℕ) → eq-lts.Need-close-requires (
+  at-reads.Asked,
+  at-reads.Learnt,
+  refuse-reads.Asked,
+  refuse-reads.Learnt,
+  mark-reads.Asked,
+  mark-reads.Learnt,
+  bump-reads.Asked,
+  bump-reads.Learnt,
+  exp-below t,
+  exp.Post,
+  close-reads.Asked,
+  close-reads.Learnt,
+) (eq-at t) eq.Post
+eq-close-requires t c κs =
+    let pre0 = c .before .before .before .before .before .before .before .before .before .before .before .before .before .before .before .before .before .before .before .before .before .before .before .before .before .pre .1 in
+    let mark = c .before .before .before .before .before .before .before .before .before .before .before .before .before .before .before .mark .ensures in
+    let mark-ok = ok-marks mark pre0 in
+    let exp = c .before .before .before .before .before .before .before .exp .ensures in
+    let exp-ok = exp .ok in
+    (exp-ok .logs, small-len mark-ok)
+
+eq-same-length : (t : ℕ) → eq-lts.Need-same-length (
+  at-reads.Asked,
+  at-reads.Learnt,
+  refuse-reads.Asked,
+  refuse-reads.Learnt,
+  mark-reads.Asked,
+  mark-reads.Learnt,
+  bump-reads.Asked,
+  bump-reads.Learnt,
+  exp-below t,
+  exp.Post,
+  close-reads.Asked,
+  close-reads.Learnt,
+) (eq-at t) eq.Post
+eq-same-length t c =
+    c .before .before .before .before .before .before .before .before .before .before .exp .kept .1 .1 .1 .0
+
+eq-same-length-2 : (t : ℕ) → eq-lts.Need-same-length-2 (
+  at-reads.Asked,
+  at-reads.Learnt,
+  refuse-reads.Asked,
+  refuse-reads.Learnt,
+  mark-reads.Asked,
+  mark-reads.Learnt,
+  bump-reads.Asked,
+  bump-reads.Learnt,
+  exp-below t,
+  exp.Post,
+  close-reads.Asked,
+  close-reads.Learnt,
+) (eq-at t) eq.Post
+eq-same-length-2 t c =
+    c .before .before .close .kept .0 ∙ c .before .before .before .before .before .before .before .before .before .before .exp .kept .1 .1 .1 .1 .0 ∙ c .before .before .before .before .before .before .before .before .before .before .before .before .before .before .before .before .bump .kept .1 .0
+
+eq-same-length-3 : (t : ℕ) → eq-lts.Need-same-length-3 (
+  at-reads.Asked,
+  at-reads.Learnt,
+  refuse-reads.Asked,
+  refuse-reads.Learnt,
+  mark-reads.Asked,
+  mark-reads.Learnt,
+  bump-reads.Asked,
+  bump-reads.Learnt,
+  exp-below t,
+  exp.Post,
+  close-reads.Asked,
+  close-reads.Learnt,
+) (eq-at t) eq.Post
+eq-same-length-3 t c =
+    c .before .before .before .before .before .before .before .before .before .before .exp .kept .1 .1 .1 .1 .1 .0
+
+eq-returns-2 : (t : ℕ) → eq-lts.Need-returns-2 (
+  at-reads.Asked,
+  at-reads.Learnt,
+  refuse-reads.Asked,
+  refuse-reads.Learnt,
+  mark-reads.Asked,
+  mark-reads.Learnt,
+  bump-reads.Asked,
+  bump-reads.Learnt,
+  exp-below t,
+  exp.Post,
+  close-reads.Asked,
+  close-reads.Learnt,
+) (eq-at t) eq.Post
+unfolding expr.eqExp plan choose chosen
+eq-returns-2 t c =
+    let falls = c .before .before .before .before .before .before .before .before .before .before .before .before .before .before .before .before .before .before .before .before .before .before .before .before .before .before .before .before .pre .0 in
+    let pre0 = c .before .before .before .before .before .before .before .before .before .before .before .before .before .before .before .before .before .before .before .before .before .before .before .before .before .before .before .before .pre .1 in
+    let at = c .before .before .before .before .before .before .before .before .before .before .before .before .before .before .before .before .before .before .before .before .before .at .ensures in
+    let if1 = c .before .before .before .before .before .before .before .before .before .before .before .before .before .before .before .before .before .before .before .before .if1 .taken in
+    let if2 = c .before .before .before .before .before .before .before .before .before .before .before .before .before .before .before .before .before .before .before .if2 .left in
+    let mark = c .before .before .before .before .before .before .before .before .before .before .before .before .before .before .before .before .before .before .mark .ensures in
+    let bump = c .before .before .before .before .before .before .before .before .before .before .before .before .before .before .before .before .bump .ensures in
+    let exp = c .before .before .before .before .before .before .before .before .before .before .exp .ensures in
+    let close = c .before .before .close .ensures in
+    by-steps pre0 (λ b. s-kind (s-true _ _ (kind-at _ _ _ _ at if1) (s-mark if2 mark (s-bump bump (s-by _ (runs-in exp) (s-close close s-end))))))
+
+eq-returns-3 : (t : ℕ) → eq-lts.Need-returns-3 (
+  at-reads.Asked,
+  at-reads.Learnt,
+  refuse-reads.Asked,
+  refuse-reads.Learnt,
+  mark-reads.Asked,
+  mark-reads.Learnt,
+  bump-reads.Asked,
+  bump-reads.Learnt,
+  exp-below t,
+  exp.Post,
+  close-reads.Asked,
+  close-reads.Learnt,
+) (eq-at t) eq.Post
+unfolding expr.eqExp plan choose chosen
+eq-returns-3 t c =
+    let falls = c .before .before .before .before .before .before .before .before .pre .0 in
+    let pre0 = c .before .before .before .before .before .before .before .before .pre .1 in
+    let at = c .before .at .ensures in
+    let if1 = c .if1 .left in
+    by-steps pre0 (λ b. s-kind (s-false _ _ (kind-off _ _ _ _ at if1) s-end))
+
+exn-op-name-requires : (t : ℕ) → exn-lts.Need-op-name-requires (
+  op-name-reads.Asked,
+  op-name-reads.Learnt,
+  of-ty-reads.Asked,
+  of-ty-reads.Learnt,
+  eq-below t,
+  eq.Post,
+) (exn-at t) exn.Post
+exn-op-name-requires t c κs =
+    let pre0 = c .before .before .before .before .before .before .before .before .before .pre .1 in
+    pre0
+
+exn-enum-known-name : (t : ℕ) → exn-lts.Need-enum-known-name (
+  op-name-reads.Asked,
+  op-name-reads.Learnt,
+  of-ty-reads.Asked,
+  of-ty-reads.Learnt,
+  eq-below t,
+  eq.Post,
+) (exn-at t) exn.Post
+exn-enum-known-name t c =
+    let falls = c .before .before .before .before .before .before .before .before .before .before .before .before .before .before .before .pre .0 in
+    let pre0 = c .before .before .before .before .before .before .before .before .before .before .before .before .before .before .before .pre .1 in
+    search needs
+
+exn-enum-known-name-2 : (t : ℕ) → exn-lts.Need-enum-known-name-2 (
+  op-name-reads.Asked,
+  op-name-reads.Learnt,
+  of-ty-reads.Asked,
+  of-ty-reads.Learnt,
+  eq-below t,
+  eq.Post,
+) (exn-at t) exn.Post
+exn-enum-known-name-2 t c =
+    let falls = c .before .before .before .before .before .before .before .before .before .before .before .before .before .before .before .pre .0 in
+    let pre0 = c .before .before .before .before .before .before .before .before .before .before .before .before .before .before .before .pre .1 in
+    search needs
+
+exn-of-ty-requires : (t : ℕ) → exn-lts.Need-of-ty-requires (
+  op-name-reads.Asked,
+  op-name-reads.Learnt,
+  of-ty-reads.Asked,
+  of-ty-reads.Learnt,
+  eq-below t,
+  eq.Post,
+) (exn-at t) exn.Post
+exn-of-ty-requires t c κs =
+    let op-name = rw (c .before .before .before .before .name2 .given .1) at (c .before .before .before .before .before .before .before .before .before .before .op-name .ensures) in
+    let op-name-ok = op-name .ok in
+    op-name-ok
+
+exn-enum-known-typed : (t : ℕ) → exn-lts.Need-enum-known-typed (
+  op-name-reads.Asked,
+  op-name-reads.Learnt,
+  of-ty-reads.Asked,
+  of-ty-reads.Learnt,
+  eq-below t,
+  eq.Post,
+) (exn-at t) exn.Post
+exn-enum-known-typed t c =
+    let falls = c .before .before .before .before .before .before .before .before .before .before .before .before .before .before .before .before .before .before .before .before .before .before .before .before .before .before .pre .0 in
+    let pre0 = c .before .before .before .before .before .before .before .before .before .before .before .before .before .before .before .before .before .before .before .before .before .before .before .before .before .before .pre .1 in
+    search needs
+
+exn-eq-requires : (t : ℕ) → exn-lts.Need-eq-requires (
+  op-name-reads.Asked,
+  op-name-reads.Learnt,
+  of-ty-reads.Asked,
+  of-ty-reads.Learnt,
+  eq-below t,
+  eq.Post,
+) (exn-at t) exn.Post
+exn-eq-requires t c κs =
+    let falls = c .before .before .before .before .before .before .before .before .before .before .before .before .before .before .before .before .before .before .before .before .before .before .before .before .before .before .before .before .before .before .before .pre .0 in
+    let of-ty = rw (c .before .before .before .before .typed .given .1) at (c .before .before .before .before .before .before .before .before .before .before .of-ty .ensures) in
+    let of-ty-ok = of-ty .ok in
+    (omega arith, of-ty-ok)
+
+exn-enum-known-typed-2 : (t : ℕ) → exn-lts.Need-enum-known-typed-2 (
+  op-name-reads.Asked,
+  op-name-reads.Learnt,
+  of-ty-reads.Asked,
+  of-ty-reads.Learnt,
+  eq-below t,
+  eq.Post,
+) (exn-at t) exn.Post
+exn-enum-known-typed-2 t c =
+    let falls = c .before .before .before .before .before .before .before .before .before .before .before .before .before .before .before .before .before .before .before .before .before .before .before .before .before .before .pre .0 in
+    let pre0 = c .before .before .before .before .before .before .before .before .before .before .before .before .before .before .before .before .before .before .before .before .before .before .before .before .before .before .pre .1 in
+    search needs
+
+exn-same-length : (t : ℕ) → exn-lts.Need-same-length (
+  op-name-reads.Asked,
+  op-name-reads.Learnt,
+  of-ty-reads.Asked,
+  of-ty-reads.Learnt,
+  eq-below t,
+  eq.Post,
+) (exn-at t) exn.Post
+exn-same-length t c =
+    refl
+
+exn-same-length-2 : (t : ℕ) → exn-lts.Need-same-length-2 (
+  op-name-reads.Asked,
+  op-name-reads.Learnt,
+  of-ty-reads.Asked,
+  of-ty-reads.Learnt,
+  eq-below t,
+  eq.Post,
+) (exn-at t) exn.Post
+exn-same-length-2 t c =
+    c .before .before .before .before .before .before .before .op-name .kept .1 .1 .1 .1 .0
+
+exn-same-length-3 : (t : ℕ) → exn-lts.Need-same-length-3 (
+  op-name-reads.Asked,
+  op-name-reads.Learnt,
+  of-ty-reads.Asked,
+  of-ty-reads.Learnt,
+  eq-below t,
+  eq.Post,
+) (exn-at t) exn.Post
+exn-same-length-3 t c =
+    c .before .before .before .before .before .before .before .op-name .kept .1 .1 .1 .1 .1 .0
+
+exn-returns : (t : ℕ) → exn-lts.Need-returns (
+  op-name-reads.Asked,
+  op-name-reads.Learnt,
+  of-ty-reads.Asked,
+  of-ty-reads.Learnt,
+  eq-below t,
+  eq.Post,
+) (exn-at t) exn.Post
+unfolding decl.exBind plan choose chosen
+exn-returns t c =
+    let falls = c .before .before .before .before .before .before .before .before .before .before .before .before .before .before .before .before .before .pre .0 in
+    let pre0 = c .before .before .before .before .before .before .before .before .before .before .before .before .before .before .before .before .before .pre .1 in
+    let op-name = rw (c .before .name .given .1) at (c .before .before .before .before .before .before .before .op-name .ensures) in
+    by-steps pre0 (λ b. s-by _ (runs-always op-name) s-end)
+
+exn-same-length-4 : (t : ℕ) → exn-lts.Need-same-length-4 (
+  op-name-reads.Asked,
+  op-name-reads.Learnt,
+  of-ty-reads.Asked,
+  of-ty-reads.Learnt,
+  eq-below t,
+  eq.Post,
+) (exn-at t) exn.Post
+exn-same-length-4 t c =
+    c .before .before .before .before .before .before .eq .kept .1 .1 .1 .0
+
+exn-same-length-5 : (t : ℕ) → exn-lts.Need-same-length-5 (
+  op-name-reads.Asked,
+  op-name-reads.Learnt,
+  of-ty-reads.Asked,
+  of-ty-reads.Learnt,
+  eq-below t,
+  eq.Post,
+) (exn-at t) exn.Post
+exn-same-length-5 t c =
+    c .before .before .before .before .before .before .eq .kept .1 .1 .1 .1 .0 ∙ c .before .before .before .before .before .before .before .before .before .before .before .before .before .before .before .before .before .of-ty .kept .1 .1 .1 .1 .0 ∙ c .before .before .before .before .before .before .before .before .before .before .before .before .before .before .before .before .before .before .before .before .before .before .before .before .before .before .before .before .op-name .kept .1 .1 .1 .1 .0
+
+exn-same-length-6 : (t : ℕ) → exn-lts.Need-same-length-6 (
+  op-name-reads.Asked,
+  op-name-reads.Learnt,
+  of-ty-reads.Asked,
+  of-ty-reads.Learnt,
+  eq-below t,
+  eq.Post,
+) (exn-at t) exn.Post
+exn-same-length-6 t c =
+    c .before .before .before .before .before .before .eq .kept .1 .1 .1 .1 .1 .0 ∙ c .before .before .before .before .before .before .before .before .before .before .before .before .before .before .before .before .before .of-ty .kept .1 .1 .1 .1 .1 .0 ∙ c .before .before .before .before .before .before .before .before .before .before .before .before .before .before .before .before .before .before .before .before .before .before .before .before .before .before .before .before .op-name .kept .1 .1 .1 .1 .1 .0
+
+exn-returns-2 : (t : ℕ) → exn-lts.Need-returns-2 (
+  op-name-reads.Asked,
+  op-name-reads.Learnt,
+  of-ty-reads.Asked,
+  of-ty-reads.Learnt,
+  eq-below t,
+  eq.Post,
+) (exn-at t) exn.Post
+unfolding decl.exBind plan choose chosen
+exn-returns-2 t c =
+    let falls = c .before .before .before .before .before .before .before .before .before .before .before .before .before .before .before .before .before .before .before .before .before .before .before .before .before .before .before .before .before .before .before .before .before .before .before .before .before .before .pre .0 in
+    let pre0 = c .before .before .before .before .before .before .before .before .before .before .before .before .before .before .before .before .before .before .before .before .before .before .before .before .before .before .before .before .before .before .before .before .before .before .before .before .before .before .pre .1 in
+    let op-name = rw (c .before .before .before .before .before .before .before .before .before .before .before .before .before .before .before .before .before .before .before .before .before .before .name2 .given .1) at (c .before .before .before .before .before .before .before .before .before .before .before .before .before .before .before .before .before .before .before .before .before .before .before .before .before .before .before .before .op-name .ensures) in
+    let of-ty = rw (c .before .before .before .before .before .before .before .before .before .before .before .typed .given .1) at (c .before .before .before .before .before .before .before .before .before .before .before .before .before .before .before .before .before .of-ty .ensures) in
+    let eq = c .before .before .before .before .before .before .eq .ensures in
+    by-steps pre0 (λ b. s-by _ (runs-always op-name) (s-by _ (runs-in of-ty) (s-by _ (runs-in eq) s-end)))
+
+exn-same-length-7 : (t : ℕ) → exn-lts.Need-same-length-7 (
+  op-name-reads.Asked,
+  op-name-reads.Learnt,
+  of-ty-reads.Asked,
+  of-ty-reads.Learnt,
+  eq-below t,
+  eq.Post,
+) (exn-at t) exn.Post
+exn-same-length-7 t c =
+    refl
+
+exn-same-length-8 : (t : ℕ) → exn-lts.Need-same-length-8 (
+  op-name-reads.Asked,
+  op-name-reads.Learnt,
+  of-ty-reads.Asked,
+  of-ty-reads.Learnt,
+  eq-below t,
+  eq.Post,
+) (exn-at t) exn.Post
+exn-same-length-8 t c =
+    c .before .before .before .before .before .before .before .of-ty .kept .1 .1 .1 .1 .0 ∙ c .before .before .before .before .before .before .before .before .before .before .before .before .before .before .before .before .before .before .op-name .kept .1 .1 .1 .1 .0
+
+exn-same-length-9 : (t : ℕ) → exn-lts.Need-same-length-9 (
+  op-name-reads.Asked,
+  op-name-reads.Learnt,
+  of-ty-reads.Asked,
+  of-ty-reads.Learnt,
+  eq-below t,
+  eq.Post,
+) (exn-at t) exn.Post
+exn-same-length-9 t c =
+    c .before .before .before .before .before .before .before .of-ty .kept .1 .1 .1 .1 .1 .0 ∙ c .before .before .before .before .before .before .before .before .before .before .before .before .before .before .before .before .before .before .op-name .kept .1 .1 .1 .1 .1 .0
+
+exn-returns-3 : (t : ℕ) → exn-lts.Need-returns-3 (
+  op-name-reads.Asked,
+  op-name-reads.Learnt,
+  of-ty-reads.Asked,
+  of-ty-reads.Learnt,
+  eq-below t,
+  eq.Post,
+) (exn-at t) exn.Post
+unfolding decl.exBind plan choose chosen
+exn-returns-3 t c =
+    let falls = c .before .before .before .before .before .before .before .before .before .before .before .before .before .before .before .before .before .before .before .before .before .before .before .before .before .before .before .before .pre .0 in
+    let pre0 = c .before .before .before .before .before .before .before .before .before .before .before .before .before .before .before .before .before .before .before .before .before .before .before .before .before .before .before .before .pre .1 in
+    let op-name = rw (c .before .before .before .before .before .before .before .before .before .before .before .before .name2 .given .1) at (c .before .before .before .before .before .before .before .before .before .before .before .before .before .before .before .before .before .before .op-name .ensures) in
+    let of-ty = rw (c .before .typed2 .given .1) at (c .before .before .before .before .before .before .before .of-ty .ensures) in
+    by-steps pre0 (λ b. s-by _ (runs-always op-name) (s-by _ (runs-in of-ty) s-end))
+
+exp-pre-requires : (t : ℕ) → exp-lts.Need-pre-requires (
+  pre-below t,
+  pre.Post,
+  report-reads.Asked,
+  report-reads.Learnt,
+) (exp-at t) exp.Post
+exp-pre-requires t c κs =
+    let falls = c .before .before .before .before .before .before .before .before .before .pre .0 in
+    let pre0 = c .before .before .before .before .before .before .before .before .before .pre .1 in
+    (omega arith, pre0)
+
+exp-enum-known-got : (t : ℕ) → exp-lts.Need-enum-known-got (
+  pre-below t,
+  pre.Post,
+  report-reads.Asked,
+  report-reads.Learnt,
+) (exp-at t) exp.Post
+exp-enum-known-got t c =
+    let falls = c .before .before .before .before .before .before .before .before .before .before .before .before .before .before .before .before .before .pre .0 in
+    let pre0 = c .before .before .before .before .before .before .before .before .before .before .before .before .before .before .before .before .before .pre .1 in
+    search needs
+
+exp-enum-known-got-2 : (t : ℕ) → exp-lts.Need-enum-known-got-2 (
+  pre-below t,
+  pre.Post,
+  report-reads.Asked,
+  report-reads.Learnt,
+) (exp-at t) exp.Post
+exp-enum-known-got-2 t c =
+    let falls = c .before .before .before .before .before .before .before .before .before .before .before .before .before .before .before .before .before .pre .0 in
+    let pre0 = c .before .before .before .before .before .before .before .before .before .before .before .before .before .before .before .before .before .pre .1 in
+    search needs
+
+exp-report-requires : (t : ℕ) → exp-lts.Need-report-requires (
+  pre-below t,
+  pre.Post,
+  report-reads.Asked,
+  report-reads.Learnt,
+) (exp-at t) exp.Post
+exp-report-requires t c κs =
+    let falls = c .before .before .before .before .before .before .before .before .before .before .before .before .before .before .before .before .before .before .before .before .pre .0 in
+    let pre2 = rw (c .before .before .got2 .given .1) at (c .before .before .before .before .before .before .before .before .before .before .pre2 .ensures) in
+    let pre2-ok = pre2 .ok in
+    (pre2-ok .holds, (let few = pre2-ok .reads .few in let inside = pre2-ok .reads .inside in omega arith), omega arith)
+
+exp-same-length : (t : ℕ) → exp-lts.Need-same-length (
+  pre-below t,
+  pre.Post,
+  report-reads.Asked,
+  report-reads.Learnt,
+) (exp-at t) exp.Post
+exp-same-length t c =
+    c .before .before .before .before .before .before .before .before .before .pre2 .kept .1 .1 .1 .0
+
+exp-same-length-2 : (t : ℕ) → exp-lts.Need-same-length-2 (
+  pre-below t,
+  pre.Post,
+  report-reads.Asked,
+  report-reads.Learnt,
+) (exp-at t) exp.Post
+exp-same-length-2 t c =
+    c .before .before .before .before .before .before .before .before .before .pre2 .kept .1 .1 .1 .1 .0
+
+exp-same-length-3 : (t : ℕ) → exp-lts.Need-same-length-3 (
+  pre-below t,
+  pre.Post,
+  report-reads.Asked,
+  report-reads.Learnt,
+) (exp-at t) exp.Post
+exp-same-length-3 t c =
+    c .before .before .before .before .before .before .before .before .before .pre2 .kept .1 .1 .1 .1 .1 .0
+
+exp-returns : (t : ℕ) → exp-lts.Need-returns (
+  pre-below t,
+  pre.Post,
+  report-reads.Asked,
+  report-reads.Learnt,
+) (exp-at t) exp.Post
+unfolding expr.expMust plan choose chosen
+exp-returns t c =
+    let falls = c .before .before .before .before .before .before .before .before .before .before .before .before .before .before .before .before .before .before .before .pre .0 in
+    let pre0 = c .before .before .before .before .before .before .before .before .before .before .before .before .before .before .before .before .before .before .before .pre .1 in
+    let pre2 = rw (c .before .got .given .1) at (c .before .before .before .before .before .before .before .before .before .pre2 .ensures) in
+    by-steps pre0 (λ b. s-run (runs-in pre2) s-end)
+
+exp-same-length-4 : (t : ℕ) → exp-lts.Need-same-length-4 (
+  pre-below t,
+  pre.Post,
+  report-reads.Asked,
+  report-reads.Learnt,
+) (exp-at t) exp.Post
+exp-same-length-4 t c =
+    c .before .before .before .before .before .before .before .before .before .before .before .before .before .pre2 .kept .1 .1 .1 .0
+
+exp-same-length-5 : (t : ℕ) → exp-lts.Need-same-length-5 (
+  pre-below t,
+  pre.Post,
+  report-reads.Asked,
+  report-reads.Learnt,
+) (exp-at t) exp.Post
+exp-same-length-5 t c =
+    c .before .before .before .before .before .before .before .before .before .before .before .before .before .pre2 .kept .1 .1 .1 .1 .0
+
+exp-same-length-6 : (t : ℕ) → exp-lts.Need-same-length-6 (
+  pre-below t,
+  pre.Post,
+  report-reads.Asked,
+  report-reads.Learnt,
+) (exp-at t) exp.Post
+exp-same-length-6 t c =
+    c .before .before .report .kept .0 ∙ c .before .before .before .before .before .before .before .before .before .before .before .before .before .pre2 .kept .1 .1 .1 .1 .1 .0
+
+exp-returns-2 : (t : ℕ) → exp-lts.Need-returns-2 (
+  pre-below t,
+  pre.Post,
+  report-reads.Asked,
+  report-reads.Learnt,
+) (exp-at t) exp.Post
+unfolding expr.expMust plan choose chosen
+exp-returns-2 t c =
+    let falls = c .before .before .before .before .before .before .before .before .before .before .before .before .before .before .before .before .before .before .before .before .before .before .before .pre .0 in
+    let pre0 = c .before .before .before .before .before .before .before .before .before .before .before .before .before .before .before .before .before .before .before .before .before .before .before .pre .1 in
+    let pre2 = rw (c .before .before .before .before .before .got2 .given .1) at (c .before .before .before .before .before .before .before .before .before .before .before .before .before .pre2 .ensures) in
+    let report = c .before .before .report .ensures in
+    by-steps pre0 (λ b. s-run (runs-in pre2) (s-report report s-end))
+
+fap-bump-requires : (t : ℕ) → fap-lts.Need-bump-requires (
+  bump-reads.Asked,
+  bump-reads.Learnt,
+  want-reads.Asked,
+  want-reads.Learnt,
+  refuse-reads.Asked,
+  refuse-reads.Learnt,
+  dec-below t,
+  dec.Post,
+  state-reads.Asked,
+  state-reads.Learnt,
+  give-back-reads.Asked,
+  give-back-reads.Learnt,
+  app-end-reads.Asked,
+  app-end-reads.Learnt,
+  mark-reads.Asked,
+  mark-reads.Learnt,
+  stx-below t,
+  stx.Post,
+  close-reads.Asked,
+  close-reads.Learnt,
+) (fap-at t) fap.Post
+fap-bump-requires t c κs =
+    let pre0 = c .before .before .before .before .before .before .before .pre .1 .0 in
+    (pre0 .reads, pre0 .logs)
+
+fap-want-requires : (t : ℕ) → fap-lts.Need-want-requires (
+  bump-reads.Asked,
+  bump-reads.Learnt,
+  want-reads.Asked,
+  want-reads.Learnt,
+  refuse-reads.Asked,
+  refuse-reads.Learnt,
+  dec-below t,
+  dec.Post,
+  state-reads.Asked,
+  state-reads.Learnt,
+  give-back-reads.Asked,
+  give-back-reads.Learnt,
+  app-end-reads.Asked,
+  app-end-reads.Learnt,
+  mark-reads.Asked,
+  mark-reads.Learnt,
+  stx-below t,
+  stx.Post,
+  close-reads.Asked,
+  close-reads.Learnt,
+) (fap-at t) fap.Post
+fap-want-requires t c κs =
+    let falls = c .before .before .before .before .before .before .before .before .before .before .before .before .before .pre .0 in
+    let pre0 = c .before .before .before .before .before .before .before .before .before .before .before .before .before .pre .1 .0 in
+    let pre1 = c .before .before .before .before .before .before .before .before .before .before .before .before .before .pre .1 .1 in
+    let bump = c .before .before .before .before .before .bump .ensures in
+    let bump-ok = ok-bumps bump pre0 in
+    (bump-ok, omega arith)
+
+fap-refuse-requires : (t : ℕ) → fap-lts.Need-refuse-requires (
+  bump-reads.Asked,
+  bump-reads.Learnt,
+  want-reads.Asked,
+  want-reads.Learnt,
+  refuse-reads.Asked,
+  refuse-reads.Learnt,
+  dec-below t,
+  dec.Post,
+  state-reads.Asked,
+  state-reads.Learnt,
+  give-back-reads.Asked,
+  give-back-reads.Learnt,
+  app-end-reads.Asked,
+  app-end-reads.Learnt,
+  mark-reads.Asked,
+  mark-reads.Learnt,
+  stx-below t,
+  stx.Post,
+  close-reads.Asked,
+  close-reads.Learnt,
+) (fap-at t) fap.Post
+fap-refuse-requires t c κs =
+    tt
+
+fap-dec-requires : (t : ℕ) → fap-lts.Need-dec-requires (
+  bump-reads.Asked,
+  bump-reads.Learnt,
+  want-reads.Asked,
+  want-reads.Learnt,
+  refuse-reads.Asked,
+  refuse-reads.Learnt,
+  dec-below t,
+  dec.Post,
+  state-reads.Asked,
+  state-reads.Learnt,
+  give-back-reads.Asked,
+  give-back-reads.Learnt,
+  app-end-reads.Asked,
+  app-end-reads.Learnt,
+  mark-reads.Asked,
+  mark-reads.Learnt,
+  stx-below t,
+  stx.Post,
+  close-reads.Asked,
+  close-reads.Learnt,
+) (fap-at t) fap.Post
+fap-dec-requires t c κs =
+    let falls = c .before .before .before .before .before .before .before .before .before .before .before .before .before .before .before .before .before .before .before .before .before .before .before .pre .0 in
+    let pre1 = c .before .before .before .before .before .before .before .before .before .before .before .before .before .before .before .before .before .before .before .before .before .before .before .pre .1 .1 in
+    let want = c .before .before .before .before .before .before .before .before .before .want .ensures in
+    let want-ok = want .ok in
+    let if1 = c .before .before .before .before .if1 .taken in
+    let refuse = c .before .before .before .refuse .ensures in
+    let refuse-ok = ok-refused _ refuse want-ok in
+    (omega arith, refuse-ok)
+
+fap-state-requires : (t : ℕ) → fap-lts.Need-state-requires (
+  bump-reads.Asked,
+  bump-reads.Learnt,
+  want-reads.Asked,
+  want-reads.Learnt,
+  refuse-reads.Asked,
+  refuse-reads.Learnt,
+  dec-below t,
+  dec.Post,
+  state-reads.Asked,
+  state-reads.Learnt,
+  give-back-reads.Asked,
+  give-back-reads.Learnt,
+  app-end-reads.Asked,
+  app-end-reads.Learnt,
+  mark-reads.Asked,
+  mark-reads.Learnt,
+  stx-below t,
+  stx.Post,
+  close-reads.Asked,
+  close-reads.Learnt,
+) (fap-at t) fap.Post
+fap-state-requires t c κs =
+    tt
+
+fap-give-back-requires : (t : ℕ) → fap-lts.Need-give-back-requires (
+  bump-reads.Asked,
+  bump-reads.Learnt,
+  want-reads.Asked,
+  want-reads.Learnt,
+  refuse-reads.Asked,
+  refuse-reads.Learnt,
+  dec-below t,
+  dec.Post,
+  state-reads.Asked,
+  state-reads.Learnt,
+  give-back-reads.Asked,
+  give-back-reads.Learnt,
+  app-end-reads.Asked,
+  app-end-reads.Learnt,
+  mark-reads.Asked,
+  mark-reads.Learnt,
+  stx-below t,
+  stx.Post,
+  close-reads.Asked,
+  close-reads.Learnt,
+) (fap-at t) fap.Post
+fap-give-back-requires t c κs =
+    tt
+
+fap-app-end-requires : (t : ℕ) → fap-lts.Need-app-end-requires (
+  bump-reads.Asked,
+  bump-reads.Learnt,
+  want-reads.Asked,
+  want-reads.Learnt,
+  refuse-reads.Asked,
+  refuse-reads.Learnt,
+  dec-below t,
+  dec.Post,
+  state-reads.Asked,
+  state-reads.Learnt,
+  give-back-reads.Asked,
+  give-back-reads.Learnt,
+  app-end-reads.Asked,
+  app-end-reads.Learnt,
+  mark-reads.Asked,
+  mark-reads.Learnt,
+  stx-below t,
+  stx.Post,
+  close-reads.Asked,
+  close-reads.Learnt,
+) (fap-at t) fap.Post
+fap-app-end-requires t c κs =
+    let pre1 = c .before .before .before .before .before .before .before .before .before .before .before .before .before .before .before .before .before .before .before .before .before .before .before .before .before .before .before .before .before .before .before .before .before .before .before .pre .1 .1 in
+    let want = c .before .before .before .before .before .before .before .before .before .before .before .before .before .before .before .before .before .before .before .before .before .want .ensures in
+    let want-ok = want .ok in
+    let refuse = c .before .before .before .before .before .before .before .before .before .before .before .before .before .before .before .refuse .ensures in
+    let refuse-ok = ok-refused _ refuse want-ok in
+    let dec = c .before .before .before .before .before .before .before .before .before .before .before .dec .ensures in
+    let state = c .before .before .before .before .state .ensures in
+    let give-back = c .before .before .before .give-back .ensures in
+    let give-back-ok = ok-back (settled state (runs-in {b = 0} dec)) give-back refuse-ok in
+    (give-back-ok, pre1)
+
+fap-same-length : (t : ℕ) → fap-lts.Need-same-length (
+  bump-reads.Asked,
+  bump-reads.Learnt,
+  want-reads.Asked,
+  want-reads.Learnt,
+  refuse-reads.Asked,
+  refuse-reads.Learnt,
+  dec-below t,
+  dec.Post,
+  state-reads.Asked,
+  state-reads.Learnt,
+  give-back-reads.Asked,
+  give-back-reads.Learnt,
+  app-end-reads.Asked,
+  app-end-reads.Learnt,
+  mark-reads.Asked,
+  mark-reads.Learnt,
+  stx-below t,
+  stx.Post,
+  close-reads.Asked,
+  close-reads.Learnt,
+) (fap-at t) fap.Post
+fap-same-length t c =
+    c .before .before .before .before .before .before .before .before .before .before .before .before .before .before .before .before .dec .kept .1 .1 .1 .0
+
+fap-same-length-2 : (t : ℕ) → fap-lts.Need-same-length-2 (
+  bump-reads.Asked,
+  bump-reads.Learnt,
+  want-reads.Asked,
+  want-reads.Learnt,
+  refuse-reads.Asked,
+  refuse-reads.Learnt,
+  dec-below t,
+  dec.Post,
+  state-reads.Asked,
+  state-reads.Learnt,
+  give-back-reads.Asked,
+  give-back-reads.Learnt,
+  app-end-reads.Asked,
+  app-end-reads.Learnt,
+  mark-reads.Asked,
+  mark-reads.Learnt,
+  stx-below t,
+  stx.Post,
+  close-reads.Asked,
+  close-reads.Learnt,
+) (fap-at t) fap.Post
+fap-same-length-2 t c =
+    c .before .before .before .before .app-end .kept .1 .1 .1 .1 .0 ∙ c .before .before .before .before .before .before .before .before .before .before .before .before .before .before .before .before .dec .kept .1 .1 .1 .1 .0 ∙ c .before .before .before .before .before .before .before .before .before .before .before .before .before .before .before .before .before .before .before .before .before .before .before .before .before .before .want .kept .1 .1 .1 .1 .0 ∙ c .before .before .before .before .before .before .before .before .before .before .before .before .before .before .before .before .before .before .before .before .before .before .before .before .before .before .before .before .before .before .before .before .bump .kept .1 .0
+
+fap-same-length-3 : (t : ℕ) → fap-lts.Need-same-length-3 (
+  bump-reads.Asked,
+  bump-reads.Learnt,
+  want-reads.Asked,
+  want-reads.Learnt,
+  refuse-reads.Asked,
+  refuse-reads.Learnt,
+  dec-below t,
+  dec.Post,
+  state-reads.Asked,
+  state-reads.Learnt,
+  give-back-reads.Asked,
+  give-back-reads.Learnt,
+  app-end-reads.Asked,
+  app-end-reads.Learnt,
+  mark-reads.Asked,
+  mark-reads.Learnt,
+  stx-below t,
+  stx.Post,
+  close-reads.Asked,
+  close-reads.Learnt,
+) (fap-at t) fap.Post
+fap-same-length-3 t c =
+    c .before .before .before .before .app-end .kept .1 .1 .1 .1 .1 .0 ∙ c .before .before .before .before .before .before .before .before .before .before .before .before .before .before .before .before .dec .kept .1 .1 .1 .1 .1 .0 ∙ c .before .before .before .before .before .before .before .before .before .before .before .before .before .before .before .before .before .before .before .before .before .before .before .before .before .before .want .kept .1 .1 .1 .1 .1 .0
+
+fap-returns : (t : ℕ) → fap-lts.Need-returns (
+  bump-reads.Asked,
+  bump-reads.Learnt,
+  want-reads.Asked,
+  want-reads.Learnt,
+  refuse-reads.Asked,
+  refuse-reads.Learnt,
+  dec-below t,
+  dec.Post,
+  state-reads.Asked,
+  state-reads.Learnt,
+  give-back-reads.Asked,
+  give-back-reads.Learnt,
+  app-end-reads.Asked,
+  app-end-reads.Learnt,
+  mark-reads.Asked,
+  mark-reads.Learnt,
+  stx-below t,
+  stx.Post,
+  close-reads.Asked,
+  close-reads.Learnt,
+) (fap-at t) fap.Post
+unfolding decl.strApp plan choose chosen
+fap-returns t c =
+    let falls = c .before .before .before .before .before .before .before .before .before .before .before .before .before .before .before .before .before .before .before .before .before .before .before .before .before .before .before .before .before .before .before .before .before .before .before .before .before .before .before .before .pre .0 in
+    let pre0 = c .before .before .before .before .before .before .before .before .before .before .before .before .before .before .before .before .before .before .before .before .before .before .before .before .before .before .before .before .before .before .before .before .before .before .before .before .before .before .before .before .pre .1 .0 in
+    let pre1 = c .before .before .before .before .before .before .before .before .before .before .before .before .before .before .before .before .before .before .before .before .before .before .before .before .before .before .before .before .before .before .before .before .before .before .before .before .before .before .before .before .pre .1 .1 in
+    let bump = c .before .before .before .before .before .before .before .before .before .before .before .before .before .before .before .before .before .before .before .before .before .before .before .before .before .before .before .before .before .before .before .before .bump .ensures in
+    let want = c .before .before .before .before .before .before .before .before .before .before .before .before .before .before .before .before .before .before .before .before .before .before .before .before .before .before .want .ensures in
+    let if1 = c .before .before .before .before .before .before .before .before .before .before .before .before .before .before .before .before .before .before .before .before .before .if1 .taken in
+    let refuse = c .before .before .before .before .before .before .before .before .before .before .before .before .before .before .before .before .before .before .before .before .refuse .ensures in
+    let dec = c .before .before .before .before .before .before .before .before .before .before .before .before .before .before .before .before .dec .ensures in
+    let state = c .before .before .before .before .before .before .before .before .before .state .ensures in
+    let give-back = c .before .before .before .before .before .before .before .before .give-back .ensures in
+    let app-end = c .before .before .before .before .app-end .ensures in
+    in-steps pre0 (s-bump bump (s-by _ (runs-always want) (s-deep if1 refuse (s-scoped (settled state (runs-in dec)) give-back (s-by _ app-end s-end)))))
+
+fap-mark-requires : (t : ℕ) → fap-lts.Need-mark-requires (
+  bump-reads.Asked,
+  bump-reads.Learnt,
+  want-reads.Asked,
+  want-reads.Learnt,
+  refuse-reads.Asked,
+  refuse-reads.Learnt,
+  dec-below t,
+  dec.Post,
+  state-reads.Asked,
+  state-reads.Learnt,
+  give-back-reads.Asked,
+  give-back-reads.Learnt,
+  app-end-reads.Asked,
+  app-end-reads.Learnt,
+  mark-reads.Asked,
+  mark-reads.Learnt,
+  stx-below t,
+  stx.Post,
+  close-reads.Asked,
+  close-reads.Learnt,
+) (fap-at t) fap.Post
+fap-mark-requires t c κs =
+    tt
+
+fap-sub-stx : (t : ℕ) → fap-lts.Need-sub-stx (
+  bump-reads.Asked,
+  bump-reads.Learnt,
+  want-reads.Asked,
+  want-reads.Learnt,
+  refuse-reads.Asked,
+  refuse-reads.Learnt,
+  dec-below t,
+  dec.Post,
+  state-reads.Asked,
+  state-reads.Learnt,
+  give-back-reads.Asked,
+  give-back-reads.Learnt,
+  app-end-reads.Asked,
+  app-end-reads.Learnt,
+  mark-reads.Asked,
+  mark-reads.Learnt,
+  stx-below t,
+  stx.Post,
+  close-reads.Asked,
+  close-reads.Learnt,
+) (fap-at t) fap.Post
+fap-sub-stx t c =
+    let falls = c .before .before .before .before .before .before .before .before .before .before .before .before .before .before .before .before .before .before .before .before .before .before .before .pre .0 in
+    let pre0 = c .before .before .before .before .before .before .before .before .before .before .before .before .before .before .before .before .before .before .before .before .before .before .before .pre .1 .0 in
+    let pre1 = c .before .before .before .before .before .before .before .before .before .before .before .before .before .before .before .before .before .before .before .before .before .before .before .pre .1 .1 in
+    let if1 = c .before .before .before .before .if1 .left in
+    search needs
+
+fap-stx-requires : (t : ℕ) → fap-lts.Need-stx-requires (
+  bump-reads.Asked,
+  bump-reads.Learnt,
+  want-reads.Asked,
+  want-reads.Learnt,
+  refuse-reads.Asked,
+  refuse-reads.Learnt,
+  dec-below t,
+  dec.Post,
+  state-reads.Asked,
+  state-reads.Learnt,
+  give-back-reads.Asked,
+  give-back-reads.Learnt,
+  app-end-reads.Asked,
+  app-end-reads.Learnt,
+  mark-reads.Asked,
+  mark-reads.Learnt,
+  stx-below t,
+  stx.Post,
+  close-reads.Asked,
+  close-reads.Learnt,
+) (fap-at t) fap.Post
+fap-stx-requires t c κs =
+    let falls = c .before .before .before .before .before .before .before .before .before .before .before .before .before .before .before .before .before .before .before .before .before .before .before .pre .0 in
+    let pre1 = c .before .before .before .before .before .before .before .before .before .before .before .before .before .before .before .before .before .before .before .before .before .before .before .pre .1 .1 in
+    let want = c .before .before .before .before .before .before .before .before .before .want .ensures in
+    let want-ok = want .ok in
+    let if1 = c .before .before .before .before .if1 .left in
+    let mark = c .before .before .before .mark .ensures in
+    let mark-ok = ok-marks mark want-ok in
+    (omega arith, mark-ok)
+
+fap-enum-known-found : (t : ℕ) → fap-lts.Need-enum-known-found (
+  bump-reads.Asked,
+  bump-reads.Learnt,
+  want-reads.Asked,
+  want-reads.Learnt,
+  refuse-reads.Asked,
+  refuse-reads.Learnt,
+  dec-below t,
+  dec.Post,
+  state-reads.Asked,
+  state-reads.Learnt,
+  give-back-reads.Asked,
+  give-back-reads.Learnt,
+  app-end-reads.Asked,
+  app-end-reads.Learnt,
+  mark-reads.Asked,
+  mark-reads.Learnt,
+  stx-below t,
+  stx.Post,
+  close-reads.Asked,
+  close-reads.Learnt,
+) (fap-at t) fap.Post
+fap-enum-known-found t c =
+    let falls = c .before .before .before .before .before .before .before .before .before .before .before .before .before .before .before .before .before .before .before .before .before .before .before .before .before .before .before .before .before .before .before .pre .0 in
+    let pre0 = c .before .before .before .before .before .before .before .before .before .before .before .before .before .before .before .before .before .before .before .before .before .before .before .before .before .before .before .before .before .before .before .pre .1 .0 in
+    let pre1 = c .before .before .before .before .before .before .before .before .before .before .before .before .before .before .before .before .before .before .before .before .before .before .before .before .before .before .before .before .before .before .before .pre .1 .1 in
+    let if1 = c .before .before .before .before .before .before .before .before .before .before .before .before .if1 .left in
+    search needs
+
+fap-close-requires : (t : ℕ) → fap-lts.Need-close-requires (
+  bump-reads.Asked,
+  bump-reads.Learnt,
+  want-reads.Asked,
+  want-reads.Learnt,
+  refuse-reads.Asked,
+  refuse-reads.Learnt,
+  dec-below t,
+  dec.Post,
+  state-reads.Asked,
+  state-reads.Learnt,
+  give-back-reads.Asked,
+  give-back-reads.Learnt,
+  app-end-reads.Asked,
+  app-end-reads.Learnt,
+  mark-reads.Asked,
+  mark-reads.Learnt,
+  stx-below t,
+  stx.Post,
+  close-reads.Asked,
+  close-reads.Learnt,
+) (fap-at t) fap.Post
+fap-close-requires t c κs =
+    let want = c .before .before .before .before .before .before .before .before .before .before .before .before .before .before .before .before .before .before .before .before .want .ensures in
+    let want-ok = want .ok in
+    let mark = c .before .before .before .before .before .before .before .before .before .before .before .before .before .before .mark .ensures in
+    let mark-ok = ok-marks mark want-ok in
+    let stx = rw (c .before .before .found .given .1) at (c .before .before .before .before .before .before .before .before .before .before .stx .ensures) in
+    let stx-ok = stx .ok in
+    (stx-ok .logs, small-len mark-ok)
+
+fap-app-end-requires-2 : (t : ℕ) → fap-lts.Need-app-end-requires-2 (
+  bump-reads.Asked,
+  bump-reads.Learnt,
+  want-reads.Asked,
+  want-reads.Learnt,
+  refuse-reads.Asked,
+  refuse-reads.Learnt,
+  dec-below t,
+  dec.Post,
+  state-reads.Asked,
+  state-reads.Learnt,
+  give-back-reads.Asked,
+  give-back-reads.Learnt,
+  app-end-reads.Asked,
+  app-end-reads.Learnt,
+  mark-reads.Asked,
+  mark-reads.Learnt,
+  stx-below t,
+  stx.Post,
+  close-reads.Asked,
+  close-reads.Learnt,
+) (fap-at t) fap.Post
+fap-app-end-requires-2 t c κs =
+    let pre1 = c .before .before .before .before .before .before .before .before .before .before .before .before .before .before .before .before .before .before .before .before .before .before .before .before .before .before .before .before .before .before .before .before .before .before .before .before .before .before .before .before .pre .1 .1 in
+    let stx = rw (c .before .before .before .before .before .before .before .before .found .given .1) at (c .before .before .before .before .before .before .before .before .before .before .before .before .before .before .before .before .stx .ensures) in
+    let stx-ok = stx .ok in
+    let close = c .before .before .before .before .before .close .ensures in
+    let close-ok = ok-adds close stx-ok in
+    (close-ok, pre1)
+
+fap-enum-known-found-2 : (t : ℕ) → fap-lts.Need-enum-known-found-2 (
+  bump-reads.Asked,
+  bump-reads.Learnt,
+  want-reads.Asked,
+  want-reads.Learnt,
+  refuse-reads.Asked,
+  refuse-reads.Learnt,
+  dec-below t,
+  dec.Post,
+  state-reads.Asked,
+  state-reads.Learnt,
+  give-back-reads.Asked,
+  give-back-reads.Learnt,
+  app-end-reads.Asked,
+  app-end-reads.Learnt,
+  mark-reads.Asked,
+  mark-reads.Learnt,
+  stx-below t,
+  stx.Post,
+  close-reads.Asked,
+  close-reads.Learnt,
+) (fap-at t) fap.Post
+fap-enum-known-found-2 t c =
+    let falls = c .before .before .before .before .before .before .before .before .before .before .before .before .before .before .before .before .before .before .before .before .before .before .before .before .before .before .before .before .before .before .before .pre .0 in
+    let pre0 = c .before .before .before .before .before .before .before .before .before .before .before .before .before .before .before .before .before .before .before .before .before .before .before .before .before .before .before .before .before .before .before .pre .1 .0 in
+    let pre1 = c .before .before .before .before .before .before .before .before .before .before .before .before .before .before .before .before .before .before .before .before .before .before .before .before .before .before .before .before .before .before .before .pre .1 .1 in
+    let if1 = c .before .before .before .before .before .before .before .before .before .before .before .before .if1 .left in
+    search needs
+
+fap-dec-requires-2 : (t : ℕ) → fap-lts.Need-dec-requires-2 (
+  bump-reads.Asked,
+  bump-reads.Learnt,
+  want-reads.Asked,
+  want-reads.Learnt,
+  refuse-reads.Asked,
+  refuse-reads.Learnt,
+  dec-below t,
+  dec.Post,
+  state-reads.Asked,
+  state-reads.Learnt,
+  give-back-reads.Asked,
+  give-back-reads.Learnt,
+  app-end-reads.Asked,
+  app-end-reads.Learnt,
+  mark-reads.Asked,
+  mark-reads.Learnt,
+  stx-below t,
+  stx.Post,
+  close-reads.Asked,
+  close-reads.Learnt,
+) (fap-at t) fap.Post
+fap-dec-requires-2 t c κs =
+    let falls = c .before .before .before .before .before .before .before .before .before .before .before .before .before .before .before .before .before .before .before .before .before .before .before .before .before .before .before .before .before .before .before .before .before .before .before .before .pre .0 in
+    let pre1 = c .before .before .before .before .before .before .before .before .before .before .before .before .before .before .before .before .before .before .before .before .before .before .before .before .before .before .before .before .before .before .before .before .before .before .before .before .pre .1 .1 in
+    let if1 = c .before .before .before .before .before .before .before .before .before .before .before .before .before .before .before .before .before .if1 .left in
+    let stx = rw (c .before .before .before .before .found2 .given .1) at (c .before .before .before .before .before .before .before .before .before .before .before .before .stx .ensures) in
+    let stx-ok = stx .ok in
+    (omega arith, stx-ok)
+
+fap-state-requires-2 : (t : ℕ) → fap-lts.Need-state-requires-2 (
+  bump-reads.Asked,
+  bump-reads.Learnt,
+  want-reads.Asked,
+  want-reads.Learnt,
+  refuse-reads.Asked,
+  refuse-reads.Learnt,
+  dec-below t,
+  dec.Post,
+  state-reads.Asked,
+  state-reads.Learnt,
+  give-back-reads.Asked,
+  give-back-reads.Learnt,
+  app-end-reads.Asked,
+  app-end-reads.Learnt,
+  mark-reads.Asked,
+  mark-reads.Learnt,
+  stx-below t,
+  stx.Post,
+  close-reads.Asked,
+  close-reads.Learnt,
+) (fap-at t) fap.Post
+fap-state-requires-2 t c κs =
+    tt
+
+fap-give-back-requires-2 : (t : ℕ) → fap-lts.Need-give-back-requires-2 (
+  bump-reads.Asked,
+  bump-reads.Learnt,
+  want-reads.Asked,
+  want-reads.Learnt,
+  refuse-reads.Asked,
+  refuse-reads.Learnt,
+  dec-below t,
+  dec.Post,
+  state-reads.Asked,
+  state-reads.Learnt,
+  give-back-reads.Asked,
+  give-back-reads.Learnt,
+  app-end-reads.Asked,
+  app-end-reads.Learnt,
+  mark-reads.Asked,
+  mark-reads.Learnt,
+  stx-below t,
+  stx.Post,
+  close-reads.Asked,
+  close-reads.Learnt,
+) (fap-at t) fap.Post
+fap-give-back-requires-2 t c κs =
+    tt
+
+fap-app-end-requires-3 : (t : ℕ) → fap-lts.Need-app-end-requires-3 (
+  bump-reads.Asked,
+  bump-reads.Learnt,
+  want-reads.Asked,
+  want-reads.Learnt,
+  refuse-reads.Asked,
+  refuse-reads.Learnt,
+  dec-below t,
+  dec.Post,
+  state-reads.Asked,
+  state-reads.Learnt,
+  give-back-reads.Asked,
+  give-back-reads.Learnt,
+  app-end-reads.Asked,
+  app-end-reads.Learnt,
+  mark-reads.Asked,
+  mark-reads.Learnt,
+  stx-below t,
+  stx.Post,
+  close-reads.Asked,
+  close-reads.Learnt,
+) (fap-at t) fap.Post
+fap-app-end-requires-3 t c κs =
+    let pre1 = c .before .before .before .before .before .before .before .before .before .before .before .before .before .before .before .before .before .before .before .before .before .before .before .before .before .before .before .before .before .before .before .before .before .before .before .before .before .before .before .before .before .before .before .before .before .before .before .before .pre .1 .1 in
+    let stx = rw (c .before .before .before .before .before .before .before .before .before .before .before .before .before .before .before .before .found2 .given .1) at (c .before .before .before .before .before .before .before .before .before .before .before .before .before .before .before .before .before .before .before .before .before .before .before .before .stx .ensures) in
+    let stx-ok = stx .ok in
+    let dec2 = c .before .before .before .before .before .before .before .before .before .before .before .dec2 .ensures in
+    let state2 = c .before .before .before .before .state2 .ensures in
+    let give-back2 = c .before .before .before .give-back2 .ensures in
+    let give-back2-ok = ok-back (settled state2 (runs-in {b = 0} dec2)) give-back2 stx-ok in
+    (give-back2-ok, pre1)
+
+fap-same-length-4 : (t : ℕ) → fap-lts.Need-same-length-4 (
+  bump-reads.Asked,
+  bump-reads.Learnt,
+  want-reads.Asked,
+  want-reads.Learnt,
+  refuse-reads.Asked,
+  refuse-reads.Learnt,
+  dec-below t,
+  dec.Post,
+  state-reads.Asked,
+  state-reads.Learnt,
+  give-back-reads.Asked,
+  give-back-reads.Learnt,
+  app-end-reads.Asked,
+  app-end-reads.Learnt,
+  mark-reads.Asked,
+  mark-reads.Learnt,
+  stx-below t,
+  stx.Post,
+  close-reads.Asked,
+  close-reads.Learnt,
+) (fap-at t) fap.Post
+fap-same-length-4 t c =
+    c .before .before .before .before .before .before .before .before .before .before .before .before .before .before .before .before .before .before .before .before .before .stx .kept .1 .1 .1 .0
+
+fap-same-length-5 : (t : ℕ) → fap-lts.Need-same-length-5 (
+  bump-reads.Asked,
+  bump-reads.Learnt,
+  want-reads.Asked,
+  want-reads.Learnt,
+  refuse-reads.Asked,
+  refuse-reads.Learnt,
+  dec-below t,
+  dec.Post,
+  state-reads.Asked,
+  state-reads.Learnt,
+  give-back-reads.Asked,
+  give-back-reads.Learnt,
+  app-end-reads.Asked,
+  app-end-reads.Learnt,
+  mark-reads.Asked,
+  mark-reads.Learnt,
+  stx-below t,
+  stx.Post,
+  close-reads.Asked,
+  close-reads.Learnt,
+) (fap-at t) fap.Post
+fap-same-length-5 t c =
+    c .before .before .before .before .app-end2 .kept .1 .1 .1 .1 .0 ∙ c .before .before .before .before .before .before .before .before .before .before .close .kept .0 ∙ c .before .before .before .before .before .before .before .before .before .before .before .before .before .before .before .before .before .before .before .before .before .stx .kept .1 .1 .1 .1 .0 ∙ c .before .before .before .before .before .before .before .before .before .before .before .before .before .before .before .before .before .before .before .before .before .before .before .before .before .before .before .before .before .before .before .want .kept .1 .1 .1 .1 .0 ∙ c .before .before .before .before .before .before .before .before .before .before .before .before .before .before .before .before .before .before .before .before .before .before .before .before .before .before .before .before .before .before .before .before .before .before .before .before .before .bump .kept .1 .0
+
+fap-same-length-6 : (t : ℕ) → fap-lts.Need-same-length-6 (
+  bump-reads.Asked,
+  bump-reads.Learnt,
+  want-reads.Asked,
+  want-reads.Learnt,
+  refuse-reads.Asked,
+  refuse-reads.Learnt,
+  dec-below t,
+  dec.Post,
+  state-reads.Asked,
+  state-reads.Learnt,
+  give-back-reads.Asked,
+  give-back-reads.Learnt,
+  app-end-reads.Asked,
+  app-end-reads.Learnt,
+  mark-reads.Asked,
+  mark-reads.Learnt,
+  stx-below t,
+  stx.Post,
+  close-reads.Asked,
+  close-reads.Learnt,
+) (fap-at t) fap.Post
+fap-same-length-6 t c =
+    c .before .before .before .before .app-end2 .kept .1 .1 .1 .1 .1 .0 ∙ c .before .before .before .before .before .before .before .before .before .before .before .before .before .before .before .before .before .before .before .before .before .stx .kept .1 .1 .1 .1 .1 .0 ∙ c .before .before .before .before .before .before .before .before .before .before .before .before .before .before .before .before .before .before .before .before .before .before .before .before .before .before .before .before .before .before .before .want .kept .1 .1 .1 .1 .1 .0
+
+fap-returns-2 : (t : ℕ) → fap-lts.Need-returns-2 (
+  bump-reads.Asked,
+  bump-reads.Learnt,
+  want-reads.Asked,
+  want-reads.Learnt,
+  refuse-reads.Asked,
+  refuse-reads.Learnt,
+  dec-below t,
+  dec.Post,
+  state-reads.Asked,
+  state-reads.Learnt,
+  give-back-reads.Asked,
+  give-back-reads.Learnt,
+  app-end-reads.Asked,
+  app-end-reads.Learnt,
+  mark-reads.Asked,
+  mark-reads.Learnt,
+  stx-below t,
+  stx.Post,
+  close-reads.Asked,
+  close-reads.Learnt,
+) (fap-at t) fap.Post
+unfolding decl.strApp plan choose chosen
+fap-returns-2 t c =
+    let falls = c .before .before .before .before .before .before .before .before .before .before .before .before .before .before .before .before .before .before .before .before .before .before .before .before .before .before .before .before .before .before .before .before .before .before .before .before .before .before .before .before .before .before .before .before .before .pre .0 in
+    let pre0 = c .before .before .before .before .before .before .before .before .before .before .before .before .before .before .before .before .before .before .before .before .before .before .before .before .before .before .before .before .before .before .before .before .before .before .before .before .before .before .before .before .before .before .before .before .before .pre .1 .0 in
+    let pre1 = c .before .before .before .before .before .before .before .before .before .before .before .before .before .before .before .before .before .before .before .before .before .before .before .before .before .before .before .before .before .before .before .before .before .before .before .before .before .before .before .before .before .before .before .before .before .pre .1 .1 in
+    let bump = c .before .before .before .before .before .before .before .before .before .before .before .before .before .before .before .before .before .before .before .before .before .before .before .before .before .before .before .before .before .before .before .before .before .before .before .before .before .bump .ensures in
+    let want = c .before .before .before .before .before .before .before .before .before .before .before .before .before .before .before .before .before .before .before .before .before .before .before .before .before .before .before .before .before .before .before .want .ensures in
+    let if1 = c .before .before .before .before .before .before .before .before .before .before .before .before .before .before .before .before .before .before .before .before .before .before .before .before .before .before .if1 .left in
+    let mark = c .before .before .before .before .before .before .before .before .before .before .before .before .before .before .before .before .before .before .before .before .before .before .before .before .before .mark .ensures in
+    let stx = rw (c .before .before .before .before .before .before .before .before .before .before .before .before .before .found .given .1) at (c .before .before .before .before .before .before .before .before .before .before .before .before .before .before .before .before .before .before .before .before .before .stx .ensures) in
+    let close = c .before .before .before .before .before .before .before .before .before .before .close .ensures in
+    let app-end2 = c .before .before .before .before .app-end2 .ensures in
+    in-steps pre0 (s-bump bump (s-by _ (runs-always want) (s-mark if1 mark (s-run (runs-in stx) (s-close close (s-by _ app-end2 s-end))))))
+
+fap-same-length-7 : (t : ℕ) → fap-lts.Need-same-length-7 (
+  bump-reads.Asked,
+  bump-reads.Learnt,
+  want-reads.Asked,
+  want-reads.Learnt,
+  refuse-reads.Asked,
+  refuse-reads.Learnt,
+  dec-below t,
+  dec.Post,
+  state-reads.Asked,
+  state-reads.Learnt,
+  give-back-reads.Asked,
+  give-back-reads.Learnt,
+  app-end-reads.Asked,
+  app-end-reads.Learnt,
+  mark-reads.Asked,
+  mark-reads.Learnt,
+  stx-below t,
+  stx.Post,
+  close-reads.Asked,
+  close-reads.Learnt,
+) (fap-at t) fap.Post
+fap-same-length-7 t c =
+    c .before .before .before .before .before .before .before .before .before .before .before .before .before .before .before .before .dec2 .kept .1 .1 .1 .0 ∙ c .before .before .before .before .before .before .before .before .before .before .before .before .before .before .before .before .before .before .before .before .before .before .before .before .before .before .before .before .before .stx .kept .1 .1 .1 .0
+
+fap-same-length-8 : (t : ℕ) → fap-lts.Need-same-length-8 (
+  bump-reads.Asked,
+  bump-reads.Learnt,
+  want-reads.Asked,
+  want-reads.Learnt,
+  refuse-reads.Asked,
+  refuse-reads.Learnt,
+  dec-below t,
+  dec.Post,
+  state-reads.Asked,
+  state-reads.Learnt,
+  give-back-reads.Asked,
+  give-back-reads.Learnt,
+  app-end-reads.Asked,
+  app-end-reads.Learnt,
+  mark-reads.Asked,
+  mark-reads.Learnt,
+  stx-below t,
+  stx.Post,
+  close-reads.Asked,
+  close-reads.Learnt,
+) (fap-at t) fap.Post
+fap-same-length-8 t c =
+    c .before .before .before .before .app-end3 .kept .1 .1 .1 .1 .0 ∙ c .before .before .before .before .before .before .before .before .before .before .before .before .before .before .before .before .dec2 .kept .1 .1 .1 .1 .0 ∙ c .before .before .before .before .before .before .before .before .before .before .before .before .before .before .before .before .before .before .before .before .before .before .before .before .before .before .before .before .before .stx .kept .1 .1 .1 .1 .0 ∙ c .before .before .before .before .before .before .before .before .before .before .before .before .before .before .before .before .before .before .before .before .before .before .before .before .before .before .before .before .before .before .before .before .before .before .before .before .before .before .before .want .kept .1 .1 .1 .1 .0 ∙ c .before .before .before .before .before .before .before .before .before .before .before .before .before .before .before .before .before .before .before .before .before .before .before .before .before .before .before .before .before .before .before .before .before .before .before .before .before .before .before .before .before .before .before .before .before .bump .kept .1 .0
+
+fap-same-length-9 : (t : ℕ) → fap-lts.Need-same-length-9 (
+  bump-reads.Asked,
+  bump-reads.Learnt,
+  want-reads.Asked,
+  want-reads.Learnt,
+  refuse-reads.Asked,
+  refuse-reads.Learnt,
+  dec-below t,
+  dec.Post,
+  state-reads.Asked,
+  state-reads.Learnt,
+  give-back-reads.Asked,
+  give-back-reads.Learnt,
+  app-end-reads.Asked,
+  app-end-reads.Learnt,
+  mark-reads.Asked,
+  mark-reads.Learnt,
+  stx-below t,
+  stx.Post,
+  close-reads.Asked,
+  close-reads.Learnt,
+) (fap-at t) fap.Post
+fap-same-length-9 t c =
+    c .before .before .before .before .app-end3 .kept .1 .1 .1 .1 .1 .0 ∙ c .before .before .before .before .before .before .before .before .before .before .before .before .before .before .before .before .dec2 .kept .1 .1 .1 .1 .1 .0 ∙ c .before .before .before .before .before .before .before .before .before .before .before .before .before .before .before .before .before .before .before .before .before .before .before .before .before .before .before .before .before .stx .kept .1 .1 .1 .1 .1 .0 ∙ c .before .before .before .before .before .before .before .before .before .before .before .before .before .before .before .before .before .before .before .before .before .before .before .before .before .before .before .before .before .before .before .before .before .before .before .before .before .before .before .want .kept .1 .1 .1 .1 .1 .0
+
+fap-returns-3 : (t : ℕ) → fap-lts.Need-returns-3 (
+  bump-reads.Asked,
+  bump-reads.Learnt,
+  want-reads.Asked,
+  want-reads.Learnt,
+  refuse-reads.Asked,
+  refuse-reads.Learnt,
+  dec-below t,
+  dec.Post,
+  state-reads.Asked,
+  state-reads.Learnt,
+  give-back-reads.Asked,
+  give-back-reads.Learnt,
+  app-end-reads.Asked,
+  app-end-reads.Learnt,
+  mark-reads.Asked,
+  mark-reads.Learnt,
+  stx-below t,
+  stx.Post,
+  close-reads.Asked,
+  close-reads.Learnt,
+) (fap-at t) fap.Post
+unfolding decl.strApp plan choose chosen
+fap-returns-3 t c =
+    let falls = c .before .before .before .before .before .before .before .before .before .before .before .before .before .before .before .before .before .before .before .before .before .before .before .before .before .before .before .before .before .before .before .before .before .before .before .before .before .before .before .before .before .before .before .before .before .before .before .before .before .before .before .before .before .pre .0 in
+    let pre0 = c .before .before .before .before .before .before .before .before .before .before .before .before .before .before .before .before .before .before .before .before .before .before .before .before .before .before .before .before .before .before .before .before .before .before .before .before .before .before .before .before .before .before .before .before .before .before .before .before .before .before .before .before .before .pre .1 .0 in
+    let pre1 = c .before .before .before .before .before .before .before .before .before .before .before .before .before .before .before .before .before .before .before .before .before .before .before .before .before .before .before .before .before .before .before .before .before .before .before .before .before .before .before .before .before .before .before .before .before .before .before .before .before .before .before .before .before .pre .1 .1 in
+    let bump = c .before .before .before .before .before .before .before .before .before .before .before .before .before .before .before .before .before .before .before .before .before .before .before .before .before .before .before .before .before .before .before .before .before .before .before .before .before .before .before .before .before .before .before .before .before .bump .ensures in
+    let want = c .before .before .before .before .before .before .before .before .before .before .before .before .before .before .before .before .before .before .before .before .before .before .before .before .before .before .before .before .before .before .before .before .before .before .before .before .before .before .before .want .ensures in
+    let if1 = c .before .before .before .before .before .before .before .before .before .before .before .before .before .before .before .before .before .before .before .before .before .before .before .before .before .before .before .before .before .before .before .before .before .before .if1 .left in
+    let mark = c .before .before .before .before .before .before .before .before .before .before .before .before .before .before .before .before .before .before .before .before .before .before .before .before .before .before .before .before .before .before .before .before .before .mark .ensures in
+    let stx = rw (c .before .before .before .before .before .before .before .before .before .before .before .before .before .before .before .before .before .before .before .before .before .found2 .given .1) at (c .before .before .before .before .before .before .before .before .before .before .before .before .before .before .before .before .before .before .before .before .before .before .before .before .before .before .before .before .before .stx .ensures) in
+    let dec2 = c .before .before .before .before .before .before .before .before .before .before .before .before .before .before .before .before .dec2 .ensures in
+    let state2 = c .before .before .before .before .before .before .before .before .before .state2 .ensures in
+    let give-back2 = c .before .before .before .before .before .before .before .before .give-back2 .ensures in
+    let app-end3 = c .before .before .before .before .app-end3 .ensures in
+    in-steps pre0 (s-bump bump (s-by _ (runs-always want) (s-mark if1 mark (s-run (runs-in stx) (s-scoped (settled state2 (runs-in dec2)) give-back2 (s-by _ app-end3 s-end))))))
+
+fct-eat-requires : (t : ℕ) → fct-lts.Need-eat-requires (
+  eat-reads.Asked,
+  eat-reads.Learnt,
+  want-reads.Asked,
+  want-reads.Learnt,
+  par-below t,
+  par.Post,
+  aso-below t,
+  aso.Post,
+  stm-below t,
+  stm.Post,
+) (fct-at t) fct.Post
+fct-eat-requires t c κs =
+    let falls = c .before .before .before .before .before .before .before .before .before .pre .0 in
+    let pre0 = c .before .before .before .before .before .before .before .before .before .pre .1 in
+    (pre0, omega arith)
+
+fct-enum-known-name : (t : ℕ) → fct-lts.Need-enum-known-name (
+  eat-reads.Asked,
+  eat-reads.Learnt,
+  want-reads.Asked,
+  want-reads.Learnt,
+  par-below t,
+  par.Post,
+  aso-below t,
+  aso.Post,
+  stm-below t,
+  stm.Post,
+) (fct-at t) fct.Post
+fct-enum-known-name t c =
+    let falls = c .before .before .before .before .before .before .before .before .before .before .before .before .before .before .before .pre .0 in
+    let pre0 = c .before .before .before .before .before .before .before .before .before .before .before .before .before .before .before .pre .1 in
+    search needs
+
+fct-enum-known-name-2 : (t : ℕ) → fct-lts.Need-enum-known-name-2 (
+  eat-reads.Asked,
+  eat-reads.Learnt,
+  want-reads.Asked,
+  want-reads.Learnt,
+  par-below t,
+  par.Post,
+  aso-below t,
+  aso.Post,
+  stm-below t,
+  stm.Post,
+) (fct-at t) fct.Post
+fct-enum-known-name-2 t c =
+    let falls = c .before .before .before .before .before .before .before .before .before .before .before .before .before .before .before .pre .0 in
+    let pre0 = c .before .before .before .before .before .before .before .before .before .before .before .before .before .before .before .pre .1 in
+    search needs
+
+fct-want-requires : (t : ℕ) → fct-lts.Need-want-requires (
+  eat-reads.Asked,
+  eat-reads.Learnt,
+  want-reads.Asked,
+  want-reads.Learnt,
+  par-below t,
+  par.Post,
+  aso-below t,
+  aso.Post,
+  stm-below t,
+  stm.Post,
+) (fct-at t) fct.Post
+fct-want-requires t c κs =
+    let falls = c .before .before .before .before .before .before .before .before .before .before .before .before .before .before .before .before .before .before .before .before .pre .0 in
+    let eat = rw (c .before .before .before .before .name2 .given .1) at (c .before .before .before .before .before .before .before .before .before .before .eat .ensures) in
+    let eat-ok = eat .ok in
+    (eat-ok, omega arith)
+
+fct-par-requires : (t : ℕ) → fct-lts.Need-par-requires (
+  eat-reads.Asked,
+  eat-reads.Learnt,
+  want-reads.Asked,
+  want-reads.Learnt,
+  par-below t,
+  par.Post,
+  aso-below t,
+  aso.Post,
+  stm-below t,
+  stm.Post,
+) (fct-at t) fct.Post
+fct-par-requires t c κs =
+    let falls = c .before .before .before .before .before .before .before .before .before .before .before .before .before .before .before .before .before .before .before .before .before .before .before .before .before .before .before .before .pre .0 in
+    let want = c .before .before .before .before .before .before .before .want .ensures in
+    let want-ok = want .ok in
+    (omega arith, want-ok)
+
+fct-want-requires-2 : (t : ℕ) → fct-lts.Need-want-requires-2 (
+  eat-reads.Asked,
+  eat-reads.Learnt,
+  want-reads.Asked,
+  want-reads.Learnt,
+  par-below t,
+  par.Post,
+  aso-below t,
+  aso.Post,
+  stm-below t,
+  stm.Post,
+) (fct-at t) fct.Post
+fct-want-requires-2 t c κs =
+    let falls = c .before .before .before .before .before .before .before .before .before .before .before .before .before .before .before .before .before .before .before .before .before .before .before .before .before .before .before .before .before .before .before .before .before .before .before .before .before .before .pre .0 in
+    let par = c .before .before .before .before .before .before .before .before .before .par .ensures in
+    let par-ok = par .ok in
+    (par-ok, omega arith)
+
+fct-aso-requires : (t : ℕ) → fct-lts.Need-aso-requires (
+  eat-reads.Asked,
+  eat-reads.Learnt,
+  want-reads.Asked,
+  want-reads.Learnt,
+  par-below t,
+  par.Post,
+  aso-below t,
+  aso.Post,
+  stm-below t,
+  stm.Post,
+) (fct-at t) fct.Post
+fct-aso-requires t c κs =
+    let falls = c .before .before .before .before .before .before .before .before .before .before .before .before .before .before .before .before .before .before .before .before .before .before .before .before .before .before .before .before .before .before .before .before .before .before .before .before .before .before .before .before .before .before .before .before .before .before .pre .0 in
+    let want2 = c .before .before .before .before .before .before .before .want2 .ensures in
+    let want2-ok = want2 .ok in
+    (omega arith, want2-ok)
+
+fct-want-requires-3 : (t : ℕ) → fct-lts.Need-want-requires-3 (
+  eat-reads.Asked,
+  eat-reads.Learnt,
+  want-reads.Asked,
+  want-reads.Learnt,
+  par-below t,
+  par.Post,
+  aso-below t,
+  aso.Post,
+  stm-below t,
+  stm.Post,
+) (fct-at t) fct.Post
+fct-want-requires-3 t c κs =
+    let falls = c .before .before .before .before .before .before .before .before .before .before .before .before .before .before .before .before .before .before .before .before .before .before .before .before .before .before .before .before .before .before .before .before .before .before .before .before .before .before .before .before .before .before .before .before .before .before .before .before .before .before .before .before .before .before .before .before .pre .0 in
+    let aso = c .before .before .before .before .before .before .before .before .before .aso .ensures in
+    let aso-ok = aso .ok in
+    (aso-ok, omega arith)
+
+fct-stm-requires : (t : ℕ) → fct-lts.Need-stm-requires (
+  eat-reads.Asked,
+  eat-reads.Learnt,
+  want-reads.Asked,
+  want-reads.Learnt,
+  par-below t,
+  par.Post,
+  aso-below t,
+  aso.Post,
+  stm-below t,
+  stm.Post,
+) (fct-at t) fct.Post
+fct-stm-requires t c κs =
+    let falls = c .before .before .before .before .before .before .before .before .before .before .before .before .before .before .before .before .before .before .before .before .before .before .before .before .before .before .before .before .before .before .before .before .before .before .before .before .before .before .before .before .before .before .before .before .before .before .before .before .before .before .before .before .before .before .before .before .before .before .before .before .before .before .before .before .pre .0 in
+    let want3 = c .before .before .before .before .before .before .before .want3 .ensures in
+    let want3-ok = want3 .ok in
+    (omega arith, want3-ok)
+
+fct-same-length : (t : ℕ) → fct-lts.Need-same-length (
+  eat-reads.Asked,
+  eat-reads.Learnt,
+  want-reads.Asked,
+  want-reads.Learnt,
+  par-below t,
+  par.Post,
+  aso-below t,
+  aso.Post,
+  stm-below t,
+  stm.Post,
+) (fct-at t) fct.Post
+fct-same-length t c =
+    refl
+
+fct-same-length-2 : (t : ℕ) → fct-lts.Need-same-length-2 (
+  eat-reads.Asked,
+  eat-reads.Learnt,
+  want-reads.Asked,
+  want-reads.Learnt,
+  par-below t,
+  par.Post,
+  aso-below t,
+  aso.Post,
+  stm-below t,
+  stm.Post,
+) (fct-at t) fct.Post
+fct-same-length-2 t c =
+    c .before .before .before .before .before .before .before .eat .kept .1 .1 .1 .1 .0
+
+fct-same-length-3 : (t : ℕ) → fct-lts.Need-same-length-3 (
+  eat-reads.Asked,
+  eat-reads.Learnt,
+  want-reads.Asked,
+  want-reads.Learnt,
+  par-below t,
+  par.Post,
+  aso-below t,
+  aso.Post,
+  stm-below t,
+  stm.Post,
+) (fct-at t) fct.Post
+fct-same-length-3 t c =
+    c .before .before .before .before .before .before .before .eat .kept .1 .1 .1 .1 .1 .0
+
+fct-returns : (t : ℕ) → fct-lts.Need-returns (
+  eat-reads.Asked,
+  eat-reads.Learnt,
+  want-reads.Asked,
+  want-reads.Learnt,
+  par-below t,
+  par.Post,
+  aso-below t,
+  aso.Post,
+  stm-below t,
+  stm.Post,
+) (fct-at t) fct.Post
+unfolding decl.functorBind plan choose chosen
+fct-returns t c =
+    let falls = c .before .before .before .before .before .before .before .before .before .before .before .before .before .before .before .before .before .pre .0 in
+    let pre0 = c .before .before .before .before .before .before .before .before .before .before .before .before .before .before .before .before .before .pre .1 in
+    let eat = rw (c .before .name .given .1) at (c .before .before .before .before .before .before .before .eat .ensures) in
+    by-steps pre0 (λ b. s-by _ (runs-always eat) s-end)
+
+fct-same-length-4 : (t : ℕ) → fct-lts.Need-same-length-4 (
+  eat-reads.Asked,
+  eat-reads.Learnt,
+  want-reads.Asked,
+  want-reads.Learnt,
+  par-below t,
+  par.Post,
+  aso-below t,
+  aso.Post,
+  stm-below t,
+  stm.Post,
+) (fct-at t) fct.Post
+fct-same-length-4 t c =
+    c .before .before .before .before .before .before .stm .kept .1 .1 .1 .0 ∙ c .before .before .before .before .before .before .before .before .before .before .before .before .before .before .before .before .before .before .before .before .before .before .before .before .aso .kept .1 .1 .1 .0 ∙ c .before .before .before .before .before .before .before .before .before .before .before .before .before .before .before .before .before .before .before .before .before .before .before .before .before .before .before .before .before .before .before .before .before .before .before .before .before .before .before .before .before .before .par .kept .1 .1 .1 .0
+
+fct-same-length-5 : (t : ℕ) → fct-lts.Need-same-length-5 (
+  eat-reads.Asked,
+  eat-reads.Learnt,
+  want-reads.Asked,
+  want-reads.Learnt,
+  par-below t,
+  par.Post,
+  aso-below t,
+  aso.Post,
+  stm-below t,
+  stm.Post,
+) (fct-at t) fct.Post
+fct-same-length-5 t c =
+    c .before .before .before .before .before .before .stm .kept .1 .1 .1 .1 .0 ∙ c .before .before .before .before .before .before .before .before .before .before .before .before .before .before .want3 .kept .1 .1 .1 .1 .0 ∙ c .before .before .before .before .before .before .before .before .before .before .before .before .before .before .before .before .before .before .before .before .before .before .before .before .aso .kept .1 .1 .1 .1 .0 ∙ c .before .before .before .before .before .before .before .before .before .before .before .before .before .before .before .before .before .before .before .before .before .before .before .before .before .before .before .before .before .before .before .before .want2 .kept .1 .1 .1 .1 .0 ∙ c .before .before .before .before .before .before .before .before .before .before .before .before .before .before .before .before .before .before .before .before .before .before .before .before .before .before .before .before .before .before .before .before .before .before .before .before .before .before .before .before .before .before .par .kept .1 .1 .1 .1 .0 ∙ c .before .before .before .before .before .before .before .before .before .before .before .before .before .before .before .before .before .before .before .before .before .before .before .before .before .before .before .before .before .before .before .before .before .before .before .before .before .before .before .before .before .before .before .before .before .before .before .before .before .before .want .kept .1 .1 .1 .1 .0 ∙ c .before .before .before .before .before .before .before .before .before .before .before .before .before .before .before .before .before .before .before .before .before .before .before .before .before .before .before .before .before .before .before .before .before .before .before .before .before .before .before .before .before .before .before .before .before .before .before .before .before .before .before .before .before .before .before .before .before .before .before .before .before .eat .kept .1 .1 .1 .1 .0
+
+fct-same-length-6 : (t : ℕ) → fct-lts.Need-same-length-6 (
+  eat-reads.Asked,
+  eat-reads.Learnt,
+  want-reads.Asked,
+  want-reads.Learnt,
+  par-below t,
+  par.Post,
+  aso-below t,
+  aso.Post,
+  stm-below t,
+  stm.Post,
+) (fct-at t) fct.Post
+fct-same-length-6 t c =
+    c .before .before .before .before .before .before .stm .kept .1 .1 .1 .1 .1 .0 ∙ c .before .before .before .before .before .before .before .before .before .before .before .before .before .before .want3 .kept .1 .1 .1 .1 .1 .0 ∙ c .before .before .before .before .before .before .before .before .before .before .before .before .before .before .before .before .before .before .before .before .before .before .before .before .aso .kept .1 .1 .1 .1 .1 .0 ∙ c .before .before .before .before .before .before .before .before .before .before .before .before .before .before .before .before .before .before .before .before .before .before .before .before .before .before .before .before .before .before .before .before .want2 .kept .1 .1 .1 .1 .1 .0 ∙ c .before .before .before .before .before .before .before .before .before .before .before .before .before .before .before .before .before .before .before .before .before .before .before .before .before .before .before .before .before .before .before .before .before .before .before .before .before .before .before .before .before .before .par .kept .1 .1 .1 .1 .1 .0 ∙ c .before .before .before .before .before .before .before .before .before .before .before .before .before .before .before .before .before .before .before .before .before .before .before .before .before .before .before .before .before .before .before .before .before .before .before .before .before .before .before .before .before .before .before .before .before .before .before .before .before .before .want .kept .1 .1 .1 .1 .1 .0 ∙ c .before .before .before .before .before .before .before .before .before .before .before .before .before .before .before .before .before .before .before .before .before .before .before .before .before .before .before .before .before .before .before .before .before .before .before .before .before .before .before .before .before .before .before .before .before .before .before .before .before .before .before .before .before .before .before .before .before .before .before .before .before .eat .kept .1 .1 .1 .1 .1 .0
+
+fct-returns-2 : (t : ℕ) → fct-lts.Need-returns-2 (
+  eat-reads.Asked,
+  eat-reads.Learnt,
+  want-reads.Asked,
+  want-reads.Learnt,
+  par-below t,
+  par.Post,
+  aso-below t,
+  aso.Post,
+  stm-below t,
+  stm.Post,
+) (fct-at t) fct.Post
+unfolding decl.functorBind plan choose chosen
+fct-returns-2 t c =
+    let falls = c .before .before .before .before .before .before .before .before .before .before .before .before .before .before .before .before .before .before .before .before .before .before .before .before .before .before .before .before .before .before .before .before .before .before .before .before .before .before .before .before .before .before .before .before .before .before .before .before .before .before .before .before .before .before .before .before .before .before .before .before .before .before .before .before .before .before .before .before .before .before .before .pre .0 in
+    let pre0 = c .before .before .before .before .before .before .before .before .before .before .before .before .before .before .before .before .before .before .before .before .before .before .before .before .before .before .before .before .before .before .before .before .before .before .before .before .before .before .before .before .before .before .before .before .before .before .before .before .before .before .before .before .before .before .before .before .before .before .before .before .before .before .before .before .before .before .before .before .before .before .before .pre .1 in
+    let eat = rw (c .before .before .before .before .before .before .before .before .before .before .before .before .before .before .before .before .before .before .before .before .before .before .before .before .before .before .before .before .before .before .before .before .before .before .before .before .before .before .before .before .before .before .before .before .before .before .before .before .before .before .before .before .before .before .before .name2 .given .1) at (c .before .before .before .before .before .before .before .before .before .before .before .before .before .before .before .before .before .before .before .before .before .before .before .before .before .before .before .before .before .before .before .before .before .before .before .before .before .before .before .before .before .before .before .before .before .before .before .before .before .before .before .before .before .before .before .before .before .before .before .before .before .eat .ensures) in
+    let want = c .before .before .before .before .before .before .before .before .before .before .before .before .before .before .before .before .before .before .before .before .before .before .before .before .before .before .before .before .before .before .before .before .before .before .before .before .before .before .before .before .before .before .before .before .before .before .before .before .before .before .want .ensures in
+    let par = c .before .before .before .before .before .before .before .before .before .before .before .before .before .before .before .before .before .before .before .before .before .before .before .before .before .before .before .before .before .before .before .before .before .before .before .before .before .before .before .before .before .before .par .ensures in
+    let want2 = c .before .before .before .before .before .before .before .before .before .before .before .before .before .before .before .before .before .before .before .before .before .before .before .before .before .before .before .before .before .before .before .before .want2 .ensures in
+    let aso = c .before .before .before .before .before .before .before .before .before .before .before .before .before .before .before .before .before .before .before .before .before .before .before .before .aso .ensures in
+    let want3 = c .before .before .before .before .before .before .before .before .before .before .before .before .before .before .want3 .ensures in
+    let stm = c .before .before .before .before .before .before .stm .ensures in
+    by-steps pre0 (λ b. s-by _ (runs-always eat) (s-by _ (runs-always want) (s-by _ (runs-in par) (s-by _ (runs-always want2) (s-by _ (runs-in aso) (s-by _ (runs-always want3) (s-by _ (runs-in stm) s-end)))))))
+
+fun-bump-if-requires : (t : ℕ) → fun-lts.Need-bump-if-requires (
+  bump-if-reads.Asked,
+  bump-if-reads.Learnt,
+  mny-below t,
+  mny.Post,
+) (fun-at t) fun.Post
+fun-bump-if-requires t c κs =
+    let pre0 = c .before .before .before .before .before .before .before .before .before .pre .1 in
+    pre0
+
+fun-mny-requires : (t : ℕ) → fun-lts.Need-mny-requires (
+  bump-if-reads.Asked,
+  bump-if-reads.Learnt,
+  mny-below t,
+  mny.Post,
+) (fun-at t) fun.Post
+fun-mny-requires t c κs =
+    let falls = c .before .before .before .before .before .before .before .before .before .before .before .before .before .before .before .before .before .pre .0 in
+    let bump-if = c .before .before .before .before .before .before .before .bump-if .ensures in
+    let bump-if-ok = bump-if .ok in
+    (omega arith, bump-if-ok)
+
+fun-same-length : (t : ℕ) → fun-lts.Need-same-length (
+  bump-if-reads.Asked,
+  bump-if-reads.Learnt,
+  mny-below t,
+  mny.Post,
+) (fun-at t) fun.Post
+fun-same-length t c =
+    c .before .before .before .before .before .before .mny .kept .1 .1 .1 .0
+
+fun-same-length-2 : (t : ℕ) → fun-lts.Need-same-length-2 (
+  bump-if-reads.Asked,
+  bump-if-reads.Learnt,
+  mny-below t,
+  mny.Post,
+) (fun-at t) fun.Post
+fun-same-length-2 t c =
+    c .before .before .before .before .before .before .mny .kept .1 .1 .1 .1 .0 ∙ c .before .before .before .before .before .before .before .before .before .before .before .before .before .before .bump-if .kept .1 .1 .1 .1 .0
+
+fun-same-length-3 : (t : ℕ) → fun-lts.Need-same-length-3 (
+  bump-if-reads.Asked,
+  bump-if-reads.Learnt,
+  mny-below t,
+  mny.Post,
+) (fun-at t) fun.Post
+fun-same-length-3 t c =
+    c .before .before .before .before .before .before .mny .kept .1 .1 .1 .1 .1 .0 ∙ c .before .before .before .before .before .before .before .before .before .before .before .before .before .before .bump-if .kept .1 .1 .1 .1 .1 .0
+
+fun-returns : (t : ℕ) → fun-lts.Need-returns (
+  bump-if-reads.Asked,
+  bump-if-reads.Learnt,
+  mny-below t,
+  mny.Post,
+) (fun-at t) fun.Post
+unfolding decl.funBind util.manySep decl.manyClosure util.choose plan choose chosen
+fun-returns t c =
+    let falls = c .before .before .before .before .before .before .before .before .before .before .before .before .before .before .before .before .before .before .before .before .before .before .before .before .pre .0 in
+    let pre0 = c .before .before .before .before .before .before .before .before .before .before .before .before .before .before .before .before .before .before .before .before .before .before .before .before .pre .1 in
+    let bump-if = c .before .before .before .before .before .before .before .before .before .before .before .before .before .before .bump-if .ensures in
+    let mny = c .before .before .before .before .before .before .mny .ensures in
+    by-steps pre0 (λ b. s-by _ (runs-always bump-if) (s-run mny s-end))
+
+hsh-bump-requires : (t : ℕ) → hsh-lts.Need-bump-requires (
+  bump-reads.Asked,
+  bump-reads.Learnt,
+  at-reads.Asked,
+  at-reads.Learnt,
+  refuse-reads.Asked,
+  refuse-reads.Learnt,
+  close-reads.Asked,
+  close-reads.Learnt,
+  mark-reads.Asked,
+  mark-reads.Learnt,
+  sep-below t,
+  sep.Post,
+  lab-reads.Asked,
+  lab-reads.Learnt,
+) (hsh-at t) hsh.Post
+hsh-bump-requires t c κs =
+    let pre0 = c .before .before .before .before .before .before .before .pre .1 .0 in
+    (pre0 .reads, pre0 .logs)
+
+hsh-at-requires : (t : ℕ) → hsh-lts.Need-at-requires (
+  bump-reads.Asked,
+  bump-reads.Learnt,
+  at-reads.Asked,
+  at-reads.Learnt,
+  refuse-reads.Asked,
+  refuse-reads.Learnt,
+  close-reads.Asked,
+  close-reads.Learnt,
+  mark-reads.Asked,
+  mark-reads.Learnt,
+  sep-below t,
+  sep.Post,
+  lab-reads.Asked,
+  lab-reads.Learnt,
+) (hsh-at t) hsh.Post
+hsh-at-requires t c κs =
+    let pre0 = c .before .before .before .before .before .before .before .before .before .before .pre .1 .0 in
+    let bump = c .before .before .bump .ensures in
+    let bump-ok = ok-bumps bump pre0 in
+    bump-ok .reads
+
+hsh-refuse-requires : (t : ℕ) → hsh-lts.Need-refuse-requires (
+  bump-reads.Asked,
+  bump-reads.Learnt,
+  at-reads.Asked,
+  at-reads.Learnt,
+  refuse-reads.Asked,
+  refuse-reads.Learnt,
+  close-reads.Asked,
+  close-reads.Learnt,
+  mark-reads.Asked,
+  mark-reads.Learnt,
+  sep-below t,
+  sep.Post,
+  lab-reads.Asked,
+  lab-reads.Learnt,
+) (hsh-at t) hsh.Post
+hsh-refuse-requires t c κs =
+    tt
+
+hsh-close-requires : (t : ℕ) → hsh-lts.Need-close-requires (
+  bump-reads.Asked,
+  bump-reads.Learnt,
+  at-reads.Asked,
+  at-reads.Learnt,
+  refuse-reads.Asked,
+  refuse-reads.Learnt,
+  close-reads.Asked,
+  close-reads.Learnt,
+  mark-reads.Asked,
+  mark-reads.Learnt,
+  sep-below t,
+  sep.Post,
+  lab-reads.Asked,
+  lab-reads.Learnt,
+) (hsh-at t) hsh.Post
+hsh-close-requires t c κs =
+    let pre0 = c .before .before .before .before .before .before .before .before .before .before .before .before .before .before .before .pre .1 .0 in
+    let pre1 = c .before .before .before .before .before .before .before .before .before .before .before .before .before .before .before .pre .1 .1 in
+    let bump = c .before .before .before .before .before .before .before .bump .ensures in
+    let bump-ok = ok-bumps bump pre0 in
+    let refuse = c .before .refuse .ensures in
+    let refuse-ok = ok-refused _ refuse bump-ok in
+    (refuse-ok .logs, pre1)
+
+hsh-same-length : (t : ℕ) → hsh-lts.Need-same-length (
+  bump-reads.Asked,
+  bump-reads.Learnt,
+  at-reads.Asked,
+  at-reads.Learnt,
+  refuse-reads.Asked,
+  refuse-reads.Learnt,
+  close-reads.Asked,
+  close-reads.Learnt,
+  mark-reads.Asked,
+  mark-reads.Learnt,
+  sep-below t,
+  sep.Post,
+  lab-reads.Asked,
+  lab-reads.Learnt,
+) (hsh-at t) hsh.Post
+hsh-same-length t c =
+    c .before .before .close .kept .0 ∙ c .before .before .before .before .before .before .before .before .before .before .bump .kept .1 .0
+
+hsh-returns : (t : ℕ) → hsh-lts.Need-returns (
+  bump-reads.Asked,
+  bump-reads.Learnt,
+  at-reads.Asked,
+  at-reads.Learnt,
+  refuse-reads.Asked,
+  refuse-reads.Learnt,
+  close-reads.Asked,
+  close-reads.Learnt,
+  mark-reads.Asked,
+  mark-reads.Learnt,
+  sep-below t,
+  sep.Post,
+  lab-reads.Asked,
+  lab-reads.Learnt,
+) (hsh-at t) hsh.Post
+unfolding expr.hashExp util.endSep expr.endClosure util.choose plan choose chosen
+hsh-returns t c =
+    let falls = c .before .before .before .before .before .before .before .before .before .before .before .before .before .before .before .before .before .before .pre .0 in
+    let pre0 = c .before .before .before .before .before .before .before .before .before .before .before .before .before .before .before .before .before .before .pre .1 .0 in
+    let pre1 = c .before .before .before .before .before .before .before .before .before .before .before .before .before .before .before .before .before .before .pre .1 .1 in
+    let bump = c .before .before .before .before .before .before .before .before .before .before .bump .ensures in
+    let at = c .before .before .before .before .before .before .before .at .ensures in
+    let if1 = c .before .before .before .before .before .before .if1 .taken in
+    let if2 = c .before .before .before .before .before .if2 .taken in
+    let refuse = c .before .before .before .before .refuse .ensures in
+    let close = c .before .before .close .ensures in
+    in-steps pre0 (s-bump bump (s-kind (s-true _ _ (kind-at _ _ _ _ at if1) (s-deep if2 refuse (s-close close s-end)))))
+
+hsh-mark-requires : (t : ℕ) → hsh-lts.Need-mark-requires (
+  bump-reads.Asked,
+  bump-reads.Learnt,
+  at-reads.Asked,
+  at-reads.Learnt,
+  refuse-reads.Asked,
+  refuse-reads.Learnt,
+  close-reads.Asked,
+  close-reads.Learnt,
+  mark-reads.Asked,
+  mark-reads.Learnt,
+  sep-below t,
+  sep.Post,
+  lab-reads.Asked,
+  lab-reads.Learnt,
+) (hsh-at t) hsh.Post
+hsh-mark-requires t c κs =
+    tt
+
+hsh-bump-requires-2 : (t : ℕ) → hsh-lts.Need-bump-requires-2 (
+  bump-reads.Asked,
+  bump-reads.Learnt,
+  at-reads.Asked,
+  at-reads.Learnt,
+  refuse-reads.Asked,
+  refuse-reads.Learnt,
+  close-reads.Asked,
+  close-reads.Learnt,
+  mark-reads.Asked,
+  mark-reads.Learnt,
+  sep-below t,
+  sep.Post,
+  lab-reads.Asked,
+  lab-reads.Learnt,
+) (hsh-at t) hsh.Post
+hsh-bump-requires-2 t c κs =
+    let pre0 = c .before .before .before .before .before .before .before .before .before .before .before .before .before .before .before .pre .1 .0 in
+    let bump = c .before .before .before .before .before .before .before .bump .ensures in
+    let bump-ok = ok-bumps bump pre0 in
+    let mark = c .before .mark .ensures in
+    let mark-ok = ok-marks mark bump-ok in
+    (mark-ok .reads, mark-ok .logs)
+
+hsh-sub-sep : (t : ℕ) → hsh-lts.Need-sub-sep (
+  bump-reads.Asked,
+  bump-reads.Learnt,
+  at-reads.Asked,
+  at-reads.Learnt,
+  refuse-reads.Asked,
+  refuse-reads.Learnt,
+  close-reads.Asked,
+  close-reads.Learnt,
+  mark-reads.Asked,
+  mark-reads.Learnt,
+  sep-below t,
+  sep.Post,
+  lab-reads.Asked,
+  lab-reads.Learnt,
+) (hsh-at t) hsh.Post
+hsh-sub-sep t c =
+    let falls = c .before .before .before .before .before .before .before .before .before .before .before .before .before .before .before .before .before .before .before .before .before .pre .0 in
+    let pre0 = c .before .before .before .before .before .before .before .before .before .before .before .before .before .before .before .before .before .before .before .before .before .pre .1 .0 in
+    let pre1 = c .before .before .before .before .before .before .before .before .before .before .before .before .before .before .before .before .before .before .before .before .before .pre .1 .1 in
+    let if1 = c .before .before .before .before .before .before .before .before .before .if1 .taken in
+    let if2 = c .before .before .before .before .before .before .before .before .if2 .left in
+    search needs
+
+hsh-sep-requires : (t : ℕ) → hsh-lts.Need-sep-requires (
+  bump-reads.Asked,
+  bump-reads.Learnt,
+  at-reads.Asked,
+  at-reads.Learnt,
+  refuse-reads.Asked,
+  refuse-reads.Learnt,
+  close-reads.Asked,
+  close-reads.Learnt,
+  mark-reads.Asked,
+  mark-reads.Learnt,
+  sep-below t,
+  sep.Post,
+  lab-reads.Asked,
+  lab-reads.Learnt,
+) (hsh-at t) hsh.Post
+hsh-sep-requires t c κs =
+    let falls = c .before .before .before .before .before .before .before .before .before .before .before .before .before .before .before .before .before .before .before .before .before .pre .0 in
+    let pre0 = c .before .before .before .before .before .before .before .before .before .before .before .before .before .before .before .before .before .before .before .before .before .pre .1 .0 in
+    let pre1 = c .before .before .before .before .before .before .before .before .before .before .before .before .before .before .before .before .before .before .before .before .before .pre .1 .1 in
+    let bump = c .before .before .before .before .before .before .before .before .before .before .before .before .before .bump .ensures in
+    let bump-ok = ok-bumps bump pre0 in
+    let if1 = c .before .before .before .before .before .before .before .before .before .if1 .taken in
+    let if2 = c .before .before .before .before .before .before .before .before .if2 .left in
+    let mark = c .before .before .before .before .before .before .before .mark .ensures in
+    let mark-ok = ok-marks mark bump-ok in
+    let bump2 = c .before .before .before .before .before .bump2 .ensures in
+    let bump2-ok = ok-bumps bump2 mark-ok in
+    (omega arith, (bump2-ok, omega arith))
+
+hsh-close-requires-2 : (t : ℕ) → hsh-lts.Need-close-requires-2 (
+  bump-reads.Asked,
+  bump-reads.Learnt,
+  at-reads.Asked,
+  at-reads.Learnt,
+  refuse-reads.Asked,
+  refuse-reads.Learnt,
+  close-reads.Asked,
+  close-reads.Learnt,
+  mark-reads.Asked,
+  mark-reads.Learnt,
+  sep-below t,
+  sep.Post,
+  lab-reads.Asked,
+  lab-reads.Learnt,
+) (hsh-at t) hsh.Post
+hsh-close-requires-2 t c κs =
+    let pre0 = c .before .before .before .before .before .before .before .before .before .before .before .before .before .before .before .before .before .before .before .before .before .before .before .before .before .before .before .before .before .pre .1 .0 in
+    let bump = c .before .before .before .before .before .before .before .before .before .before .before .before .before .before .before .before .before .before .before .before .before .bump .ensures in
+    let bump-ok = ok-bumps bump pre0 in
+    let mark = c .before .before .before .before .before .before .before .before .before .before .before .before .before .before .before .mark .ensures in
+    let mark-ok = ok-marks mark bump-ok in
+    let sep = c .before .before .before .before .before .before .before .sep .ensures in
+    let sep-ok = sep .ok in
+    (sep-ok .logs, small-len mark-ok)
+
+hsh-close-requires-3 : (t : ℕ) → hsh-lts.Need-close-requires-3 (
+  bump-reads.Asked,
+  bump-reads.Learnt,
+  at-reads.Asked,
+  at-reads.Learnt,
+  refuse-reads.Asked,
+  refuse-reads.Learnt,
+  close-reads.Asked,
+  close-reads.Learnt,
+  mark-reads.Asked,
+  mark-reads.Learnt,
+  sep-below t,
+  sep.Post,
+  lab-reads.Asked,
+  lab-reads.Learnt,
+) (hsh-at t) hsh.Post
+hsh-close-requires-3 t c κs =
+    let pre1 = c .before .before .before .before .before .before .before .before .before .before .before .before .before .before .before .before .before .before .before .before .before .before .before .before .before .before .before .before .before .before .before .before .before .pre .1 .1 in
+    let sep = c .before .before .before .before .before .before .before .before .before .before .before .sep .ensures in
+    let sep-ok = sep .ok in
+    let close2 = c .before .before .before .close2 .ensures in
+    let close2-ok = ok-adds close2 sep-ok in
+    (close2-ok .logs, pre1)
+
+hsh-same-length-2 : (t : ℕ) → hsh-lts.Need-same-length-2 (
+  bump-reads.Asked,
+  bump-reads.Learnt,
+  at-reads.Asked,
+  at-reads.Learnt,
+  refuse-reads.Asked,
+  refuse-reads.Learnt,
+  close-reads.Asked,
+  close-reads.Learnt,
+  mark-reads.Asked,
+  mark-reads.Learnt,
+  sep-below t,
+  sep.Post,
+  lab-reads.Asked,
+  lab-reads.Learnt,
+) (hsh-at t) hsh.Post
+hsh-same-length-2 t c =
+    c .before .before .before .before .before .before .before .before .before .before .before .before .before .before .sep .kept .1 .1 .1 .0
+
+hsh-same-length-3 : (t : ℕ) → hsh-lts.Need-same-length-3 (
+  bump-reads.Asked,
+  bump-reads.Learnt,
+  at-reads.Asked,
+  at-reads.Learnt,
+  refuse-reads.Asked,
+  refuse-reads.Learnt,
+  close-reads.Asked,
+  close-reads.Learnt,
+  mark-reads.Asked,
+  mark-reads.Learnt,
+  sep-below t,
+  sep.Post,
+  lab-reads.Asked,
+  lab-reads.Learnt,
+) (hsh-at t) hsh.Post
+hsh-same-length-3 t c =
+    c .before .before .close3 .kept .0 ∙ c .before .before .before .before .before .before .close2 .kept .0 ∙ c .before .before .before .before .before .before .before .before .before .before .before .before .before .before .sep .kept .1 .1 .1 .1 .0 ∙ c .before .before .before .before .before .before .before .before .before .before .before .before .before .before .before .before .before .before .before .before .bump2 .kept .1 .0 ∙ c .before .before .before .before .before .before .before .before .before .before .before .before .before .before .before .before .before .before .before .before .before .before .before .before .before .before .before .before .bump .kept .1 .0
+
+hsh-same-length-4 : (t : ℕ) → hsh-lts.Need-same-length-4 (
+  bump-reads.Asked,
+  bump-reads.Learnt,
+  at-reads.Asked,
+  at-reads.Learnt,
+  refuse-reads.Asked,
+  refuse-reads.Learnt,
+  close-reads.Asked,
+  close-reads.Learnt,
+  mark-reads.Asked,
+  mark-reads.Learnt,
+  sep-below t,
+  sep.Post,
+  lab-reads.Asked,
+  lab-reads.Learnt,
+) (hsh-at t) hsh.Post
+hsh-same-length-4 t c =
+    c .before .before .before .before .before .before .before .before .before .before .before .before .before .before .sep .kept .1 .1 .1 .1 .1 .0
+
+hsh-returns-2 : (t : ℕ) → hsh-lts.Need-returns-2 (
+  bump-reads.Asked,
+  bump-reads.Learnt,
+  at-reads.Asked,
+  at-reads.Learnt,
+  refuse-reads.Asked,
+  refuse-reads.Learnt,
+  close-reads.Asked,
+  close-reads.Learnt,
+  mark-reads.Asked,
+  mark-reads.Learnt,
+  sep-below t,
+  sep.Post,
+  lab-reads.Asked,
+  lab-reads.Learnt,
+) (hsh-at t) hsh.Post
+unfolding expr.hashExp util.endSep expr.endClosure util.choose plan choose chosen
+hsh-returns-2 t c =
+    let falls = c .before .before .before .before .before .before .before .before .before .before .before .before .before .before .before .before .before .before .before .before .before .before .before .before .before .before .before .before .before .before .before .before .before .before .before .before .pre .0 in
+    let pre0 = c .before .before .before .before .before .before .before .before .before .before .before .before .before .before .before .before .before .before .before .before .before .before .before .before .before .before .before .before .before .before .before .before .before .before .before .before .pre .1 .0 in
+    let pre1 = c .before .before .before .before .before .before .before .before .before .before .before .before .before .before .before .before .before .before .before .before .before .before .before .before .before .before .before .before .before .before .before .before .before .before .before .before .pre .1 .1 in
+    let bump = c .before .before .before .before .before .before .before .before .before .before .before .before .before .before .before .before .before .before .before .before .before .before .before .before .before .before .before .before .bump .ensures in
+    let at = c .before .before .before .before .before .before .before .before .before .before .before .before .before .before .before .before .before .before .before .before .before .before .before .before .before .at .ensures in
+    let if1 = c .before .before .before .before .before .before .before .before .before .before .before .before .before .before .before .before .before .before .before .before .before .before .before .before .if1 .taken in
+    let if2 = c .before .before .before .before .before .before .before .before .before .before .before .before .before .before .before .before .before .before .before .before .before .before .before .if2 .left in
+    let mark = c .before .before .before .before .before .before .before .before .before .before .before .before .before .before .before .before .before .before .before .before .before .before .mark .ensures in
+    let bump2 = c .before .before .before .before .before .before .before .before .before .before .before .before .before .before .before .before .before .before .before .before .bump2 .ensures in
+    let sep = c .before .before .before .before .before .before .before .before .before .before .before .before .before .before .sep .ensures in
+    let close2 = c .before .before .before .before .before .before .close2 .ensures in
+    let close3 = c .before .before .close3 .ensures in
+    in-steps pre0 (s-bump bump (s-kind (s-true _ _ (kind-at _ _ _ _ at if1) (s-mark if2 mark (s-bump bump2 (s-run sep (s-close close2 (s-close close3 s-end))))))))
+
+hsh-lab-requires : (t : ℕ) → hsh-lts.Need-lab-requires (
+  bump-reads.Asked,
+  bump-reads.Learnt,
+  at-reads.Asked,
+  at-reads.Learnt,
+  refuse-reads.Asked,
+  refuse-reads.Learnt,
+  close-reads.Asked,
+  close-reads.Learnt,
+  mark-reads.Asked,
+  mark-reads.Learnt,
+  sep-below t,
+  sep.Post,
+  lab-reads.Asked,
+  lab-reads.Learnt,
+) (hsh-at t) hsh.Post
+hsh-lab-requires t c κs =
+    let pre0 = c .before .before .before .before .before .before .before .before .before .before .before .before .before .before .before .pre .1 .0 in
+    let bump = c .before .before .before .before .before .before .before .bump .ensures in
+    let bump-ok = ok-bumps bump pre0 in
+    bump-ok
+
+hsh-close-requires-4 : (t : ℕ) → hsh-lts.Need-close-requires-4 (
+  bump-reads.Asked,
+  bump-reads.Learnt,
+  at-reads.Asked,
+  at-reads.Learnt,
+  refuse-reads.Asked,
+  refuse-reads.Learnt,
+  close-reads.Asked,
+  close-reads.Learnt,
+  mark-reads.Asked,
+  mark-reads.Learnt,
+  sep-below t,
+  sep.Post,
+  lab-reads.Asked,
+  lab-reads.Learnt,
+) (hsh-at t) hsh.Post
+hsh-close-requires-4 t c κs =
+    let pre1 = c .before .before .before .before .before .before .before .before .before .before .before .before .before .before .before .before .before .before .before .before .before .pre .1 .1 in
+    let lab = c .before .before .before .before .before .lab .ensures in
+    let lab-ok = lab .ok in
+    (lab-ok .logs, pre1)
+
+hsh-same-length-5 : (t : ℕ) → hsh-lts.Need-same-length-5 (
+  bump-reads.Asked,
+  bump-reads.Learnt,
+  at-reads.Asked,
+  at-reads.Learnt,
+  refuse-reads.Asked,
+  refuse-reads.Learnt,
+  close-reads.Asked,
+  close-reads.Learnt,
+  mark-reads.Asked,
+  mark-reads.Learnt,
+  sep-below t,
+  sep.Post,
+  lab-reads.Asked,
+  lab-reads.Learnt,
+) (hsh-at t) hsh.Post
+hsh-same-length-5 t c =
+    refl
+
+hsh-same-length-6 : (t : ℕ) → hsh-lts.Need-same-length-6 (
+  bump-reads.Asked,
+  bump-reads.Learnt,
+  at-reads.Asked,
+  at-reads.Learnt,
+  refuse-reads.Asked,
+  refuse-reads.Learnt,
+  close-reads.Asked,
+  close-reads.Learnt,
+  mark-reads.Asked,
+  mark-reads.Learnt,
+  sep-below t,
+  sep.Post,
+  lab-reads.Asked,
+  lab-reads.Learnt,
+) (hsh-at t) hsh.Post
+hsh-same-length-6 t c =
+    c .before .before .close4 .kept .0 ∙ c .before .before .before .before .before .before .before .before .lab .kept .1 .1 .1 .1 .0 ∙ c .before .before .before .before .before .before .before .before .before .before .before .before .before .before .before .before .bump .kept .1 .0
+
+hsh-same-length-7 : (t : ℕ) → hsh-lts.Need-same-length-7 (
+  bump-reads.Asked,
+  bump-reads.Learnt,
+  at-reads.Asked,
+  at-reads.Learnt,
+  refuse-reads.Asked,
+  refuse-reads.Learnt,
+  close-reads.Asked,
+  close-reads.Learnt,
+  mark-reads.Asked,
+  mark-reads.Learnt,
+  sep-below t,
+  sep.Post,
+  lab-reads.Asked,
+  lab-reads.Learnt,
+) (hsh-at t) hsh.Post
+hsh-same-length-7 t c =
+    c .before .before .before .before .before .before .before .before .lab .kept .1 .1 .1 .1 .1 .0
+
+hsh-returns-3 : (t : ℕ) → hsh-lts.Need-returns-3 (
+  bump-reads.Asked,
+  bump-reads.Learnt,
+  at-reads.Asked,
+  at-reads.Learnt,
+  refuse-reads.Asked,
+  refuse-reads.Learnt,
+  close-reads.Asked,
+  close-reads.Learnt,
+  mark-reads.Asked,
+  mark-reads.Learnt,
+  sep-below t,
+  sep.Post,
+  lab-reads.Asked,
+  lab-reads.Learnt,
+) (hsh-at t) hsh.Post
+unfolding expr.hashExp util.endSep expr.endClosure util.choose plan choose chosen
+hsh-returns-3 t c =
+    let falls = c .before .before .before .before .before .before .before .before .before .before .before .before .before .before .before .before .before .before .before .before .before .before .before .before .pre .0 in
+    let pre0 = c .before .before .before .before .before .before .before .before .before .before .before .before .before .before .before .before .before .before .before .before .before .before .before .before .pre .1 .0 in
+    let pre1 = c .before .before .before .before .before .before .before .before .before .before .before .before .before .before .before .before .before .before .before .before .before .before .before .before .pre .1 .1 in
+    let bump = c .before .before .before .before .before .before .before .before .before .before .before .before .before .before .before .before .bump .ensures in
+    let at = c .before .before .before .before .before .before .before .before .before .before .before .before .before .at .ensures in
+    let if1 = c .before .before .before .before .before .before .before .before .before .before .before .before .if1 .left in
+    let lab = c .before .before .before .before .before .before .before .before .lab .ensures in
+    let close4 = c .before .before .close4 .ensures in
+    in-steps pre0 (s-bump bump (s-kind (s-false _ _ (kind-off _ _ _ _ at if1) (s-by _ (runs-always lab) (s-close close4 s-end)))))
+
+id-fixity-at-requires : (t : ℕ) → id-lts.Need-fixity-at-requires (
+  fixity-at-reads.Asked,
+  fixity-at-reads.Learnt,
+  app-below t,
+  app.Post,
+  opr-below t,
+  opr.Post,
+) (id-at t) id.Post
+id-fixity-at-requires t c κs =
+    let pre0 = c .before .before .before .before .before .before .before .pre .1 .0 in
+    (pre0 .reads, pre0 .names, pre0 .stands)
+
+id-enum-told : (t : ℕ) → id-lts.Need-enum-told (
+  fixity-at-reads.Asked,
+  fixity-at-reads.Learnt,
+  app-below t,
+  app.Post,
+  opr-below t,
+  opr.Post,
+) (id-at t) id.Post
+id-enum-told t c =
+    let falls = c .before .before .before .before .before .before .before .before .before .pre .0 in
+    let pre0 = c .before .before .before .before .before .before .before .before .before .pre .1 .0 in
+    let pre1 = c .before .before .before .before .before .before .before .before .before .pre .1 .1 in
+    search needs
+
+id-app-requires : (t : ℕ) → id-lts.Need-app-requires (
+  fixity-at-reads.Asked,
+  fixity-at-reads.Learnt,
+  app-below t,
+  app.Post,
+  opr-below t,
+  opr.Post,
+) (id-at t) id.Post
+id-app-requires t c κs =
+    let falls = c .before .before .before .before .before .before .before .before .before .before .before .before .before .pre .0 in
+    let pre0 = c .before .before .before .before .before .before .before .before .before .before .before .before .before .pre .1 .0 in
+    let pre1 = c .before .before .before .before .before .before .before .before .before .before .before .before .before .pre .1 .1 in
+    (omega arith, (pre0, pre1))
+
+id-enum-known-fix : (t : ℕ) → id-lts.Need-enum-known-fix (
+  fixity-at-reads.Asked,
+  fixity-at-reads.Learnt,
+  app-below t,
+  app.Post,
+  opr-below t,
+  opr.Post,
+) (id-at t) id.Post
+id-enum-known-fix t c =
+    let falls = c .before .before .before .before .before .before .before .before .before .pre .0 in
+    let pre0 = c .before .before .before .before .before .before .before .before .before .pre .1 .0 in
+    let pre1 = c .before .before .before .before .before .before .before .before .before .pre .1 .1 in
+    search needs
+
+id-opr-requires : (t : ℕ) → id-lts.Need-opr-requires (
+  fixity-at-reads.Asked,
+  fixity-at-reads.Learnt,
+  app-below t,
+  app.Post,
+  opr-below t,
+  opr.Post,
+) (id-at t) id.Post
+id-opr-requires t c κs =
+    let falls = c .before .before .before .before .before .before .before .before .before .before .before .before .before .before .pre .0 in
+    let pre0 = c .before .before .before .before .before .before .before .before .before .before .before .before .before .before .pre .1 .0 in
+    let pre1 = c .before .before .before .before .before .before .before .before .before .before .before .before .before .before .pre .1 .1 in
+    (omega arith, (pre0, pre1))
+
+id-same-length : (t : ℕ) → id-lts.Need-same-length (
+  fixity-at-reads.Asked,
+  fixity-at-reads.Learnt,
+  app-below t,
+  app.Post,
+  opr-below t,
+  opr.Post,
+) (id-at t) id.Post
+id-same-length t c =
+    c .before .before .before .before .before .before .app .kept .1 .1 .1 .0
+
+id-same-length-2 : (t : ℕ) → id-lts.Need-same-length-2 (
+  fixity-at-reads.Asked,
+  fixity-at-reads.Learnt,
+  app-below t,
+  app.Post,
+  opr-below t,
+  opr.Post,
+) (id-at t) id.Post
+id-same-length-2 t c =
+    c .before .before .before .before .before .before .app .kept .1 .1 .1 .1 .0
+
+id-same-length-3 : (t : ℕ) → id-lts.Need-same-length-3 (
+  fixity-at-reads.Asked,
+  fixity-at-reads.Learnt,
+  app-below t,
+  app.Post,
+  opr-below t,
+  opr.Post,
+) (id-at t) id.Post
+id-same-length-3 t c =
+    c .before .before .before .before .before .before .app .kept .1 .1 .1 .1 .1 .0
+
+id-returns : (t : ℕ) → id-lts.Need-returns (
+  fixity-at-reads.Asked,
+  fixity-at-reads.Learnt,
+  app-below t,
+  app.Post,
+  opr-below t,
+  opr.Post,
+) (id-at t) id.Post
+unfolding expr.nameStep plan choose chosen
+id-returns t c =
+    let falls = c .before .before .before .before .before .before .before .before .before .before .before .before .before .before .before .before .before .before .before .before .pre .0 in
+    let pre0 = c .before .before .before .before .before .before .before .before .before .before .before .before .before .before .before .before .before .before .before .before .pre .1 .0 in
+    let pre1 = c .before .before .before .before .before .before .before .before .before .before .before .before .before .before .before .before .before .before .before .before .pre .1 .1 in
+    let fixity-at = rw (c .before .before .before .before .before .before .before .before .before .before .enum-told .given .1) at (c .before .before .before .before .before .before .before .before .before .before .before .before .fixity-at .ensures) in
+    let app = c .before .before .before .before .before .before .app .ensures in
+    in-steps pre0 (s-fixed fixity-at (s-by _ app s-end))
+
+id-same-length-4 : (t : ℕ) → id-lts.Need-same-length-4 (
+  fixity-at-reads.Asked,
+  fixity-at-reads.Learnt,
+  app-below t,
+  app.Post,
+  opr-below t,
+  opr.Post,
+) (id-at t) id.Post
+id-same-length-4 t c =
+    c .before .before .before .before .before .before .opr .kept .1 .1 .1 .0
+
+id-same-length-5 : (t : ℕ) → id-lts.Need-same-length-5 (
+  fixity-at-reads.Asked,
+  fixity-at-reads.Learnt,
+  app-below t,
+  app.Post,
+  opr-below t,
+  opr.Post,
+) (id-at t) id.Post
+id-same-length-5 t c =
+    c .before .before .before .before .before .before .opr .kept .1 .1 .1 .1 .0
+
+id-same-length-6 : (t : ℕ) → id-lts.Need-same-length-6 (
+  fixity-at-reads.Asked,
+  fixity-at-reads.Learnt,
+  app-below t,
+  app.Post,
+  opr-below t,
+  opr.Post,
+) (id-at t) id.Post
+id-same-length-6 t c =
+    c .before .before .before .before .before .before .opr .kept .1 .1 .1 .1 .1 .0
+
+id-returns-2 : (t : ℕ) → id-lts.Need-returns-2 (
+  fixity-at-reads.Asked,
+  fixity-at-reads.Learnt,
+  app-below t,
+  app.Post,
+  opr-below t,
+  opr.Post,
+) (id-at t) id.Post
+unfolding expr.nameStep plan choose chosen
+id-returns-2 t c =
+    let falls = c .before .before .before .before .before .before .before .before .before .before .before .before .before .before .before .before .before .before .before .before .before .pre .0 in
+    let pre0 = c .before .before .before .before .before .before .before .before .before .before .before .before .before .before .before .before .before .before .before .before .before .pre .1 .0 in
+    let pre1 = c .before .before .before .before .before .before .before .before .before .before .before .before .before .before .before .before .before .before .before .before .before .pre .1 .1 in
+    let fixity-at = rw (c .before .before .before .before .before .before .before .before .before .before .before .fix .given .1) at (c .before .before .before .before .before .before .before .before .before .before .before .before .before .fixity-at .ensures) in
+    let opr = c .before .before .before .before .before .before .opr .ensures in
+    in-steps pre0 (s-fixed fixity-at (s-by _ opr s-end))
+
+abbrev inc-Inv-loop : inc-lts.InvT-loop
+inc-Inv-loop text toks env table₀ scratch₀ finds₀ left b s1₀ table scratch finds s1 =
+    Loops left b (Prog.call Rule.sigExp) (mem text toks env table₀ scratch₀ finds₀ s1₀) (mem text toks env table scratch finds s1) × (length table ≡ length table₀) × (length scratch ≡ length scratch₀) × (length finds ≡ length finds₀)
+
+abbrev inc-μ-loop : inc-lts.MeasureT-loop
+inc-μ-loop text toks env table₀ scratch₀ finds₀ left b s1₀ table scratch finds s1 = turns (mem text toks env table scratch finds s1)
+
+inc-loop-holds :
+    (t : ℕ) →
+    inc-lts.Need-loop-holds (sgx-below t, sgx.Post) (inc-at t) inc.Post inc-Inv-loop inc-μ-loop
+inc-loop-holds t c =
+    let falls = c .before .before .before .before .before .before .pre .0 in
+    let pre0 = c .before .before .before .before .before .before .pre .1 in
+    (loop-starts pre0, refl, refl, refl)
+
+inc-sgx-requires :
+    (t : ℕ) →
+    inc-lts.Need-sgx-requires (sgx-below t, sgx.Post) (inc-at t) inc.Post inc-Inv-loop inc-μ-loop
+inc-sgx-requires t c κs =
+    let falls = c .before .before .before .before .before .before .before .before .before .before .pre .0 in
+    let inv = c .before .before .before .loop .inv .0 .ok in
+    (omega arith, inv)
+
+inc-enum-known-turn :
+    (t : ℕ) →
+    inc-lts.Need-enum-known-turn
+    (sgx-below t, sgx.Post)
+    (inc-at t)
+    inc.Post
+    inc-Inv-loop
+    inc-μ-loop
+inc-enum-known-turn t c =
+    let falls = c .before .before .before .before .before .before .before .before .before .before .before .before .before .before .before .before .before .before .pre .0 in
+    let pre0 = c .before .before .before .before .before .before .before .before .before .before .before .before .before .before .before .before .before .before .pre .1 in
+    search needs
+
+inc-loop-less :
+    (t : ℕ) →
+    inc-lts.Need-loop-less (sgx-below t, sgx.Post) (inc-at t) inc.Post inc-Inv-loop inc-μ-loop
+inc-loop-less t c =
+    let sgx = rw (c .before .turn .given .1) at (c .before .before .before .before .before .before .before .before .before .sgx .ensures) in
+    loop-falls (sig-exp-advances _ _) (runs-in {b = 0} sgx)
+
+inc-loop-again :
+    (t : ℕ) →
+    inc-lts.Need-loop-again (sgx-below t, sgx.Post) (inc-at t) inc.Post inc-Inv-loop inc-μ-loop
+inc-loop-again t c =
+    let inv = c .before .before .before .before .before .before .before .before .before .before .before .before .before .loop .inv .0 in
+    let sgx = rw (c .before .turn .given .1) at (c .before .before .before .before .before .before .before .before .before .sgx .ensures) in
+    (loop-goes (sig-exp-advances _ _) inv (runs-in sgx), c .before .before .before .before .before .before .before .before .before .sgx .kept .1 .1 .1 .0 ∙ c .before .before .before .before .before .before .before .before .before .before .before .before .before .loop .inv .1, c .before .before .before .before .before .before .before .before .before .sgx .kept .1 .1 .1 .1 .0 ∙ c .before .before .before .before .before .before .before .before .before .before .before .before .before .loop .inv .2, c .before .before .before .before .before .before .before .before .before .sgx .kept .1 .1 .1 .1 .1 .0 ∙ c .before .before .before .before .before .before .before .before .before .before .before .before .before .loop .inv .3)
+
+inc-enum-known-turn-2 :
+    (t : ℕ) →
+    inc-lts.Need-enum-known-turn-2
+    (sgx-below t, sgx.Post)
+    (inc-at t)
+    inc.Post
+    inc-Inv-loop
+    inc-μ-loop
+inc-enum-known-turn-2 t c =
+    let falls = c .before .before .before .before .before .before .before .before .before .before .before .before .before .before .before .before .before .before .pre .0 in
+    let pre0 = c .before .before .before .before .before .before .before .before .before .before .before .before .before .before .before .before .before .before .pre .1 in
+    search needs
+
+inc-same-length :
+    (t : ℕ) →
+    inc-lts.Need-same-length (sgx-below t, sgx.Post) (inc-at t) inc.Post inc-Inv-loop inc-μ-loop
+inc-same-length t c =
+    c .before .before .before .before .before .before .before .before .before .sgx .kept .1 .1 .1 .0 ∙ c .before .before .before .before .before .before .before .before .before .before .before .before .before .loop .inv .1
+
+inc-same-length-2 :
+    (t : ℕ) →
+    inc-lts.Need-same-length-2 (sgx-below t, sgx.Post) (inc-at t) inc.Post inc-Inv-loop inc-μ-loop
+inc-same-length-2 t c =
+    c .before .before .before .before .before .before .before .before .before .sgx .kept .1 .1 .1 .1 .0 ∙ c .before .before .before .before .before .before .before .before .before .before .before .before .before .loop .inv .2
+
+inc-same-length-3 :
+    (t : ℕ) →
+    inc-lts.Need-same-length-3 (sgx-below t, sgx.Post) (inc-at t) inc.Post inc-Inv-loop inc-μ-loop
+inc-same-length-3 t c =
+    c .before .before .before .before .before .before .before .before .before .sgx .kept .1 .1 .1 .1 .1 .0 ∙ c .before .before .before .before .before .before .before .before .before .before .before .before .before .loop .inv .3
+
+inc-returns :
+    (t : ℕ) →
+    inc-lts.Need-returns (sgx-below t, sgx.Post) (inc-at t) inc.Post inc-Inv-loop inc-μ-loop
+inc-returns t c =
+    let inv = c .before .before .before .before .before .before .before .before .before .before .before .before .before .loop .inv .0 in
+    let sgx = rw (c .before .turn2 .given .1) at (c .before .before .before .before .before .before .before .before .before .sgx .ensures) in
+    loop-ends (sig-exp-advances _ _) inv (runs-in sgx)
+
+itm-arm-requires : (t : ℕ) → itm-lts.Need-arm-requires (
+  arm-below t,
+  arm.Post,
+  val-below t,
+  val.Post,
+  fun-below t,
+  fun.Post,
+  cas-below t,
+  cas.Post,
+  exn-below t,
+  exn.Post,
+  stb-below t,
+  stb.Post,
+  sgb-below t,
+  sgb.Post,
+  fct-below t,
+  fct.Post,
+) (itm-at t) itm.Post
+itm-arm-requires t c κs =
+    let falls = c .before .before .before .before .before .before .before .before .before .before .before .pre .0 in
+    let pre0 = c .before .before .before .before .before .before .before .before .before .before .before .pre .1 in
+    let if1 = c .before .before .before .if1 .taken in
+    (omega arith, pre0)
+
+itm-same-length : (t : ℕ) → itm-lts.Need-same-length (
+  arm-below t,
+  arm.Post,
+  val-below t,
+  val.Post,
+  fun-below t,
+  fun.Post,
+  cas-below t,
+  cas.Post,
+  exn-below t,
+  exn.Post,
+  stb-below t,
+  stb.Post,
+  sgb-below t,
+  sgb.Post,
+  fct-below t,
+  fct.Post,
+) (itm-at t) itm.Post
+itm-same-length t c =
+    c .before .before .before .before .before .before .arm .kept .1 .1 .1 .0
+
+itm-same-length-2 : (t : ℕ) → itm-lts.Need-same-length-2 (
+  arm-below t,
+  arm.Post,
+  val-below t,
+  val.Post,
+  fun-below t,
+  fun.Post,
+  cas-below t,
+  cas.Post,
+  exn-below t,
+  exn.Post,
+  stb-below t,
+  stb.Post,
+  sgb-below t,
+  sgb.Post,
+  fct-below t,
+  fct.Post,
+) (itm-at t) itm.Post
+itm-same-length-2 t c =
+    c .before .before .before .before .before .before .arm .kept .1 .1 .1 .1 .0
+
+itm-same-length-3 : (t : ℕ) → itm-lts.Need-same-length-3 (
+  arm-below t,
+  arm.Post,
+  val-below t,
+  val.Post,
+  fun-below t,
+  fun.Post,
+  cas-below t,
+  cas.Post,
+  exn-below t,
+  exn.Post,
+  stb-below t,
+  stb.Post,
+  sgb-below t,
+  sgb.Post,
+  fct-below t,
+  fct.Post,
+) (itm-at t) itm.Post
+itm-same-length-3 t c =
+    c .before .before .before .before .before .before .arm .kept .1 .1 .1 .1 .1 .0
+
+itm-returns : (t : ℕ) → itm-lts.Need-returns (
+  arm-below t,
+  arm.Post,
+  val-below t,
+  val.Post,
+  fun-below t,
+  fun.Post,
+  cas-below t,
+  cas.Post,
+  exn-below t,
+  exn.Post,
+  stb-below t,
+  stb.Post,
+  sgb-below t,
+  sgb.Post,
+  fct-below t,
+  fct.Post,
+) (itm-at t) itm.Post
+unfolding decl.manyClosure plan choose chosen
+itm-returns t c =
+    let falls = c .before .before .before .before .before .before .before .before .before .before .before .before .before .before .before .before .before .before .pre .0 in
+    let pre0 = c .before .before .before .before .before .before .before .before .before .before .before .before .before .before .before .before .before .before .pre .1 in
+    let if1 = c .before .before .before .before .before .before .before .before .before .before .if1 .taken in
+    let arm = c .before .before .before .before .before .before .arm .ensures in
+    by-steps pre0 (λ b. s-first _ _ _ _ _ _ (eq-eqb _ _ if1) (s-by _ (runs-in arm) s-end))
+
+itm-val-requires : (t : ℕ) → itm-lts.Need-val-requires (
+  arm-below t,
+  arm.Post,
+  val-below t,
+  val.Post,
+  fun-below t,
+  fun.Post,
+  cas-below t,
+  cas.Post,
+  exn-below t,
+  exn.Post,
+  stb-below t,
+  stb.Post,
+  sgb-below t,
+  sgb.Post,
+  fct-below t,
+  fct.Post,
+) (itm-at t) itm.Post
+itm-val-requires t c κs =
+    let falls = c .before .before .before .before .before .before .before .before .before .before .before .before .before .pre .0 in
+    let pre0 = c .before .before .before .before .before .before .before .before .before .before .before .before .before .pre .1 in
+    let if1 = c .before .before .before .before .before .if1 .left in
+    let if2 = c .before .before .before .if2 .taken in
+    (omega arith, pre0)
+
+itm-same-length-4 : (t : ℕ) → itm-lts.Need-same-length-4 (
+  arm-below t,
+  arm.Post,
+  val-below t,
+  val.Post,
+  fun-below t,
+  fun.Post,
+  cas-below t,
+  cas.Post,
+  exn-below t,
+  exn.Post,
+  stb-below t,
+  stb.Post,
+  sgb-below t,
+  sgb.Post,
+  fct-below t,
+  fct.Post,
+) (itm-at t) itm.Post
+itm-same-length-4 t c =
+    c .before .before .before .before .before .before .val .kept .1 .1 .1 .0
+
+itm-same-length-5 : (t : ℕ) → itm-lts.Need-same-length-5 (
+  arm-below t,
+  arm.Post,
+  val-below t,
+  val.Post,
+  fun-below t,
+  fun.Post,
+  cas-below t,
+  cas.Post,
+  exn-below t,
+  exn.Post,
+  stb-below t,
+  stb.Post,
+  sgb-below t,
+  sgb.Post,
+  fct-below t,
+  fct.Post,
+) (itm-at t) itm.Post
+itm-same-length-5 t c =
+    c .before .before .before .before .before .before .val .kept .1 .1 .1 .1 .0
+
+itm-same-length-6 : (t : ℕ) → itm-lts.Need-same-length-6 (
+  arm-below t,
+  arm.Post,
+  val-below t,
+  val.Post,
+  fun-below t,
+  fun.Post,
+  cas-below t,
+  cas.Post,
+  exn-below t,
+  exn.Post,
+  stb-below t,
+  stb.Post,
+  sgb-below t,
+  sgb.Post,
+  fct-below t,
+  fct.Post,
+) (itm-at t) itm.Post
+itm-same-length-6 t c =
+    c .before .before .before .before .before .before .val .kept .1 .1 .1 .1 .1 .0
+
+itm-returns-2 : (t : ℕ) → itm-lts.Need-returns-2 (
+  arm-below t,
+  arm.Post,
+  val-below t,
+  val.Post,
+  fun-below t,
+  fun.Post,
+  cas-below t,
+  cas.Post,
+  exn-below t,
+  exn.Post,
+  stb-below t,
+  stb.Post,
+  sgb-below t,
+  sgb.Post,
+  fct-below t,
+  fct.Post,
+) (itm-at t) itm.Post
+unfolding decl.manyClosure plan choose chosen
+itm-returns-2 t c =
+    let falls = c .before .before .before .before .before .before .before .before .before .before .before .before .before .before .before .before .before .before .before .before .pre .0 in
+    let pre0 = c .before .before .before .before .before .before .before .before .before .before .before .before .before .before .before .before .before .before .before .before .pre .1 in
+    let if1 = c .before .before .before .before .before .before .before .before .before .before .before .before .if1 .left in
+    let if2 = c .before .before .before .before .before .before .before .before .before .before .if2 .taken in
+    let val = c .before .before .before .before .before .before .val .ensures in
+    by-steps pre0 (λ b. s-second _ _ _ _ _ _ (ne-eqb _ _ if1) (s-first _ _ _ _ _ _ (eq-eqb _ _ if2) (s-by _ (runs-in val) s-end)))
+
+itm-fun-requires : (t : ℕ) → itm-lts.Need-fun-requires (
+  arm-below t,
+  arm.Post,
+  val-below t,
+  val.Post,
+  fun-below t,
+  fun.Post,
+  cas-below t,
+  cas.Post,
+  exn-below t,
+  exn.Post,
+  stb-below t,
+  stb.Post,
+  sgb-below t,
+  sgb.Post,
+  fct-below t,
+  fct.Post,
+) (itm-at t) itm.Post
+itm-fun-requires t c κs =
+    let falls = c .before .before .before .before .before .before .before .before .before .before .before .before .before .before .before .pre .0 in
+    let pre0 = c .before .before .before .before .before .before .before .before .before .before .before .before .before .before .before .pre .1 in
+    let if1 = c .before .before .before .before .before .before .before .if1 .left in
+    let if2 = c .before .before .before .before .before .if2 .left in
+    let if3 = c .before .before .before .if3 .taken in
+    (omega arith, pre0)
+
+itm-same-length-7 : (t : ℕ) → itm-lts.Need-same-length-7 (
+  arm-below t,
+  arm.Post,
+  val-below t,
+  val.Post,
+  fun-below t,
+  fun.Post,
+  cas-below t,
+  cas.Post,
+  exn-below t,
+  exn.Post,
+  stb-below t,
+  stb.Post,
+  sgb-below t,
+  sgb.Post,
+  fct-below t,
+  fct.Post,
+) (itm-at t) itm.Post
+itm-same-length-7 t c =
+    c .before .before .before .before .before .before .fun .kept .1 .1 .1 .0
+
+itm-same-length-8 : (t : ℕ) → itm-lts.Need-same-length-8 (
+  arm-below t,
+  arm.Post,
+  val-below t,
+  val.Post,
+  fun-below t,
+  fun.Post,
+  cas-below t,
+  cas.Post,
+  exn-below t,
+  exn.Post,
+  stb-below t,
+  stb.Post,
+  sgb-below t,
+  sgb.Post,
+  fct-below t,
+  fct.Post,
+) (itm-at t) itm.Post
+itm-same-length-8 t c =
+    c .before .before .before .before .before .before .fun .kept .1 .1 .1 .1 .0
+
+itm-same-length-9 : (t : ℕ) → itm-lts.Need-same-length-9 (
+  arm-below t,
+  arm.Post,
+  val-below t,
+  val.Post,
+  fun-below t,
+  fun.Post,
+  cas-below t,
+  cas.Post,
+  exn-below t,
+  exn.Post,
+  stb-below t,
+  stb.Post,
+  sgb-below t,
+  sgb.Post,
+  fct-below t,
+  fct.Post,
+) (itm-at t) itm.Post
+itm-same-length-9 t c =
+    c .before .before .before .before .before .before .fun .kept .1 .1 .1 .1 .1 .0
+
+itm-returns-3 : (t : ℕ) → itm-lts.Need-returns-3 (
+  arm-below t,
+  arm.Post,
+  val-below t,
+  val.Post,
+  fun-below t,
+  fun.Post,
+  cas-below t,
+  cas.Post,
+  exn-below t,
+  exn.Post,
+  stb-below t,
+  stb.Post,
+  sgb-below t,
+  sgb.Post,
+  fct-below t,
+  fct.Post,
+) (itm-at t) itm.Post
+unfolding decl.manyClosure plan choose chosen
+itm-returns-3 t c =
+    let falls = c .before .before .before .before .before .before .before .before .before .before .before .before .before .before .before .before .before .before .before .before .before .before .pre .0 in
+    let pre0 = c .before .before .before .before .before .before .before .before .before .before .before .before .before .before .before .before .before .before .before .before .before .before .pre .1 in
+    let if1 = c .before .before .before .before .before .before .before .before .before .before .before .before .before .before .if1 .left in
+    let if2 = c .before .before .before .before .before .before .before .before .before .before .before .before .if2 .left in
+    let if3 = c .before .before .before .before .before .before .before .before .before .before .if3 .taken in
+    let fun = c .before .before .before .before .before .before .fun .ensures in
+    by-steps pre0 (λ b. s-second _ _ _ _ _ _ (ne-eqb _ _ if1) (s-second _ _ _ _ _ _ (ne-eqb _ _ if2) (s-first _ _ _ _ _ _ (eq-eqb _ _ if3) (s-by _ (runs-in fun) s-end))))
+
+itm-cas-requires : (t : ℕ) → itm-lts.Need-cas-requires (
+  arm-below t,
+  arm.Post,
+  val-below t,
+  val.Post,
+  fun-below t,
+  fun.Post,
+  cas-below t,
+  cas.Post,
+  exn-below t,
+  exn.Post,
+  stb-below t,
+  stb.Post,
+  sgb-below t,
+  sgb.Post,
+  fct-below t,
+  fct.Post,
+) (itm-at t) itm.Post
+itm-cas-requires t c κs =
+    let falls = c .before .before .before .before .before .before .before .before .before .before .before .before .before .before .before .before .before .pre .0 in
+    let pre0 = c .before .before .before .before .before .before .before .before .before .before .before .before .before .before .before .before .before .pre .1 in
+    let if1 = c .before .before .before .before .before .before .before .before .before .if1 .left in
+    let if2 = c .before .before .before .before .before .before .before .if2 .left in
+    let if3 = c .before .before .before .before .before .if3 .left in
+    let if4 = c .before .before .before .if4 .taken in
+    (omega arith, pre0)
+
+itm-same-length-10 : (t : ℕ) → itm-lts.Need-same-length-10 (
+  arm-below t,
+  arm.Post,
+  val-below t,
+  val.Post,
+  fun-below t,
+  fun.Post,
+  cas-below t,
+  cas.Post,
+  exn-below t,
+  exn.Post,
+  stb-below t,
+  stb.Post,
+  sgb-below t,
+  sgb.Post,
+  fct-below t,
+  fct.Post,
+) (itm-at t) itm.Post
+itm-same-length-10 t c =
+    c .before .before .before .before .before .before .cas .kept .1 .1 .1 .0
+
+itm-same-length-11 : (t : ℕ) → itm-lts.Need-same-length-11 (
+  arm-below t,
+  arm.Post,
+  val-below t,
+  val.Post,
+  fun-below t,
+  fun.Post,
+  cas-below t,
+  cas.Post,
+  exn-below t,
+  exn.Post,
+  stb-below t,
+  stb.Post,
+  sgb-below t,
+  sgb.Post,
+  fct-below t,
+  fct.Post,
+) (itm-at t) itm.Post
+itm-same-length-11 t c =
+    c .before .before .before .before .before .before .cas .kept .1 .1 .1 .1 .0
+
+itm-same-length-12 : (t : ℕ) → itm-lts.Need-same-length-12 (
+  arm-below t,
+  arm.Post,
+  val-below t,
+  val.Post,
+  fun-below t,
+  fun.Post,
+  cas-below t,
+  cas.Post,
+  exn-below t,
+  exn.Post,
+  stb-below t,
+  stb.Post,
+  sgb-below t,
+  sgb.Post,
+  fct-below t,
+  fct.Post,
+) (itm-at t) itm.Post
+itm-same-length-12 t c =
+    c .before .before .before .before .before .before .cas .kept .1 .1 .1 .1 .1 .0
+
+itm-returns-4 : (t : ℕ) → itm-lts.Need-returns-4 (
+  arm-below t,
+  arm.Post,
+  val-below t,
+  val.Post,
+  fun-below t,
+  fun.Post,
+  cas-below t,
+  cas.Post,
+  exn-below t,
+  exn.Post,
+  stb-below t,
+  stb.Post,
+  sgb-below t,
+  sgb.Post,
+  fct-below t,
+  fct.Post,
+) (itm-at t) itm.Post
+unfolding decl.manyClosure plan choose chosen
+itm-returns-4 t c =
+    let falls = c .before .before .before .before .before .before .before .before .before .before .before .before .before .before .before .before .before .before .before .before .before .before .before .before .pre .0 in
+    let pre0 = c .before .before .before .before .before .before .before .before .before .before .before .before .before .before .before .before .before .before .before .before .before .before .before .before .pre .1 in
+    let if1 = c .before .before .before .before .before .before .before .before .before .before .before .before .before .before .before .before .if1 .left in
+    let if2 = c .before .before .before .before .before .before .before .before .before .before .before .before .before .before .if2 .left in
+    let if3 = c .before .before .before .before .before .before .before .before .before .before .before .before .if3 .left in
+    let if4 = c .before .before .before .before .before .before .before .before .before .before .if4 .taken in
+    let cas = c .before .before .before .before .before .before .cas .ensures in
+    by-steps pre0 (λ b. s-second _ _ _ _ _ _ (ne-eqb _ _ if1) (s-second _ _ _ _ _ _ (ne-eqb _ _ if2) (s-second _ _ _ _ _ _ (ne-eqb _ _ if3) (s-first _ _ _ _ _ _ (eq-eqb _ _ if4) (s-by _ (runs-in cas) s-end)))))
+
+itm-exn-requires : (t : ℕ) → itm-lts.Need-exn-requires (
+  arm-below t,
+  arm.Post,
+  val-below t,
+  val.Post,
+  fun-below t,
+  fun.Post,
+  cas-below t,
+  cas.Post,
+  exn-below t,
+  exn.Post,
+  stb-below t,
+  stb.Post,
+  sgb-below t,
+  sgb.Post,
+  fct-below t,
+  fct.Post,
+) (itm-at t) itm.Post
+itm-exn-requires t c κs =
+    let falls = c .before .before .before .before .before .before .before .before .before .before .before .before .before .before .before .before .before .before .before .pre .0 in
+    let pre0 = c .before .before .before .before .before .before .before .before .before .before .before .before .before .before .before .before .before .before .before .pre .1 in
+    let if1 = c .before .before .before .before .before .before .before .before .before .before .before .if1 .left in
+    let if2 = c .before .before .before .before .before .before .before .before .before .if2 .left in
+    let if3 = c .before .before .before .before .before .before .before .if3 .left in
+    let if4 = c .before .before .before .before .before .if4 .left in
+    let if5 = c .before .before .before .if5 .taken in
+    (omega arith, pre0)
+
+itm-same-length-13 : (t : ℕ) → itm-lts.Need-same-length-13 (
+  arm-below t,
+  arm.Post,
+  val-below t,
+  val.Post,
+  fun-below t,
+  fun.Post,
+  cas-below t,
+  cas.Post,
+  exn-below t,
+  exn.Post,
+  stb-below t,
+  stb.Post,
+  sgb-below t,
+  sgb.Post,
+  fct-below t,
+  fct.Post,
+) (itm-at t) itm.Post
+itm-same-length-13 t c =
+    c .before .before .before .before .before .before .exn .kept .1 .1 .1 .0
+
+itm-same-length-14 : (t : ℕ) → itm-lts.Need-same-length-14 (
+  arm-below t,
+  arm.Post,
+  val-below t,
+  val.Post,
+  fun-below t,
+  fun.Post,
+  cas-below t,
+  cas.Post,
+  exn-below t,
+  exn.Post,
+  stb-below t,
+  stb.Post,
+  sgb-below t,
+  sgb.Post,
+  fct-below t,
+  fct.Post,
+) (itm-at t) itm.Post
+itm-same-length-14 t c =
+    c .before .before .before .before .before .before .exn .kept .1 .1 .1 .1 .0
+
+itm-same-length-15 : (t : ℕ) → itm-lts.Need-same-length-15 (
+  arm-below t,
+  arm.Post,
+  val-below t,
+  val.Post,
+  fun-below t,
+  fun.Post,
+  cas-below t,
+  cas.Post,
+  exn-below t,
+  exn.Post,
+  stb-below t,
+  stb.Post,
+  sgb-below t,
+  sgb.Post,
+  fct-below t,
+  fct.Post,
+) (itm-at t) itm.Post
+itm-same-length-15 t c =
+    c .before .before .before .before .before .before .exn .kept .1 .1 .1 .1 .1 .0
+
+itm-returns-5 : (t : ℕ) → itm-lts.Need-returns-5 (
+  arm-below t,
+  arm.Post,
+  val-below t,
+  val.Post,
+  fun-below t,
+  fun.Post,
+  cas-below t,
+  cas.Post,
+  exn-below t,
+  exn.Post,
+  stb-below t,
+  stb.Post,
+  sgb-below t,
+  sgb.Post,
+  fct-below t,
+  fct.Post,
+) (itm-at t) itm.Post
+unfolding decl.manyClosure plan choose chosen
+itm-returns-5 t c =
+    let falls = c .before .before .before .before .before .before .before .before .before .before .before .before .before .before .before .before .before .before .before .before .before .before .before .before .before .before .pre .0 in
+    let pre0 = c .before .before .before .before .before .before .before .before .before .before .before .before .before .before .before .before .before .before .before .before .before .before .before .before .before .before .pre .1 in
+    let if1 = c .before .before .before .before .before .before .before .before .before .before .before .before .before .before .before .before .before .before .if1 .left in
+    let if2 = c .before .before .before .before .before .before .before .before .before .before .before .before .before .before .before .before .if2 .left in
+    let if3 = c .before .before .before .before .before .before .before .before .before .before .before .before .before .before .if3 .left in
+    let if4 = c .before .before .before .before .before .before .before .before .before .before .before .before .if4 .left in
+    let if5 = c .before .before .before .before .before .before .before .before .before .before .if5 .taken in
+    let exn = c .before .before .before .before .before .before .exn .ensures in
+    by-steps pre0 (λ b. s-second _ _ _ _ _ _ (ne-eqb _ _ if1) (s-second _ _ _ _ _ _ (ne-eqb _ _ if2) (s-second _ _ _ _ _ _ (ne-eqb _ _ if3) (s-second _ _ _ _ _ _ (ne-eqb _ _ if4) (s-first _ _ _ _ _ _ (eq-eqb _ _ if5) (s-by _ (runs-in exn) s-end))))))
+
+itm-stb-requires : (t : ℕ) → itm-lts.Need-stb-requires (
+  arm-below t,
+  arm.Post,
+  val-below t,
+  val.Post,
+  fun-below t,
+  fun.Post,
+  cas-below t,
+  cas.Post,
+  exn-below t,
+  exn.Post,
+  stb-below t,
+  stb.Post,
+  sgb-below t,
+  sgb.Post,
+  fct-below t,
+  fct.Post,
+) (itm-at t) itm.Post
+itm-stb-requires t c κs =
+    let falls = c .before .before .before .before .before .before .before .before .before .before .before .before .before .before .before .before .before .before .before .before .before .pre .0 in
+    let pre0 = c .before .before .before .before .before .before .before .before .before .before .before .before .before .before .before .before .before .before .before .before .before .pre .1 in
+    let if1 = c .before .before .before .before .before .before .before .before .before .before .before .before .before .if1 .left in
+    let if2 = c .before .before .before .before .before .before .before .before .before .before .before .if2 .left in
+    let if3 = c .before .before .before .before .before .before .before .before .before .if3 .left in
+    let if4 = c .before .before .before .before .before .before .before .if4 .left in
+    let if5 = c .before .before .before .before .before .if5 .left in
+    let if6 = c .before .before .before .if6 .taken in
+    (omega arith, pre0)
+
+itm-same-length-16 : (t : ℕ) → itm-lts.Need-same-length-16 (
+  arm-below t,
+  arm.Post,
+  val-below t,
+  val.Post,
+  fun-below t,
+  fun.Post,
+  cas-below t,
+  cas.Post,
+  exn-below t,
+  exn.Post,
+  stb-below t,
+  stb.Post,
+  sgb-below t,
+  sgb.Post,
+  fct-below t,
+  fct.Post,
+) (itm-at t) itm.Post
+itm-same-length-16 t c =
+    c .before .before .before .before .before .before .stb .kept .1 .1 .1 .0
+
+itm-same-length-17 : (t : ℕ) → itm-lts.Need-same-length-17 (
+  arm-below t,
+  arm.Post,
+  val-below t,
+  val.Post,
+  fun-below t,
+  fun.Post,
+  cas-below t,
+  cas.Post,
+  exn-below t,
+  exn.Post,
+  stb-below t,
+  stb.Post,
+  sgb-below t,
+  sgb.Post,
+  fct-below t,
+  fct.Post,
+) (itm-at t) itm.Post
+itm-same-length-17 t c =
+    c .before .before .before .before .before .before .stb .kept .1 .1 .1 .1 .0
+
+itm-same-length-18 : (t : ℕ) → itm-lts.Need-same-length-18 (
+  arm-below t,
+  arm.Post,
+  val-below t,
+  val.Post,
+  fun-below t,
+  fun.Post,
+  cas-below t,
+  cas.Post,
+  exn-below t,
+  exn.Post,
+  stb-below t,
+  stb.Post,
+  sgb-below t,
+  sgb.Post,
+  fct-below t,
+  fct.Post,
+) (itm-at t) itm.Post
+itm-same-length-18 t c =
+    c .before .before .before .before .before .before .stb .kept .1 .1 .1 .1 .1 .0
+
+itm-returns-6 : (t : ℕ) → itm-lts.Need-returns-6 (
+  arm-below t,
+  arm.Post,
+  val-below t,
+  val.Post,
+  fun-below t,
+  fun.Post,
+  cas-below t,
+  cas.Post,
+  exn-below t,
+  exn.Post,
+  stb-below t,
+  stb.Post,
+  sgb-below t,
+  sgb.Post,
+  fct-below t,
+  fct.Post,
+) (itm-at t) itm.Post
+unfolding decl.manyClosure plan choose chosen
+itm-returns-6 t c =
+    let falls = c .before .before .before .before .before .before .before .before .before .before .before .before .before .before .before .before .before .before .before .before .before .before .before .before .before .before .before .before .pre .0 in
+    let pre0 = c .before .before .before .before .before .before .before .before .before .before .before .before .before .before .before .before .before .before .before .before .before .before .before .before .before .before .before .before .pre .1 in
+    let if1 = c .before .before .before .before .before .before .before .before .before .before .before .before .before .before .before .before .before .before .before .before .if1 .left in
+    let if2 = c .before .before .before .before .before .before .before .before .before .before .before .before .before .before .before .before .before .before .if2 .left in
+    let if3 = c .before .before .before .before .before .before .before .before .before .before .before .before .before .before .before .before .if3 .left in
+    let if4 = c .before .before .before .before .before .before .before .before .before .before .before .before .before .before .if4 .left in
+    let if5 = c .before .before .before .before .before .before .before .before .before .before .before .before .if5 .left in
+    let if6 = c .before .before .before .before .before .before .before .before .before .before .if6 .taken in
+    let stb = c .before .before .before .before .before .before .stb .ensures in
+    by-steps pre0 (λ b. s-second _ _ _ _ _ _ (ne-eqb _ _ if1) (s-second _ _ _ _ _ _ (ne-eqb _ _ if2) (s-second _ _ _ _ _ _ (ne-eqb _ _ if3) (s-second _ _ _ _ _ _ (ne-eqb _ _ if4) (s-second _ _ _ _ _ _ (ne-eqb _ _ if5) (s-first _ _ _ _ _ _ (eq-eqb _ _ if6) (s-by _ (runs-in stb) s-end)))))))
+
+itm-sgb-requires : (t : ℕ) → itm-lts.Need-sgb-requires (
+  arm-below t,
+  arm.Post,
+  val-below t,
+  val.Post,
+  fun-below t,
+  fun.Post,
+  cas-below t,
+  cas.Post,
+  exn-below t,
+  exn.Post,
+  stb-below t,
+  stb.Post,
+  sgb-below t,
+  sgb.Post,
+  fct-below t,
+  fct.Post,
+) (itm-at t) itm.Post
+itm-sgb-requires t c κs =
+    let falls = c .before .before .before .before .before .before .before .before .before .before .before .before .before .before .before .before .before .before .before .before .before .before .before .pre .0 in
+    let pre0 = c .before .before .before .before .before .before .before .before .before .before .before .before .before .before .before .before .before .before .before .before .before .before .before .pre .1 in
+    let if1 = c .before .before .before .before .before .before .before .before .before .before .before .before .before .before .before .if1 .left in
+    let if2 = c .before .before .before .before .before .before .before .before .before .before .before .before .before .if2 .left in
+    let if3 = c .before .before .before .before .before .before .before .before .before .before .before .if3 .left in
+    let if4 = c .before .before .before .before .before .before .before .before .before .if4 .left in
+    let if5 = c .before .before .before .before .before .before .before .if5 .left in
+    let if6 = c .before .before .before .before .before .if6 .left in
+    let if7 = c .before .before .before .if7 .taken in
+    (omega arith, pre0)
+
+itm-same-length-19 : (t : ℕ) → itm-lts.Need-same-length-19 (
+  arm-below t,
+  arm.Post,
+  val-below t,
+  val.Post,
+  fun-below t,
+  fun.Post,
+  cas-below t,
+  cas.Post,
+  exn-below t,
+  exn.Post,
+  stb-below t,
+  stb.Post,
+  sgb-below t,
+  sgb.Post,
+  fct-below t,
+  fct.Post,
+) (itm-at t) itm.Post
+itm-same-length-19 t c =
+    c .before .before .before .before .before .before .sgb .kept .1 .1 .1 .0
+
+itm-same-length-20 : (t : ℕ) → itm-lts.Need-same-length-20 (
+  arm-below t,
+  arm.Post,
+  val-below t,
+  val.Post,
+  fun-below t,
+  fun.Post,
+  cas-below t,
+  cas.Post,
+  exn-below t,
+  exn.Post,
+  stb-below t,
+  stb.Post,
+  sgb-below t,
+  sgb.Post,
+  fct-below t,
+  fct.Post,
+) (itm-at t) itm.Post
+itm-same-length-20 t c =
+    c .before .before .before .before .before .before .sgb .kept .1 .1 .1 .1 .0
+
+itm-same-length-21 : (t : ℕ) → itm-lts.Need-same-length-21 (
+  arm-below t,
+  arm.Post,
+  val-below t,
+  val.Post,
+  fun-below t,
+  fun.Post,
+  cas-below t,
+  cas.Post,
+  exn-below t,
+  exn.Post,
+  stb-below t,
+  stb.Post,
+  sgb-below t,
+  sgb.Post,
+  fct-below t,
+  fct.Post,
+) (itm-at t) itm.Post
+itm-same-length-21 t c =
+    c .before .before .before .before .before .before .sgb .kept .1 .1 .1 .1 .1 .0
+
+itm-returns-7 : (t : ℕ) → itm-lts.Need-returns-7 (
+  arm-below t,
+  arm.Post,
+  val-below t,
+  val.Post,
+  fun-below t,
+  fun.Post,
+  cas-below t,
+  cas.Post,
+  exn-below t,
+  exn.Post,
+  stb-below t,
+  stb.Post,
+  sgb-below t,
+  sgb.Post,
+  fct-below t,
+  fct.Post,
+) (itm-at t) itm.Post
+unfolding decl.manyClosure plan choose chosen
+itm-returns-7 t c =
+    let falls = c .before .before .before .before .before .before .before .before .before .before .before .before .before .before .before .before .before .before .before .before .before .before .before .before .before .before .before .before .before .before .pre .0 in
+    let pre0 = c .before .before .before .before .before .before .before .before .before .before .before .before .before .before .before .before .before .before .before .before .before .before .before .before .before .before .before .before .before .before .pre .1 in
+    let if1 = c .before .before .before .before .before .before .before .before .before .before .before .before .before .before .before .before .before .before .before .before .before .before .if1 .left in
+    let if2 = c .before .before .before .before .before .before .before .before .before .before .before .before .before .before .before .before .before .before .before .before .if2 .left in
+    let if3 = c .before .before .before .before .before .before .before .before .before .before .before .before .before .before .before .before .before .before .if3 .left in
+    let if4 = c .before .before .before .before .before .before .before .before .before .before .before .before .before .before .before .before .if4 .left in
+    let if5 = c .before .before .before .before .before .before .before .before .before .before .before .before .before .before .if5 .left in
+    let if6 = c .before .before .before .before .before .before .before .before .before .before .before .before .if6 .left in
+    let if7 = c .before .before .before .before .before .before .before .before .before .before .if7 .taken in
+    let sgb = c .before .before .before .before .before .before .sgb .ensures in
+    by-steps pre0 (λ b. s-second _ _ _ _ _ _ (ne-eqb _ _ if1) (s-second _ _ _ _ _ _ (ne-eqb _ _ if2) (s-second _ _ _ _ _ _ (ne-eqb _ _ if3) (s-second _ _ _ _ _ _ (ne-eqb _ _ if4) (s-second _ _ _ _ _ _ (ne-eqb _ _ if5) (s-second _ _ _ _ _ _ (ne-eqb _ _ if6) (s-first _ _ _ _ _ _ (eq-eqb _ _ if7) (s-by _ (runs-in sgb) s-end))))))))
+
+itm-fct-requires : (t : ℕ) → itm-lts.Need-fct-requires (
+  arm-below t,
+  arm.Post,
+  val-below t,
+  val.Post,
+  fun-below t,
+  fun.Post,
+  cas-below t,
+  cas.Post,
+  exn-below t,
+  exn.Post,
+  stb-below t,
+  stb.Post,
+  sgb-below t,
+  sgb.Post,
+  fct-below t,
+  fct.Post,
+) (itm-at t) itm.Post
+itm-fct-requires t c κs =
+    let falls = c .before .before .before .before .before .before .before .before .before .before .before .before .before .before .before .before .before .before .before .before .before .before .before .pre .0 in
+    let pre0 = c .before .before .before .before .before .before .before .before .before .before .before .before .before .before .before .before .before .before .before .before .before .before .before .pre .1 in
+    let if1 = c .before .before .before .before .before .before .before .before .before .before .before .before .before .before .before .if1 .left in
+    let if2 = c .before .before .before .before .before .before .before .before .before .before .before .before .before .if2 .left in
+    let if3 = c .before .before .before .before .before .before .before .before .before .before .before .if3 .left in
+    let if4 = c .before .before .before .before .before .before .before .before .before .if4 .left in
+    let if5 = c .before .before .before .before .before .before .before .if5 .left in
+    let if6 = c .before .before .before .before .before .if6 .left in
+    let if7 = c .before .before .before .if7 .left in
+    (omega arith, pre0)
+
+itm-same-length-22 : (t : ℕ) → itm-lts.Need-same-length-22 (
+  arm-below t,
+  arm.Post,
+  val-below t,
+  val.Post,
+  fun-below t,
+  fun.Post,
+  cas-below t,
+  cas.Post,
+  exn-below t,
+  exn.Post,
+  stb-below t,
+  stb.Post,
+  sgb-below t,
+  sgb.Post,
+  fct-below t,
+  fct.Post,
+) (itm-at t) itm.Post
+itm-same-length-22 t c =
+    c .before .before .before .before .before .before .fct .kept .1 .1 .1 .0
+
+itm-same-length-23 : (t : ℕ) → itm-lts.Need-same-length-23 (
+  arm-below t,
+  arm.Post,
+  val-below t,
+  val.Post,
+  fun-below t,
+  fun.Post,
+  cas-below t,
+  cas.Post,
+  exn-below t,
+  exn.Post,
+  stb-below t,
+  stb.Post,
+  sgb-below t,
+  sgb.Post,
+  fct-below t,
+  fct.Post,
+) (itm-at t) itm.Post
+itm-same-length-23 t c =
+    c .before .before .before .before .before .before .fct .kept .1 .1 .1 .1 .0
+
+itm-same-length-24 : (t : ℕ) → itm-lts.Need-same-length-24 (
+  arm-below t,
+  arm.Post,
+  val-below t,
+  val.Post,
+  fun-below t,
+  fun.Post,
+  cas-below t,
+  cas.Post,
+  exn-below t,
+  exn.Post,
+  stb-below t,
+  stb.Post,
+  sgb-below t,
+  sgb.Post,
+  fct-below t,
+  fct.Post,
+) (itm-at t) itm.Post
+itm-same-length-24 t c =
+    c .before .before .before .before .before .before .fct .kept .1 .1 .1 .1 .1 .0
+
+itm-returns-8 : (t : ℕ) → itm-lts.Need-returns-8 (
+  arm-below t,
+  arm.Post,
+  val-below t,
+  val.Post,
+  fun-below t,
+  fun.Post,
+  cas-below t,
+  cas.Post,
+  exn-below t,
+  exn.Post,
+  stb-below t,
+  stb.Post,
+  sgb-below t,
+  sgb.Post,
+  fct-below t,
+  fct.Post,
+) (itm-at t) itm.Post
+unfolding decl.manyClosure plan choose chosen
+itm-returns-8 t c =
+    let falls = c .before .before .before .before .before .before .before .before .before .before .before .before .before .before .before .before .before .before .before .before .before .before .before .before .before .before .before .before .before .before .pre .0 in
+    let pre0 = c .before .before .before .before .before .before .before .before .before .before .before .before .before .before .before .before .before .before .before .before .before .before .before .before .before .before .before .before .before .before .pre .1 in
+    let if1 = c .before .before .before .before .before .before .before .before .before .before .before .before .before .before .before .before .before .before .before .before .before .before .if1 .left in
+    let if2 = c .before .before .before .before .before .before .before .before .before .before .before .before .before .before .before .before .before .before .before .before .if2 .left in
+    let if3 = c .before .before .before .before .before .before .before .before .before .before .before .before .before .before .before .before .before .before .if3 .left in
+    let if4 = c .before .before .before .before .before .before .before .before .before .before .before .before .before .before .before .before .if4 .left in
+    let if5 = c .before .before .before .before .before .before .before .before .before .before .before .before .before .before .if5 .left in
+    let if6 = c .before .before .before .before .before .before .before .before .before .before .before .before .if6 .left in
+    let if7 = c .before .before .before .before .before .before .before .before .before .before .if7 .left in
+    let fct = c .before .before .before .before .before .before .fct .ensures in
+    by-steps pre0 (λ b. s-second _ _ _ _ _ _ (ne-eqb _ _ if1) (s-second _ _ _ _ _ _ (ne-eqb _ _ if2) (s-second _ _ _ _ _ _ (ne-eqb _ _ if3) (s-second _ _ _ _ _ _ (ne-eqb _ _ if4) (s-second _ _ _ _ _ _ (ne-eqb _ _ if5) (s-second _ _ _ _ _ _ (ne-eqb _ _ if6) (s-second _ _ _ _ _ _ (ne-eqb _ _ if7) (s-by _ (runs-in fct) s-end))))))))
+
+key-mat-requires : (t : ℕ) → key-lts.Need-mat-requires (
+  mat-below t,
+  mat.Post,
+  close-reads.Asked,
+  close-reads.Learnt,
+  exp-below t,
+  exp.Post,
+  want-reads.Asked,
+  want-reads.Learnt,
+) (key-at t) key.Post
+key-mat-requires t c κs =
+    let falls = c .before .before .before .before .before .before .before .before .before .before .pre .0 in
+    let pre0 = c .before .before .before .before .before .before .before .before .before .before .pre .1 .0 in
+    let pre1 = c .before .before .before .before .before .before .before .before .before .before .pre .1 .1 in
+    let if1 = c .before .before .before .if1 .taken in
+    (omega arith, pre0)
+
+key-close-requires : (t : ℕ) → key-lts.Need-close-requires (
+  mat-below t,
+  mat.Post,
+  close-reads.Asked,
+  close-reads.Learnt,
+  exp-below t,
+  exp.Post,
+  want-reads.Asked,
+  want-reads.Learnt,
+) (key-at t) key.Post
+key-close-requires t c κs =
+    let pre1 = c .before .before .before .before .before .before .before .before .before .before .before .before .before .before .before .before .before .before .pre .1 .1 in
+    let mat = c .before .before .before .before .before .before .before .mat .ensures in
+    let mat-ok = mat .ok in
+    (mat-ok .logs, pre1)
+
+key-same-length : (t : ℕ) → key-lts.Need-same-length (
+  mat-below t,
+  mat.Post,
+  close-reads.Asked,
+  close-reads.Learnt,
+  exp-below t,
+  exp.Post,
+  want-reads.Asked,
+  want-reads.Learnt,
+) (key-at t) key.Post
+key-same-length t c =
+    c .before .before .before .before .before .before .before .before .before .before .mat .kept .1 .1 .1 .0
+
+key-same-length-2 : (t : ℕ) → key-lts.Need-same-length-2 (
+  mat-below t,
+  mat.Post,
+  close-reads.Asked,
+  close-reads.Learnt,
+  exp-below t,
+  exp.Post,
+  want-reads.Asked,
+  want-reads.Learnt,
+) (key-at t) key.Post
+key-same-length-2 t c =
+    c .before .before .close .kept .0 ∙ c .before .before .before .before .before .before .before .before .before .before .mat .kept .1 .1 .1 .1 .0
+
+key-same-length-3 : (t : ℕ) → key-lts.Need-same-length-3 (
+  mat-below t,
+  mat.Post,
+  close-reads.Asked,
+  close-reads.Learnt,
+  exp-below t,
+  exp.Post,
+  want-reads.Asked,
+  want-reads.Learnt,
+) (key-at t) key.Post
+key-same-length-3 t c =
+    c .before .before .before .before .before .before .before .before .before .before .mat .kept .1 .1 .1 .1 .1 .0
+
+key-returns : (t : ℕ) → key-lts.Need-returns (
+  mat-below t,
+  mat.Post,
+  close-reads.Asked,
+  close-reads.Learnt,
+  exp-below t,
+  exp.Post,
+  want-reads.Asked,
+  want-reads.Learnt,
+) (key-at t) key.Post
+unfolding expr.keyed plan choose chosen
+key-returns t c =
+    let falls = c .before .before .before .before .before .before .before .before .before .before .before .before .before .before .before .before .before .before .before .before .before .pre .0 in
+    let pre0 = c .before .before .before .before .before .before .before .before .before .before .before .before .before .before .before .before .before .before .before .before .before .pre .1 .0 in
+    let pre1 = c .before .before .before .before .before .before .before .before .before .before .before .before .before .before .before .before .before .before .before .before .before .pre .1 .1 in
+    let if1 = c .before .before .before .before .before .before .before .before .before .before .before .before .before .before .if1 .taken in
+    let mat = c .before .before .before .before .before .before .before .before .before .before .mat .ensures in
+    let close = c .before .before .close .ensures in
+    in-steps pre0 (s-true _ _ (kind-is if1) (s-by _ (runs-in mat) (s-close close s-end)))
+
+key-exp-requires : (t : ℕ) → key-lts.Need-exp-requires (
+  mat-below t,
+  mat.Post,
+  close-reads.Asked,
+  close-reads.Learnt,
+  exp-below t,
+  exp.Post,
+  want-reads.Asked,
+  want-reads.Learnt,
+) (key-at t) key.Post
+key-exp-requires t c κs =
+    let falls = c .before .before .before .before .before .before .before .before .before .before .pre .0 in
+    let pre0 = c .before .before .before .before .before .before .before .before .before .before .pre .1 .0 in
+    let pre1 = c .before .before .before .before .before .before .before .before .before .before .pre .1 .1 in
+    let if1 = c .before .before .before .if1 .left in
+    (omega arith, pre0)
+
+key-close-requires-2 : (t : ℕ) → key-lts.Need-close-requires-2 (
+  mat-below t,
+  mat.Post,
+  close-reads.Asked,
+  close-reads.Learnt,
+  exp-below t,
+  exp.Post,
+  want-reads.Asked,
+  want-reads.Learnt,
+) (key-at t) key.Post
+key-close-requires-2 t c κs =
+    let pre1 = c .before .before .before .before .before .before .before .before .before .before .before .before .before .before .before .before .before .before .before .pre .1 .1 in
+    let exp = c .before .before .before .before .before .before .before .before .exp .ensures in
+    let exp-ok = exp .ok in
+    (exp-ok .logs, pre1)
+
+key-same-length-4 : (t : ℕ) → key-lts.Need-same-length-4 (
+  mat-below t,
+  mat.Post,
+  close-reads.Asked,
+  close-reads.Learnt,
+  exp-below t,
+  exp.Post,
+  want-reads.Asked,
+  want-reads.Learnt,
+) (key-at t) key.Post
+key-same-length-4 t c =
+    c .before .before .before .before .before .before .before .before .before .before .before .exp .kept .1 .1 .1 .0
+
+key-same-length-5 : (t : ℕ) → key-lts.Need-same-length-5 (
+  mat-below t,
+  mat.Post,
+  close-reads.Asked,
+  close-reads.Learnt,
+  exp-below t,
+  exp.Post,
+  want-reads.Asked,
+  want-reads.Learnt,
+) (key-at t) key.Post
+key-same-length-5 t c =
+    c .before .before .close2 .kept .0 ∙ c .before .before .before .before .before .before .before .before .before .before .before .exp .kept .1 .1 .1 .1 .0
+
+key-same-length-6 : (t : ℕ) → key-lts.Need-same-length-6 (
+  mat-below t,
+  mat.Post,
+  close-reads.Asked,
+  close-reads.Learnt,
+  exp-below t,
+  exp.Post,
+  want-reads.Asked,
+  want-reads.Learnt,
+) (key-at t) key.Post
+key-same-length-6 t c =
+    c .before .before .before .before .before .before .before .before .before .before .before .exp .kept .1 .1 .1 .1 .1 .0
+
+key-returns-2 : (t : ℕ) → key-lts.Need-returns-2 (
+  mat-below t,
+  mat.Post,
+  close-reads.Asked,
+  close-reads.Learnt,
+  exp-below t,
+  exp.Post,
+  want-reads.Asked,
+  want-reads.Learnt,
+) (key-at t) key.Post
+unfolding expr.keyed plan choose chosen
+key-returns-2 t c =
+    let falls = c .before .before .before .before .before .before .before .before .before .before .before .before .before .before .before .before .before .before .before .before .before .before .pre .0 in
+    let pre0 = c .before .before .before .before .before .before .before .before .before .before .before .before .before .before .before .before .before .before .before .before .before .before .pre .1 .0 in
+    let pre1 = c .before .before .before .before .before .before .before .before .before .before .before .before .before .before .before .before .before .before .before .before .before .before .pre .1 .1 in
+    let if1 = c .before .before .before .before .before .before .before .before .before .before .before .before .before .before .before .if1 .left in
+    let exp = c .before .before .before .before .before .before .before .before .before .before .before .exp .ensures in
+    let if2 = c .before .before .before .before .if2 .taken in
+    let close2 = c .before .before .close2 .ensures in
+    in-steps pre0 (s-false _ _ (kind-not if1) (s-by _ (runs-in exp) (s-true _ _ (kind-is if2) (s-close close2 s-end))))
+
+key-want-requires : (t : ℕ) → key-lts.Need-want-requires (
+  mat-below t,
+  mat.Post,
+  close-reads.Asked,
+  close-reads.Learnt,
+  exp-below t,
+  exp.Post,
+  want-reads.Asked,
+  want-reads.Learnt,
+) (key-at t) key.Post
+key-want-requires t c κs =
+    let falls = c .before .before .before .before .before .before .before .before .before .before .before .before .before .before .before .before .before .before .before .before .before .before .pre .0 in
+    let pre1 = c .before .before .before .before .before .before .before .before .before .before .before .before .before .before .before .before .before .before .before .before .before .before .pre .1 .1 in
+    let if1 = c .before .before .before .before .before .before .before .before .before .before .before .before .before .before .before .if1 .left in
+    let exp = c .before .before .before .before .before .before .before .before .before .before .before .exp .ensures in
+    let exp-ok = exp .ok in
+    let if2 = c .before .before .before .before .if2 .left in
+    let if3 = c .before .before .before .if3 .taken in
+    (exp-ok, omega arith)
+
+key-exp-requires-2 : (t : ℕ) → key-lts.Need-exp-requires-2 (
+  mat-below t,
+  mat.Post,
+  close-reads.Asked,
+  close-reads.Learnt,
+  exp-below t,
+  exp.Post,
+  want-reads.Asked,
+  want-reads.Learnt,
+) (key-at t) key.Post
+key-exp-requires-2 t c κs =
+    let falls = c .before .before .before .before .before .before .before .before .before .before .before .before .before .before .before .before .before .before .before .before .before .before .before .before .before .before .before .before .before .before .pre .0 in
+    let pre1 = c .before .before .before .before .before .before .before .before .before .before .before .before .before .before .before .before .before .before .before .before .before .before .before .before .before .before .before .before .before .before .pre .1 .1 in
+    let if1 = c .before .before .before .before .before .before .before .before .before .before .before .before .before .before .before .before .before .before .before .before .before .before .before .if1 .left in
+    let if2 = c .before .before .before .before .before .before .before .before .before .before .before .before .if2 .left in
+    let if3 = c .before .before .before .before .before .before .before .before .before .before .before .if3 .taken in
+    let want = c .before .before .before .before .before .before .before .want .ensures in
+    let want-ok = want .ok in
+    (omega arith, want-ok)
+
+key-want-requires-2 : (t : ℕ) → key-lts.Need-want-requires-2 (
+  mat-below t,
+  mat.Post,
+  close-reads.Asked,
+  close-reads.Learnt,
+  exp-below t,
+  exp.Post,
+  want-reads.Asked,
+  want-reads.Learnt,
+) (key-at t) key.Post
+key-want-requires-2 t c κs =
+    let falls = c .before .before .before .before .before .before .before .before .before .before .before .before .before .before .before .before .before .before .before .before .before .before .before .before .before .before .before .before .before .before .before .before .before .before .before .before .before .before .before .before .pre .0 in
+    let pre1 = c .before .before .before .before .before .before .before .before .before .before .before .before .before .before .before .before .before .before .before .before .before .before .before .before .before .before .before .before .before .before .before .before .before .before .before .before .before .before .before .before .pre .1 .1 in
+    let if1 = c .before .before .before .before .before .before .before .before .before .before .before .before .before .before .before .before .before .before .before .before .before .before .before .before .before .before .before .before .before .before .before .before .before .if1 .left in
+    let if2 = c .before .before .before .before .before .before .before .before .before .before .before .before .before .before .before .before .before .before .before .before .before .before .if2 .left in
+    let if3 = c .before .before .before .before .before .before .before .before .before .before .before .before .before .before .before .before .before .before .before .before .before .if3 .taken in
+    let exp2 = c .before .before .before .before .before .before .before .before .before .exp2 .ensures in
+    let exp2-ok = exp2 .ok in
+    (exp2-ok, omega arith)
+
+key-exp-requires-3 : (t : ℕ) → key-lts.Need-exp-requires-3 (
+  mat-below t,
+  mat.Post,
+  close-reads.Asked,
+  close-reads.Learnt,
+  exp-below t,
+  exp.Post,
+  want-reads.Asked,
+  want-reads.Learnt,
+) (key-at t) key.Post
+key-exp-requires-3 t c κs =
+    let falls = c .before .before .before .before .before .before .before .before .before .before .before .before .before .before .before .before .before .before .before .before .before .before .before .before .before .before .before .before .before .before .before .before .before .before .before .before .before .before .before .before .before .before .before .before .before .before .before .before .pre .0 in
+    let pre1 = c .before .before .before .before .before .before .before .before .before .before .before .before .before .before .before .before .before .before .before .before .before .before .before .before .before .before .before .before .before .before .before .before .before .before .before .before .before .before .before .before .before .before .before .before .before .before .before .before .pre .1 .1 in
+    let if1 = c .before .before .before .before .before .before .before .before .before .before .before .before .before .before .before .before .before .before .before .before .before .before .before .before .before .before .before .before .before .before .before .before .before .before .before .before .before .before .before .before .before .if1 .left in
+    let if2 = c .before .before .before .before .before .before .before .before .before .before .before .before .before .before .before .before .before .before .before .before .before .before .before .before .before .before .before .before .before .before .if2 .left in
+    let if3 = c .before .before .before .before .before .before .before .before .before .before .before .before .before .before .before .before .before .before .before .before .before .before .before .before .before .before .before .before .before .if3 .taken in
+    let want2 = c .before .before .before .before .before .before .before .want2 .ensures in
+    let want2-ok = want2 .ok in
+    (omega arith, want2-ok)
+
+key-close-requires-3 : (t : ℕ) → key-lts.Need-close-requires-3 (
+  mat-below t,
+  mat.Post,
+  close-reads.Asked,
+  close-reads.Learnt,
+  exp-below t,
+  exp.Post,
+  want-reads.Asked,
+  want-reads.Learnt,
+) (key-at t) key.Post
+key-close-requires-3 t c κs =
+    let pre1 = c .before .before .before .before .before .before .before .before .before .before .before .before .before .before .before .before .before .before .before .before .before .before .before .before .before .before .before .before .before .before .before .before .before .before .before .before .before .before .before .before .before .before .before .before .before .before .before .before .before .before .before .before .before .before .before .before .pre .1 .1 in
+    let exp3 = c .before .before .before .before .before .before .before .exp3 .ensures in
+    let exp3-ok = exp3 .ok in
+    (exp3-ok .logs, pre1)
+
+key-same-length-7 : (t : ℕ) → key-lts.Need-same-length-7 (
+  mat-below t,
+  mat.Post,
+  close-reads.Asked,
+  close-reads.Learnt,
+  exp-below t,
+  exp.Post,
+  want-reads.Asked,
+  want-reads.Learnt,
+) (key-at t) key.Post
+key-same-length-7 t c =
+    c .before .before .before .before .before .before .before .before .before .before .exp3 .kept .1 .1 .1 .0 ∙ c .before .before .before .before .before .before .before .before .before .before .before .before .before .before .before .before .before .before .before .before .before .before .before .before .before .before .before .before .exp2 .kept .1 .1 .1 .0 ∙ c .before .before .before .before .before .before .before .before .before .before .before .before .before .before .before .before .before .before .before .before .before .before .before .before .before .before .before .before .before .before .before .before .before .before .before .before .before .before .before .before .before .before .before .before .before .before .before .before .exp .kept .1 .1 .1 .0
+
+key-same-length-8 : (t : ℕ) → key-lts.Need-same-length-8 (
+  mat-below t,
+  mat.Post,
+  close-reads.Asked,
+  close-reads.Learnt,
+  exp-below t,
+  exp.Post,
+  want-reads.Asked,
+  want-reads.Learnt,
+) (key-at t) key.Post
+key-same-length-8 t c =
+    c .before .before .close3 .kept .0 ∙ c .before .before .before .before .before .before .before .before .before .before .exp3 .kept .1 .1 .1 .1 .0 ∙ c .before .before .before .before .before .before .before .before .before .before .before .before .before .before .before .before .before .before .want2 .kept .1 .1 .1 .1 .0 ∙ c .before .before .before .before .before .before .before .before .before .before .before .before .before .before .before .before .before .before .before .before .before .before .before .before .before .before .before .before .exp2 .kept .1 .1 .1 .1 .0 ∙ c .before .before .before .before .before .before .before .before .before .before .before .before .before .before .before .before .before .before .before .before .before .before .before .before .before .before .before .before .before .before .before .before .before .before .before .before .want .kept .1 .1 .1 .1 .0 ∙ c .before .before .before .before .before .before .before .before .before .before .before .before .before .before .before .before .before .before .before .before .before .before .before .before .before .before .before .before .before .before .before .before .before .before .before .before .before .before .before .before .before .before .before .before .before .before .before .before .exp .kept .1 .1 .1 .1 .0
+
+key-same-length-9 : (t : ℕ) → key-lts.Need-same-length-9 (
+  mat-below t,
+  mat.Post,
+  close-reads.Asked,
+  close-reads.Learnt,
+  exp-below t,
+  exp.Post,
+  want-reads.Asked,
+  want-reads.Learnt,
+) (key-at t) key.Post
+key-same-length-9 t c =
+    c .before .before .before .before .before .before .before .before .before .before .exp3 .kept .1 .1 .1 .1 .1 .0 ∙ c .before .before .before .before .before .before .before .before .before .before .before .before .before .before .before .before .before .before .want2 .kept .1 .1 .1 .1 .1 .0 ∙ c .before .before .before .before .before .before .before .before .before .before .before .before .before .before .before .before .before .before .before .before .before .before .before .before .before .before .before .before .exp2 .kept .1 .1 .1 .1 .1 .0 ∙ c .before .before .before .before .before .before .before .before .before .before .before .before .before .before .before .before .before .before .before .before .before .before .before .before .before .before .before .before .before .before .before .before .before .before .before .before .want .kept .1 .1 .1 .1 .1 .0 ∙ c .before .before .before .before .before .before .before .before .before .before .before .before .before .before .before .before .before .before .before .before .before .before .before .before .before .before .before .before .before .before .before .before .before .before .before .before .before .before .before .before .before .before .before .before .before .before .before .before .exp .kept .1 .1 .1 .1 .1 .0
+
+key-returns-3 : (t : ℕ) → key-lts.Need-returns-3 (
+  mat-below t,
+  mat.Post,
+  close-reads.Asked,
+  close-reads.Learnt,
+  exp-below t,
+  exp.Post,
+  want-reads.Asked,
+  want-reads.Learnt,
+) (key-at t) key.Post
+unfolding expr.keyed plan choose chosen
+key-returns-3 t c =
+    let falls = c .before .before .before .before .before .before .before .before .before .before .before .before .before .before .before .before .before .before .before .before .before .before .before .before .before .before .before .before .before .before .before .before .before .before .before .before .before .before .before .before .before .before .before .before .before .before .before .before .before .before .before .before .before .before .before .before .before .before .before .pre .0 in
+    let pre0 = c .before .before .before .before .before .before .before .before .before .before .before .before .before .before .before .before .before .before .before .before .before .before .before .before .before .before .before .before .before .before .before .before .before .before .before .before .before .before .before .before .before .before .before .before .before .before .before .before .before .before .before .before .before .before .before .before .before .before .before .pre .1 .0 in
+    let pre1 = c .before .before .before .before .before .before .before .before .before .before .before .before .before .before .before .before .before .before .before .before .before .before .before .before .before .before .before .before .before .before .before .before .before .before .before .before .before .before .before .before .before .before .before .before .before .before .before .before .before .before .before .before .before .before .before .before .before .before .before .pre .1 .1 in
+    let if1 = c .before .before .before .before .before .before .before .before .before .before .before .before .before .before .before .before .before .before .before .before .before .before .before .before .before .before .before .before .before .before .before .before .before .before .before .before .before .before .before .before .before .before .before .before .before .before .before .before .before .before .before .before .if1 .left in
+    let exp = c .before .before .before .before .before .before .before .before .before .before .before .before .before .before .before .before .before .before .before .before .before .before .before .before .before .before .before .before .before .before .before .before .before .before .before .before .before .before .before .before .before .before .before .before .before .before .before .before .exp .ensures in
+    let if2 = c .before .before .before .before .before .before .before .before .before .before .before .before .before .before .before .before .before .before .before .before .before .before .before .before .before .before .before .before .before .before .before .before .before .before .before .before .before .before .before .before .before .if2 .left in
+    let if3 = c .before .before .before .before .before .before .before .before .before .before .before .before .before .before .before .before .before .before .before .before .before .before .before .before .before .before .before .before .before .before .before .before .before .before .before .before .before .before .before .before .if3 .taken in
+    let want = c .before .before .before .before .before .before .before .before .before .before .before .before .before .before .before .before .before .before .before .before .before .before .before .before .before .before .before .before .before .before .before .before .before .before .before .before .want .ensures in
+    let exp2 = c .before .before .before .before .before .before .before .before .before .before .before .before .before .before .before .before .before .before .before .before .before .before .before .before .before .before .before .before .exp2 .ensures in
+    let want2 = c .before .before .before .before .before .before .before .before .before .before .before .before .before .before .before .before .before .before .want2 .ensures in
+    let exp3 = c .before .before .before .before .before .before .before .before .before .before .exp3 .ensures in
+    let close3 = c .before .before .close3 .ensures in
+    in-steps pre0 (s-false _ _ (kind-not if1) (s-by _ (runs-in exp) (s-false _ _ (kind-not if2) (s-true _ _ (kind-is if3) (s-by _ (runs-always want) (s-by _ (runs-in exp2) (s-by _ (runs-always want2) (s-by _ (runs-in exp3) (s-close close3 s-end)))))))))
+
+key-want-requires-3 : (t : ℕ) → key-lts.Need-want-requires-3 (
+  mat-below t,
+  mat.Post,
+  close-reads.Asked,
+  close-reads.Learnt,
+  exp-below t,
+  exp.Post,
+  want-reads.Asked,
+  want-reads.Learnt,
+) (key-at t) key.Post
+key-want-requires-3 t c κs =
+    let falls = c .before .before .before .before .before .before .before .before .before .before .before .before .before .before .before .before .before .before .before .before .before .before .before .pre .0 in
+    let pre1 = c .before .before .before .before .before .before .before .before .before .before .before .before .before .before .before .before .before .before .before .before .before .before .before .pre .1 .1 in
+    let if1 = c .before .before .before .before .before .before .before .before .before .before .before .before .before .before .before .before .if1 .left in
+    let exp = c .before .before .before .before .before .before .before .before .before .before .before .before .exp .ensures in
+    let exp-ok = exp .ok in
+    let if2 = c .before .before .before .before .before .if2 .left in
+    let if3 = c .before .before .before .before .if3 .left in
+    let if4 = c .before .before .before .if4 .taken in
+    (exp-ok, omega arith)
+
+key-exp-requires-4 : (t : ℕ) → key-lts.Need-exp-requires-4 (
+  mat-below t,
+  mat.Post,
+  close-reads.Asked,
+  close-reads.Learnt,
+  exp-below t,
+  exp.Post,
+  want-reads.Asked,
+  want-reads.Learnt,
+) (key-at t) key.Post
+key-exp-requires-4 t c κs =
+    let falls = c .before .before .before .before .before .before .before .before .before .before .before .before .before .before .before .before .before .before .before .before .before .before .before .before .before .before .before .before .before .before .before .pre .0 in
+    let pre1 = c .before .before .before .before .before .before .before .before .before .before .before .before .before .before .before .before .before .before .before .before .before .before .before .before .before .before .before .before .before .before .before .pre .1 .1 in
+    let if1 = c .before .before .before .before .before .before .before .before .before .before .before .before .before .before .before .before .before .before .before .before .before .before .before .before .if1 .left in
+    let if2 = c .before .before .before .before .before .before .before .before .before .before .before .before .before .if2 .left in
+    let if3 = c .before .before .before .before .before .before .before .before .before .before .before .before .if3 .left in
+    let if4 = c .before .before .before .before .before .before .before .before .before .before .before .if4 .taken in
+    let want3 = c .before .before .before .before .before .before .before .want3 .ensures in
+    let want3-ok = want3 .ok in
+    (omega arith, want3-ok)
+
+key-close-requires-4 : (t : ℕ) → key-lts.Need-close-requires-4 (
+  mat-below t,
+  mat.Post,
+  close-reads.Asked,
+  close-reads.Learnt,
+  exp-below t,
+  exp.Post,
+  want-reads.Asked,
+  want-reads.Learnt,
+) (key-at t) key.Post
+key-close-requires-4 t c κs =
+    let pre1 = c .before .before .before .before .before .before .before .before .before .before .before .before .before .before .before .before .before .before .before .before .before .before .before .before .before .before .before .before .before .before .before .before .before .before .before .before .before .before .before .pre .1 .1 in
+    let exp4 = c .before .before .before .before .before .before .before .exp4 .ensures in
+    let exp4-ok = exp4 .ok in
+    (exp4-ok .logs, pre1)
+
+key-same-length-10 : (t : ℕ) → key-lts.Need-same-length-10 (
+  mat-below t,
+  mat.Post,
+  close-reads.Asked,
+  close-reads.Learnt,
+  exp-below t,
+  exp.Post,
+  want-reads.Asked,
+  want-reads.Learnt,
+) (key-at t) key.Post
+key-same-length-10 t c =
+    c .before .before .before .before .before .before .before .before .before .before .exp4 .kept .1 .1 .1 .0 ∙ c .before .before .before .before .before .before .before .before .before .before .before .before .before .before .before .before .before .before .before .before .before .before .before .before .before .before .before .before .before .before .before .exp .kept .1 .1 .1 .0
+
+key-same-length-11 : (t : ℕ) → key-lts.Need-same-length-11 (
+  mat-below t,
+  mat.Post,
+  close-reads.Asked,
+  close-reads.Learnt,
+  exp-below t,
+  exp.Post,
+  want-reads.Asked,
+  want-reads.Learnt,
+) (key-at t) key.Post
+key-same-length-11 t c =
+    c .before .before .close4 .kept .0 ∙ c .before .before .before .before .before .before .before .before .before .before .exp4 .kept .1 .1 .1 .1 .0 ∙ c .before .before .before .before .before .before .before .before .before .before .before .before .before .before .before .before .before .before .want3 .kept .1 .1 .1 .1 .0 ∙ c .before .before .before .before .before .before .before .before .before .before .before .before .before .before .before .before .before .before .before .before .before .before .before .before .before .before .before .before .before .before .before .exp .kept .1 .1 .1 .1 .0
+
+key-same-length-12 : (t : ℕ) → key-lts.Need-same-length-12 (
+  mat-below t,
+  mat.Post,
+  close-reads.Asked,
+  close-reads.Learnt,
+  exp-below t,
+  exp.Post,
+  want-reads.Asked,
+  want-reads.Learnt,
+) (key-at t) key.Post
+key-same-length-12 t c =
+    c .before .before .before .before .before .before .before .before .before .before .exp4 .kept .1 .1 .1 .1 .1 .0 ∙ c .before .before .before .before .before .before .before .before .before .before .before .before .before .before .before .before .before .before .want3 .kept .1 .1 .1 .1 .1 .0 ∙ c .before .before .before .before .before .before .before .before .before .before .before .before .before .before .before .before .before .before .before .before .before .before .before .before .before .before .before .before .before .before .before .exp .kept .1 .1 .1 .1 .1 .0
+
+key-returns-4 : (t : ℕ) → key-lts.Need-returns-4 (
+  mat-below t,
+  mat.Post,
+  close-reads.Asked,
+  close-reads.Learnt,
+  exp-below t,
+  exp.Post,
+  want-reads.Asked,
+  want-reads.Learnt,
+) (key-at t) key.Post
+unfolding expr.keyed plan choose chosen
+key-returns-4 t c =
+    let falls = c .before .before .before .before .before .before .before .before .before .before .before .before .before .before .before .before .before .before .before .before .before .before .before .before .before .before .before .before .before .before .before .before .before .before .before .before .before .before .before .before .before .before .pre .0 in
+    let pre0 = c .before .before .before .before .before .before .before .before .before .before .before .before .before .before .before .before .before .before .before .before .before .before .before .before .before .before .before .before .before .before .before .before .before .before .before .before .before .before .before .before .before .before .pre .1 .0 in
+    let pre1 = c .before .before .before .before .before .before .before .before .before .before .before .before .before .before .before .before .before .before .before .before .before .before .before .before .before .before .before .before .before .before .before .before .before .before .before .before .before .before .before .before .before .before .pre .1 .1 in
+    let if1 = c .before .before .before .before .before .before .before .before .before .before .before .before .before .before .before .before .before .before .before .before .before .before .before .before .before .before .before .before .before .before .before .before .before .before .before .if1 .left in
+    let exp = c .before .before .before .before .before .before .before .before .before .before .before .before .before .before .before .before .before .before .before .before .before .before .before .before .before .before .before .before .before .before .before .exp .ensures in
+    let if2 = c .before .before .before .before .before .before .before .before .before .before .before .before .before .before .before .before .before .before .before .before .before .before .before .before .if2 .left in
+    let if3 = c .before .before .before .before .before .before .before .before .before .before .before .before .before .before .before .before .before .before .before .before .before .before .before .if3 .left in
+    let if4 = c .before .before .before .before .before .before .before .before .before .before .before .before .before .before .before .before .before .before .before .before .before .before .if4 .taken in
+    let want3 = c .before .before .before .before .before .before .before .before .before .before .before .before .before .before .before .before .before .before .want3 .ensures in
+    let exp4 = c .before .before .before .before .before .before .before .before .before .before .exp4 .ensures in
+    let close4 = c .before .before .close4 .ensures in
+    in-steps pre0 (s-false _ _ (kind-not if1) (s-by _ (runs-in exp) (s-false _ _ (kind-not if2) (s-false _ _ (kind-not if3) (s-true _ _ (kind-is if4) (s-by _ (runs-always want3) (s-by _ (runs-in exp4) (s-close close4 s-end))))))))
+
+key-want-requires-4 : (t : ℕ) → key-lts.Need-want-requires-4 (
+  mat-below t,
+  mat.Post,
+  close-reads.Asked,
+  close-reads.Learnt,
+  exp-below t,
+  exp.Post,
+  want-reads.Asked,
+  want-reads.Learnt,
+) (key-at t) key.Post
+key-want-requires-4 t c κs =
+    let falls = c .before .before .before .before .before .before .before .before .before .before .before .before .before .before .before .before .before .before .before .before .before .before .before .pre .0 in
+    let pre1 = c .before .before .before .before .before .before .before .before .before .before .before .before .before .before .before .before .before .before .before .before .before .before .before .pre .1 .1 in
+    let if1 = c .before .before .before .before .before .before .before .before .before .before .before .before .before .before .before .before .if1 .left in
+    let exp = c .before .before .before .before .before .before .before .before .before .before .before .before .exp .ensures in
+    let exp-ok = exp .ok in
+    let if2 = c .before .before .before .before .before .if2 .left in
+    let if3 = c .before .before .before .before .if3 .left in
+    let if4 = c .before .before .before .if4 .left in
+    (exp-ok, omega arith)
+
+key-mat-requires-2 : (t : ℕ) → key-lts.Need-mat-requires-2 (
+  mat-below t,
+  mat.Post,
+  close-reads.Asked,
+  close-reads.Learnt,
+  exp-below t,
+  exp.Post,
+  want-reads.Asked,
+  want-reads.Learnt,
+) (key-at t) key.Post
+key-mat-requires-2 t c κs =
+    let falls = c .before .before .before .before .before .before .before .before .before .before .before .before .before .before .before .before .before .before .before .before .before .before .before .before .before .before .before .before .before .before .before .pre .0 in
+    let pre1 = c .before .before .before .before .before .before .before .before .before .before .before .before .before .before .before .before .before .before .before .before .before .before .before .before .before .before .before .before .before .before .before .pre .1 .1 in
+    let if1 = c .before .before .before .before .before .before .before .before .before .before .before .before .before .before .before .before .before .before .before .before .before .before .before .before .if1 .left in
+    let if2 = c .before .before .before .before .before .before .before .before .before .before .before .before .before .if2 .left in
+    let if3 = c .before .before .before .before .before .before .before .before .before .before .before .before .if3 .left in
+    let if4 = c .before .before .before .before .before .before .before .before .before .before .before .if4 .left in
+    let want4 = c .before .before .before .before .before .before .before .want4 .ensures in
+    let want4-ok = want4 .ok in
+    (omega arith, want4-ok)
+
+key-close-requires-5 : (t : ℕ) → key-lts.Need-close-requires-5 (
+  mat-below t,
+  mat.Post,
+  close-reads.Asked,
+  close-reads.Learnt,
+  exp-below t,
+  exp.Post,
+  want-reads.Asked,
+  want-reads.Learnt,
+) (key-at t) key.Post
+key-close-requires-5 t c κs =
+    let pre1 = c .before .before .before .before .before .before .before .before .before .before .before .before .before .before .before .before .before .before .before .before .before .before .before .before .before .before .before .before .before .before .before .before .before .before .before .before .before .before .before .pre .1 .1 in
+    let mat2 = c .before .before .before .before .before .before .before .mat2 .ensures in
+    let mat2-ok = mat2 .ok in
+    (mat2-ok .logs, pre1)
+
+key-same-length-13 : (t : ℕ) → key-lts.Need-same-length-13 (
+  mat-below t,
+  mat.Post,
+  close-reads.Asked,
+  close-reads.Learnt,
+  exp-below t,
+  exp.Post,
+  want-reads.Asked,
+  want-reads.Learnt,
+) (key-at t) key.Post
+key-same-length-13 t c =
+    c .before .before .before .before .before .before .before .before .before .before .mat2 .kept .1 .1 .1 .0 ∙ c .before .before .before .before .before .before .before .before .before .before .before .before .before .before .before .before .before .before .before .before .before .before .before .before .before .before .before .before .before .before .before .exp .kept .1 .1 .1 .0
+
+key-same-length-14 : (t : ℕ) → key-lts.Need-same-length-14 (
+  mat-below t,
+  mat.Post,
+  close-reads.Asked,
+  close-reads.Learnt,
+  exp-below t,
+  exp.Post,
+  want-reads.Asked,
+  want-reads.Learnt,
+) (key-at t) key.Post
+key-same-length-14 t c =
+    c .before .before .close5 .kept .0 ∙ c .before .before .before .before .before .before .before .before .before .before .mat2 .kept .1 .1 .1 .1 .0 ∙ c .before .before .before .before .before .before .before .before .before .before .before .before .before .before .before .before .before .before .want4 .kept .1 .1 .1 .1 .0 ∙ c .before .before .before .before .before .before .before .before .before .before .before .before .before .before .before .before .before .before .before .before .before .before .before .before .before .before .before .before .before .before .before .exp .kept .1 .1 .1 .1 .0
+
+key-same-length-15 : (t : ℕ) → key-lts.Need-same-length-15 (
+  mat-below t,
+  mat.Post,
+  close-reads.Asked,
+  close-reads.Learnt,
+  exp-below t,
+  exp.Post,
+  want-reads.Asked,
+  want-reads.Learnt,
+) (key-at t) key.Post
+key-same-length-15 t c =
+    c .before .before .before .before .before .before .before .before .before .before .mat2 .kept .1 .1 .1 .1 .1 .0 ∙ c .before .before .before .before .before .before .before .before .before .before .before .before .before .before .before .before .before .before .want4 .kept .1 .1 .1 .1 .1 .0 ∙ c .before .before .before .before .before .before .before .before .before .before .before .before .before .before .before .before .before .before .before .before .before .before .before .before .before .before .before .before .before .before .before .exp .kept .1 .1 .1 .1 .1 .0
+
+key-returns-5 : (t : ℕ) → key-lts.Need-returns-5 (
+  mat-below t,
+  mat.Post,
+  close-reads.Asked,
+  close-reads.Learnt,
+  exp-below t,
+  exp.Post,
+  want-reads.Asked,
+  want-reads.Learnt,
+) (key-at t) key.Post
+unfolding expr.keyed plan choose chosen
+key-returns-5 t c =
+    let falls = c .before .before .before .before .before .before .before .before .before .before .before .before .before .before .before .before .before .before .before .before .before .before .before .before .before .before .before .before .before .before .before .before .before .before .before .before .before .before .before .before .before .before .pre .0 in
+    let pre0 = c .before .before .before .before .before .before .before .before .before .before .before .before .before .before .before .before .before .before .before .before .before .before .before .before .before .before .before .before .before .before .before .before .before .before .before .before .before .before .before .before .before .before .pre .1 .0 in
+    let pre1 = c .before .before .before .before .before .before .before .before .before .before .before .before .before .before .before .before .before .before .before .before .before .before .before .before .before .before .before .before .before .before .before .before .before .before .before .before .before .before .before .before .before .before .pre .1 .1 in
+    let if1 = c .before .before .before .before .before .before .before .before .before .before .before .before .before .before .before .before .before .before .before .before .before .before .before .before .before .before .before .before .before .before .before .before .before .before .before .if1 .left in
+    let exp = c .before .before .before .before .before .before .before .before .before .before .before .before .before .before .before .before .before .before .before .before .before .before .before .before .before .before .before .before .before .before .before .exp .ensures in
+    let if2 = c .before .before .before .before .before .before .before .before .before .before .before .before .before .before .before .before .before .before .before .before .before .before .before .before .if2 .left in
+    let if3 = c .before .before .before .before .before .before .before .before .before .before .before .before .before .before .before .before .before .before .before .before .before .before .before .if3 .left in
+    let if4 = c .before .before .before .before .before .before .before .before .before .before .before .before .before .before .before .before .before .before .before .before .before .before .if4 .left in
+    let want4 = c .before .before .before .before .before .before .before .before .before .before .before .before .before .before .before .before .before .before .want4 .ensures in
+    let mat2 = c .before .before .before .before .before .before .before .before .before .before .mat2 .ensures in
+    let close5 = c .before .before .close5 .ensures in
+    in-steps pre0 (s-false _ _ (kind-not if1) (s-by _ (runs-in exp) (s-false _ _ (kind-not if2) (s-false _ _ (kind-not if3) (s-false _ _ (kind-not if4) (s-by _ (runs-always want4) (s-by _ (runs-in mat2) (s-close close5 s-end))))))))
+
+lex-bump-requires : (t : ℕ) → lex-lts.Need-bump-requires (
+  bump-reads.Asked,
+  bump-reads.Learnt,
+  bdy-below t,
+  bdy.Post,
+  give-back-reads.Asked,
+  give-back-reads.Learnt,
+  close-reads.Asked,
+  close-reads.Learnt,
+) (lex-at t) lex.Post
+lex-bump-requires t c κs =
+    let pre0 = c .before .before .before .before .before .before .before .pre .1 .0 in
+    (pre0 .reads, pre0 .logs)
+
+lex-bdy-requires : (t : ℕ) → lex-lts.Need-bdy-requires (
+  bump-reads.Asked,
+  bump-reads.Learnt,
+  bdy-below t,
+  bdy.Post,
+  give-back-reads.Asked,
+  give-back-reads.Learnt,
+  close-reads.Asked,
+  close-reads.Learnt,
+) (lex-at t) lex.Post
+lex-bdy-requires t c κs =
+    let falls = c .before .before .before .before .before .before .before .before .before .before .before .before .before .pre .0 in
+    let pre0 = c .before .before .before .before .before .before .before .before .before .before .before .before .before .pre .1 .0 in
+    let pre1 = c .before .before .before .before .before .before .before .before .before .before .before .before .before .pre .1 .1 in
+    let bump = c .before .before .before .before .before .bump .ensures in
+    let bump-ok = ok-bumps bump pre0 in
+    (omega arith, bump-ok)
+
+lex-give-back-requires : (t : ℕ) → lex-lts.Need-give-back-requires (
+  bump-reads.Asked,
+  bump-reads.Learnt,
+  bdy-below t,
+  bdy.Post,
+  give-back-reads.Asked,
+  give-back-reads.Learnt,
+  close-reads.Asked,
+  close-reads.Learnt,
+) (lex-at t) lex.Post
+lex-give-back-requires t c κs =
+    tt
+
+lex-close-requires : (t : ℕ) → lex-lts.Need-close-requires (
+  bump-reads.Asked,
+  bump-reads.Learnt,
+  bdy-below t,
+  bdy.Post,
+  give-back-reads.Asked,
+  give-back-reads.Learnt,
+  close-reads.Asked,
+  close-reads.Learnt,
+) (lex-at t) lex.Post
+lex-close-requires t c κs =
+    let pre0 = c .before .before .before .before .before .before .before .before .before .before .before .before .before .before .before .before .before .before .before .before .before .before .pre .1 .0 in
+    let pre1 = c .before .before .before .before .before .before .before .before .before .before .before .before .before .before .before .before .before .before .before .before .before .before .pre .1 .1 in
+    let bump = c .before .before .before .before .before .before .before .before .before .before .before .before .before .before .bump .ensures in
+    let bump-ok = ok-bumps bump pre0 in
+    let bdy = c .before .before .before .before .before .before .before .before .bdy .ensures in
+    let give-back = c .before .give-back .ensures in
+    let give-back-ok = ok-back bdy give-back bump-ok in
+    (give-back-ok .logs, pre1)
+
+lex-same-length : (t : ℕ) → lex-lts.Need-same-length (
+  bump-reads.Asked,
+  bump-reads.Learnt,
+  bdy-below t,
+  bdy.Post,
+  give-back-reads.Asked,
+  give-back-reads.Learnt,
+  close-reads.Asked,
+  close-reads.Learnt,
+) (lex-at t) lex.Post
+lex-same-length t c =
+    c .before .before .before .before .before .before .before .before .before .before .before .bdy .kept .1 .1 .1 .0
+
+lex-same-length-2 : (t : ℕ) → lex-lts.Need-same-length-2 (
+  bump-reads.Asked,
+  bump-reads.Learnt,
+  bdy-below t,
+  bdy.Post,
+  give-back-reads.Asked,
+  give-back-reads.Learnt,
+  close-reads.Asked,
+  close-reads.Learnt,
+) (lex-at t) lex.Post
+lex-same-length-2 t c =
+    c .before .before .close .kept .0 ∙ c .before .before .before .before .before .before .before .before .before .before .before .bdy .kept .1 .1 .1 .1 .0 ∙ c .before .before .before .before .before .before .before .before .before .before .before .before .before .before .before .before .before .bump .kept .1 .0
+
+lex-same-length-3 : (t : ℕ) → lex-lts.Need-same-length-3 (
+  bump-reads.Asked,
+  bump-reads.Learnt,
+  bdy-below t,
+  bdy.Post,
+  give-back-reads.Asked,
+  give-back-reads.Learnt,
+  close-reads.Asked,
+  close-reads.Learnt,
+) (lex-at t) lex.Post
+lex-same-length-3 t c =
+    c .before .before .before .before .before .before .before .before .before .before .before .bdy .kept .1 .1 .1 .1 .1 .0
+
+lex-returns : (t : ℕ) → lex-lts.Need-returns (
+  bump-reads.Asked,
+  bump-reads.Learnt,
+  bdy-below t,
+  bdy.Post,
+  give-back-reads.Asked,
+  give-back-reads.Learnt,
+  close-reads.Asked,
+  close-reads.Learnt,
+) (lex-at t) lex.Post
+unfolding expr.letExp plan choose chosen
+lex-returns t c =
+    let falls = c .before .before .before .before .before .before .before .before .before .before .before .before .before .before .before .before .before .before .before .before .before .before .before .before .before .pre .0 in
+    let pre0 = c .before .before .before .before .before .before .before .before .before .before .before .before .before .before .before .before .before .before .before .before .before .before .before .before .before .pre .1 .0 in
+    let pre1 = c .before .before .before .before .before .before .before .before .before .before .before .before .before .before .before .before .before .before .before .before .before .before .before .before .before .pre .1 .1 in
+    let bump = c .before .before .before .before .before .before .before .before .before .before .before .before .before .before .before .before .before .bump .ensures in
+    let bdy = c .before .before .before .before .before .before .before .before .before .before .before .bdy .ensures in
+    let give-back = c .before .before .before .before .give-back .ensures in
+    let close = c .before .before .close .ensures in
+    in-steps pre0 (s-bump bump (s-scoped bdy give-back (s-close close s-end)))
+
+loc-refuse-requires : (t : ℕ) → loc-lts.Need-refuse-requires (
+  refuse-reads.Asked,
+  refuse-reads.Learnt,
+  end-below t,
+  end.Post,
+  mark-reads.Asked,
+  mark-reads.Learnt,
+  bump-reads.Asked,
+  bump-reads.Learnt,
+  dec-below t,
+  dec.Post,
+  state-reads.Asked,
+  state-reads.Learnt,
+  close-reads.Asked,
+  close-reads.Learnt,
+) (loc-at t) loc.Post
+loc-refuse-requires t c κs =
+    tt
+
+loc-end-requires : (t : ℕ) → loc-lts.Need-end-requires (
+  refuse-reads.Asked,
+  refuse-reads.Learnt,
+  end-below t,
+  end.Post,
+  mark-reads.Asked,
+  mark-reads.Learnt,
+  bump-reads.Asked,
+  bump-reads.Learnt,
+  dec-below t,
+  dec.Post,
+  state-reads.Asked,
+  state-reads.Learnt,
+  close-reads.Asked,
+  close-reads.Learnt,
+) (loc-at t) loc.Post
+loc-end-requires t c κs =
+    let falls = c .before .before .before .before .before .before .before .before .before .before .before .pre .0 in
+    let pre0 = c .before .before .before .before .before .before .before .before .before .before .before .pre .1 .0 in
+    let pre1 = c .before .before .before .before .before .before .before .before .before .before .before .pre .1 .1 in
+    let if1 = c .before .before .before .before .if1 .taken in
+    let refuse = c .before .before .before .refuse .ensures in
+    let refuse-ok = ok-refused _ refuse pre0 in
+    (omega arith, (refuse-ok, pre1))
+
+loc-same-length : (t : ℕ) → loc-lts.Need-same-length (
+  refuse-reads.Asked,
+  refuse-reads.Learnt,
+  end-below t,
+  end.Post,
+  mark-reads.Asked,
+  mark-reads.Learnt,
+  bump-reads.Asked,
+  bump-reads.Learnt,
+  dec-below t,
+  dec.Post,
+  state-reads.Asked,
+  state-reads.Learnt,
+  close-reads.Asked,
+  close-reads.Learnt,
+) (loc-at t) loc.Post
+loc-same-length t c =
+    c .before .before .before .before .before .before .end .kept .1 .1 .1 .0
+
+loc-same-length-2 : (t : ℕ) → loc-lts.Need-same-length-2 (
+  refuse-reads.Asked,
+  refuse-reads.Learnt,
+  end-below t,
+  end.Post,
+  mark-reads.Asked,
+  mark-reads.Learnt,
+  bump-reads.Asked,
+  bump-reads.Learnt,
+  dec-below t,
+  dec.Post,
+  state-reads.Asked,
+  state-reads.Learnt,
+  close-reads.Asked,
+  close-reads.Learnt,
+) (loc-at t) loc.Post
+loc-same-length-2 t c =
+    c .before .before .before .before .before .before .end .kept .1 .1 .1 .1 .0
+
+loc-same-length-3 : (t : ℕ) → loc-lts.Need-same-length-3 (
+  refuse-reads.Asked,
+  refuse-reads.Learnt,
+  end-below t,
+  end.Post,
+  mark-reads.Asked,
+  mark-reads.Learnt,
+  bump-reads.Asked,
+  bump-reads.Learnt,
+  dec-below t,
+  dec.Post,
+  state-reads.Asked,
+  state-reads.Learnt,
+  close-reads.Asked,
+  close-reads.Learnt,
+) (loc-at t) loc.Post
+loc-same-length-3 t c =
+    c .before .before .before .before .before .before .end .kept .1 .1 .1 .1 .1 .0
+
+loc-returns : (t : ℕ) → loc-lts.Need-returns (
+  refuse-reads.Asked,
+  refuse-reads.Learnt,
+  end-below t,
+  end.Post,
+  mark-reads.Asked,
+  mark-reads.Learnt,
+  bump-reads.Asked,
+  bump-reads.Learnt,
+  dec-below t,
+  dec.Post,
+  state-reads.Asked,
+  state-reads.Learnt,
+  close-reads.Asked,
+  close-reads.Learnt,
+) (loc-at t) loc.Post
+unfolding decl.localDec plan choose chosen
+loc-returns t c =
+    let falls = c .before .before .before .before .before .before .before .before .before .before .before .before .before .before .before .before .before .before .pre .0 in
+    let pre0 = c .before .before .before .before .before .before .before .before .before .before .before .before .before .before .before .before .before .before .pre .1 .0 in
+    let pre1 = c .before .before .before .before .before .before .before .before .before .before .before .before .before .before .before .before .before .before .pre .1 .1 in
+    let if1 = c .before .before .before .before .before .before .before .before .before .before .before .if1 .taken in
+    let refuse = c .before .before .before .before .before .before .before .before .before .before .refuse .ensures in
+    let end = c .before .before .before .before .before .before .end .ensures in
+    in-steps pre0 (s-deep if1 refuse (s-by _ end s-end))
+
+loc-mark-requires : (t : ℕ) → loc-lts.Need-mark-requires (
+  refuse-reads.Asked,
+  refuse-reads.Learnt,
+  end-below t,
+  end.Post,
+  mark-reads.Asked,
+  mark-reads.Learnt,
+  bump-reads.Asked,
+  bump-reads.Learnt,
+  dec-below t,
+  dec.Post,
+  state-reads.Asked,
+  state-reads.Learnt,
+  close-reads.Asked,
+  close-reads.Learnt,
+) (loc-at t) loc.Post
+loc-mark-requires t c κs =
+    tt
+
+loc-bump-requires : (t : ℕ) → loc-lts.Need-bump-requires (
+  refuse-reads.Asked,
+  refuse-reads.Learnt,
+  end-below t,
+  end.Post,
+  mark-reads.Asked,
+  mark-reads.Learnt,
+  bump-reads.Asked,
+  bump-reads.Learnt,
+  dec-below t,
+  dec.Post,
+  state-reads.Asked,
+  state-reads.Learnt,
+  close-reads.Asked,
+  close-reads.Learnt,
+) (loc-at t) loc.Post
+loc-bump-requires t c κs =
+    let pre0 = c .before .before .before .before .before .before .before .before .before .pre .1 .0 in
+    let mark = c .before .mark .ensures in
+    let mark-ok = ok-marks mark pre0 in
+    (mark-ok .reads, mark-ok .logs)
+
+loc-sub-dec : (t : ℕ) → loc-lts.Need-sub-dec (
+  refuse-reads.Asked,
+  refuse-reads.Learnt,
+  end-below t,
+  end.Post,
+  mark-reads.Asked,
+  mark-reads.Learnt,
+  bump-reads.Asked,
+  bump-reads.Learnt,
+  dec-below t,
+  dec.Post,
+  state-reads.Asked,
+  state-reads.Learnt,
+  close-reads.Asked,
+  close-reads.Learnt,
+) (loc-at t) loc.Post
+loc-sub-dec t c =
+    let falls = c .before .before .before .before .before .before .before .before .before .before .before .before .before .before .before .pre .0 in
+    let pre0 = c .before .before .before .before .before .before .before .before .before .before .before .before .before .before .before .pre .1 .0 in
+    let pre1 = c .before .before .before .before .before .before .before .before .before .before .before .before .before .before .before .pre .1 .1 in
+    let if1 = c .before .before .before .before .before .before .before .before .if1 .left in
+    search needs
+
+loc-dec-requires : (t : ℕ) → loc-lts.Need-dec-requires (
+  refuse-reads.Asked,
+  refuse-reads.Learnt,
+  end-below t,
+  end.Post,
+  mark-reads.Asked,
+  mark-reads.Learnt,
+  bump-reads.Asked,
+  bump-reads.Learnt,
+  dec-below t,
+  dec.Post,
+  state-reads.Asked,
+  state-reads.Learnt,
+  close-reads.Asked,
+  close-reads.Learnt,
+) (loc-at t) loc.Post
+loc-dec-requires t c κs =
+    let falls = c .before .before .before .before .before .before .before .before .before .before .before .before .before .before .before .pre .0 in
+    let pre0 = c .before .before .before .before .before .before .before .before .before .before .before .before .before .before .before .pre .1 .0 in
+    let pre1 = c .before .before .before .before .before .before .before .before .before .before .before .before .before .before .before .pre .1 .1 in
+    let if1 = c .before .before .before .before .before .before .before .before .if1 .left in
+    let mark = c .before .before .before .before .before .before .before .mark .ensures in
+    let mark-ok = ok-marks mark pre0 in
+    let bump = c .before .before .before .before .before .bump .ensures in
+    let bump-ok = ok-bumps bump mark-ok in
+    (omega arith, bump-ok)
+
+loc-state-requires : (t : ℕ) → loc-lts.Need-state-requires (
+  refuse-reads.Asked,
+  refuse-reads.Learnt,
+  end-below t,
+  end.Post,
+  mark-reads.Asked,
+  mark-reads.Learnt,
+  bump-reads.Asked,
+  bump-reads.Learnt,
+  dec-below t,
+  dec.Post,
+  state-reads.Asked,
+  state-reads.Learnt,
+  close-reads.Asked,
+  close-reads.Learnt,
+) (loc-at t) loc.Post
+loc-state-requires t c κs =
+    tt
+
+loc-close-requires : (t : ℕ) → loc-lts.Need-close-requires (
+  refuse-reads.Asked,
+  refuse-reads.Learnt,
+  end-below t,
+  end.Post,
+  mark-reads.Asked,
+  mark-reads.Learnt,
+  bump-reads.Asked,
+  bump-reads.Learnt,
+  dec-below t,
+  dec.Post,
+  state-reads.Asked,
+  state-reads.Learnt,
+  close-reads.Asked,
+  close-reads.Learnt,
+) (loc-at t) loc.Post
+loc-close-requires t c κs =
+    let pre0 = c .before .before .before .before .before .before .before .before .before .before .before .before .before .before .before .before .before .before .before .before .before .before .before .before .pre .1 .0 in
+    let mark = c .before .before .before .before .before .before .before .before .before .before .before .before .before .before .before .before .mark .ensures in
+    let mark-ok = ok-marks mark pre0 in
+    let dec = c .before .before .before .before .before .before .before .before .dec .ensures in
+    let dec-ok = dec .ok in
+    let state = c .before .state .ensures in
+    let state-ok = ok-state state dec-ok in
+    (state-ok .logs, small-len mark-ok)
+
+loc-end-requires-2 : (t : ℕ) → loc-lts.Need-end-requires-2 (
+  refuse-reads.Asked,
+  refuse-reads.Learnt,
+  end-below t,
+  end.Post,
+  mark-reads.Asked,
+  mark-reads.Learnt,
+  bump-reads.Asked,
+  bump-reads.Learnt,
+  dec-below t,
+  dec.Post,
+  state-reads.Asked,
+  state-reads.Learnt,
+  close-reads.Asked,
+  close-reads.Learnt,
+) (loc-at t) loc.Post
+loc-end-requires-2 t c κs =
+    let falls = c .before .before .before .before .before .before .before .before .before .before .before .before .before .before .before .before .before .before .before .before .before .before .before .before .before .before .before .before .before .before .pre .0 in
+    let pre1 = c .before .before .before .before .before .before .before .before .before .before .before .before .before .before .before .before .before .before .before .before .before .before .before .before .before .before .before .before .before .before .pre .1 .1 in
+    let if1 = c .before .before .before .before .before .before .before .before .before .before .before .before .before .before .before .before .before .before .before .before .before .before .before .if1 .left in
+    let dec = c .before .before .before .before .before .before .before .before .before .before .before .before .before .before .dec .ensures in
+    let dec-ok = dec .ok in
+    let state = c .before .before .before .before .before .before .before .state .ensures in
+    let state-ok = ok-state state dec-ok in
+    let close = c .before .before .before .before .before .close .ensures in
+    let close-ok = ok-adds close state-ok in
+    (omega arith, (close-ok, pre1))
+
+loc-same-length-4 : (t : ℕ) → loc-lts.Need-same-length-4 (
+  refuse-reads.Asked,
+  refuse-reads.Learnt,
+  end-below t,
+  end.Post,
+  mark-reads.Asked,
+  mark-reads.Learnt,
+  bump-reads.Asked,
+  bump-reads.Learnt,
+  dec-below t,
+  dec.Post,
+  state-reads.Asked,
+  state-reads.Learnt,
+  close-reads.Asked,
+  close-reads.Learnt,
+) (loc-at t) loc.Post
+loc-same-length-4 t c =
+    c .before .before .before .before .before .before .end2 .kept .1 .1 .1 .0 ∙ c .before .before .before .before .before .before .before .before .before .before .before .before .before .before .before .before .before .before .before .before .before .dec .kept .1 .1 .1 .0
+
+loc-same-length-5 : (t : ℕ) → loc-lts.Need-same-length-5 (
+  refuse-reads.Asked,
+  refuse-reads.Learnt,
+  end-below t,
+  end.Post,
+  mark-reads.Asked,
+  mark-reads.Learnt,
+  bump-reads.Asked,
+  bump-reads.Learnt,
+  dec-below t,
+  dec.Post,
+  state-reads.Asked,
+  state-reads.Learnt,
+  close-reads.Asked,
+  close-reads.Learnt,
+) (loc-at t) loc.Post
+loc-same-length-5 t c =
+    c .before .before .before .before .before .before .end2 .kept .1 .1 .1 .1 .0 ∙ c .before .before .before .before .before .before .before .before .before .before .before .before .close .kept .0 ∙ c .before .before .before .before .before .before .before .before .before .before .before .before .before .before .before .before .before .before .before .before .before .dec .kept .1 .1 .1 .1 .0 ∙ c .before .before .before .before .before .before .before .before .before .before .before .before .before .before .before .before .before .before .before .before .before .before .before .before .before .before .before .bump .kept .1 .0
+
+loc-same-length-6 : (t : ℕ) → loc-lts.Need-same-length-6 (
+  refuse-reads.Asked,
+  refuse-reads.Learnt,
+  end-below t,
+  end.Post,
+  mark-reads.Asked,
+  mark-reads.Learnt,
+  bump-reads.Asked,
+  bump-reads.Learnt,
+  dec-below t,
+  dec.Post,
+  state-reads.Asked,
+  state-reads.Learnt,
+  close-reads.Asked,
+  close-reads.Learnt,
+) (loc-at t) loc.Post
+loc-same-length-6 t c =
+    c .before .before .before .before .before .before .end2 .kept .1 .1 .1 .1 .1 .0 ∙ c .before .before .before .before .before .before .before .before .before .before .before .before .before .before .before .before .before .before .before .before .before .dec .kept .1 .1 .1 .1 .1 .0
+
+loc-returns-2 : (t : ℕ) → loc-lts.Need-returns-2 (
+  refuse-reads.Asked,
+  refuse-reads.Learnt,
+  end-below t,
+  end.Post,
+  mark-reads.Asked,
+  mark-reads.Learnt,
+  bump-reads.Asked,
+  bump-reads.Learnt,
+  dec-below t,
+  dec.Post,
+  state-reads.Asked,
+  state-reads.Learnt,
+  close-reads.Asked,
+  close-reads.Learnt,
+) (loc-at t) loc.Post
+unfolding decl.localDec plan choose chosen
+loc-returns-2 t c =
+    let falls = c .before .before .before .before .before .before .before .before .before .before .before .before .before .before .before .before .before .before .before .before .before .before .before .before .before .before .before .before .before .before .before .before .before .before .before .before .before .pre .0 in
+    let pre0 = c .before .before .before .before .before .before .before .before .before .before .before .before .before .before .before .before .before .before .before .before .before .before .before .before .before .before .before .before .before .before .before .before .before .before .before .before .before .pre .1 .0 in
+    let pre1 = c .before .before .before .before .before .before .before .before .before .before .before .before .before .before .before .before .before .before .before .before .before .before .before .before .before .before .before .before .before .before .before .before .before .before .before .before .before .pre .1 .1 in
+    let if1 = c .before .before .before .before .before .before .before .before .before .before .before .before .before .before .before .before .before .before .before .before .before .before .before .before .before .before .before .before .before .before .if1 .left in
+    let mark = c .before .before .before .before .before .before .before .before .before .before .before .before .before .before .before .before .before .before .before .before .before .before .before .before .before .before .before .before .before .mark .ensures in
+    let bump = c .before .before .before .before .before .before .before .before .before .before .before .before .before .before .before .before .before .before .before .before .before .before .before .before .before .before .before .bump .ensures in
+    let dec = c .before .before .before .before .before .before .before .before .before .before .before .before .before .before .before .before .before .before .before .before .before .dec .ensures in
+    let state = c .before .before .before .before .before .before .before .before .before .before .before .before .before .before .state .ensures in
+    let close = c .before .before .before .before .before .before .before .before .before .before .before .before .close .ensures in
+    let end2 = c .before .before .before .before .before .before .end2 .ensures in
+    in-steps pre0 (s-mark if1 mark (s-bump bump (s-run (settled state (runs-in dec)) (s-close close (s-by _ end2 s-end)))))
+
+mat-refuse-requires : (t : ℕ) → mat-lts.Need-refuse-requires (
+  refuse-reads.Asked,
+  refuse-reads.Learnt,
+  mark-reads.Asked,
+  mark-reads.Learnt,
+  bump-if-reads.Asked,
+  bump-if-reads.Learnt,
+  mny-below t,
+  mny.Post,
+  close-reads.Asked,
+  close-reads.Learnt,
+) (mat-at t) mat.Post
+mat-refuse-requires t c κs =
+    tt
+
+mat-returns : (t : ℕ) → mat-lts.Need-returns (
+  refuse-reads.Asked,
+  refuse-reads.Learnt,
+  mark-reads.Asked,
+  mark-reads.Learnt,
+  bump-if-reads.Asked,
+  bump-if-reads.Learnt,
+  mny-below t,
+  mny.Post,
+  close-reads.Asked,
+  close-reads.Learnt,
+) (mat-at t) mat.Post
+unfolding expr.matcher util.manySep decl.manyClosure util.choose plan choose chosen
+mat-returns t c =
+    let falls = c .before .before .before .before .before .before .before .before .pre .0 in
+    let pre0 = c .before .before .before .before .before .before .before .before .pre .1 in
+    let if1 = c .before .if1 .taken in
+    let refuse = c .refuse .ensures in
+    by-steps pre0 (λ b. s-deep if1 refuse s-end)
+
+mat-mark-requires : (t : ℕ) → mat-lts.Need-mark-requires (
+  refuse-reads.Asked,
+  refuse-reads.Learnt,
+  mark-reads.Asked,
+  mark-reads.Learnt,
+  bump-if-reads.Asked,
+  bump-if-reads.Learnt,
+  mny-below t,
+  mny.Post,
+  close-reads.Asked,
+  close-reads.Learnt,
+) (mat-at t) mat.Post
+mat-mark-requires t c κs =
+    tt
+
+mat-bump-if-requires : (t : ℕ) → mat-lts.Need-bump-if-requires (
+  refuse-reads.Asked,
+  refuse-reads.Learnt,
+  mark-reads.Asked,
+  mark-reads.Learnt,
+  bump-if-reads.Asked,
+  bump-if-reads.Learnt,
+  mny-below t,
+  mny.Post,
+  close-reads.Asked,
+  close-reads.Learnt,
+) (mat-at t) mat.Post
+mat-bump-if-requires t c κs =
+    let pre0 = c .before .before .before .before .before .before .before .before .before .before .before .pre .1 in
+    let mark = c .before .before .before .mark .ensures in
+    let mark-ok = ok-marks mark pre0 in
+    mark-ok
+
+mat-sub-mny : (t : ℕ) → mat-lts.Need-sub-mny (
+  refuse-reads.Asked,
+  refuse-reads.Learnt,
+  mark-reads.Asked,
+  mark-reads.Learnt,
+  bump-if-reads.Asked,
+  bump-if-reads.Learnt,
+  mny-below t,
+  mny.Post,
+  close-reads.Asked,
+  close-reads.Learnt,
+) (mat-at t) mat.Post
+mat-sub-mny t c =
+    let falls = c .before .before .before .before .before .before .before .before .before .before .before .before .before .before .before .before .before .before .before .pre .0 in
+    let pre0 = c .before .before .before .before .before .before .before .before .before .before .before .before .before .before .before .before .before .before .before .pre .1 in
+    let if1 = c .before .before .before .before .before .before .before .before .before .before .before .before .if1 .left in
+    search needs
+
+mat-mny-requires : (t : ℕ) → mat-lts.Need-mny-requires (
+  refuse-reads.Asked,
+  refuse-reads.Learnt,
+  mark-reads.Asked,
+  mark-reads.Learnt,
+  bump-if-reads.Asked,
+  bump-if-reads.Learnt,
+  mny-below t,
+  mny.Post,
+  close-reads.Asked,
+  close-reads.Learnt,
+) (mat-at t) mat.Post
+mat-mny-requires t c κs =
+    let falls = c .before .before .before .before .before .before .before .before .before .before .before .before .before .before .before .before .before .before .before .pre .0 in
+    let if1 = c .before .before .before .before .before .before .before .before .before .before .before .before .if1 .left in
+    let bump-if = c .before .before .before .before .before .before .before .bump-if .ensures in
+    let bump-if-ok = bump-if .ok in
+    (omega arith, bump-if-ok)
+
+mat-close-requires : (t : ℕ) → mat-lts.Need-close-requires (
+  refuse-reads.Asked,
+  refuse-reads.Learnt,
+  mark-reads.Asked,
+  mark-reads.Learnt,
+  bump-if-reads.Asked,
+  bump-if-reads.Learnt,
+  mny-below t,
+  mny.Post,
+  close-reads.Asked,
+  close-reads.Learnt,
+) (mat-at t) mat.Post
+mat-close-requires t c κs =
+    let pre0 = c .before .before .before .before .before .before .before .before .before .before .before .before .before .before .before .before .before .before .before .before .before .before .before .before .before .before .before .pre .1 in
+    let mark = c .before .before .before .before .before .before .before .before .before .before .before .before .before .before .before .before .before .before .before .mark .ensures in
+    let mark-ok = ok-marks mark pre0 in
+    let mny = c .before .before .before .before .before .before .before .mny .ensures in
+    let mny-ok = mny .ok in
+    (mny-ok .logs, small-len mark-ok)
+
+mat-same-length : (t : ℕ) → mat-lts.Need-same-length (
+  refuse-reads.Asked,
+  refuse-reads.Learnt,
+  mark-reads.Asked,
+  mark-reads.Learnt,
+  bump-if-reads.Asked,
+  bump-if-reads.Learnt,
+  mny-below t,
+  mny.Post,
+  close-reads.Asked,
+  close-reads.Learnt,
+) (mat-at t) mat.Post
+mat-same-length t c =
+    c .before .before .before .before .before .before .before .before .before .before .mny .kept .1 .1 .1 .0
+
+mat-same-length-2 : (t : ℕ) → mat-lts.Need-same-length-2 (
+  refuse-reads.Asked,
+  refuse-reads.Learnt,
+  mark-reads.Asked,
+  mark-reads.Learnt,
+  bump-if-reads.Asked,
+  bump-if-reads.Learnt,
+  mny-below t,
+  mny.Post,
+  close-reads.Asked,
+  close-reads.Learnt,
+) (mat-at t) mat.Post
+mat-same-length-2 t c =
+    c .before .before .close .kept .0 ∙ c .before .before .before .before .before .before .before .before .before .before .mny .kept .1 .1 .1 .1 .0 ∙ c .before .before .before .before .before .before .before .before .before .before .before .before .before .before .before .before .before .before .bump-if .kept .1 .1 .1 .1 .0
+
+mat-same-length-3 : (t : ℕ) → mat-lts.Need-same-length-3 (
+  refuse-reads.Asked,
+  refuse-reads.Learnt,
+  mark-reads.Asked,
+  mark-reads.Learnt,
+  bump-if-reads.Asked,
+  bump-if-reads.Learnt,
+  mny-below t,
+  mny.Post,
+  close-reads.Asked,
+  close-reads.Learnt,
+) (mat-at t) mat.Post
+mat-same-length-3 t c =
+    c .before .before .before .before .before .before .before .before .before .before .mny .kept .1 .1 .1 .1 .1 .0 ∙ c .before .before .before .before .before .before .before .before .before .before .before .before .before .before .before .before .before .before .bump-if .kept .1 .1 .1 .1 .1 .0
+
+mat-returns-2 : (t : ℕ) → mat-lts.Need-returns-2 (
+  refuse-reads.Asked,
+  refuse-reads.Learnt,
+  mark-reads.Asked,
+  mark-reads.Learnt,
+  bump-if-reads.Asked,
+  bump-if-reads.Learnt,
+  mny-below t,
+  mny.Post,
+  close-reads.Asked,
+  close-reads.Learnt,
+) (mat-at t) mat.Post
+unfolding expr.matcher util.manySep decl.manyClosure util.choose plan choose chosen
+mat-returns-2 t c =
+    let falls = c .before .before .before .before .before .before .before .before .before .before .before .before .before .before .before .before .before .before .before .before .before .before .before .before .before .before .before .before .before .before .pre .0 in
+    let pre0 = c .before .before .before .before .before .before .before .before .before .before .before .before .before .before .before .before .before .before .before .before .before .before .before .before .before .before .before .before .before .before .pre .1 in
+    let if1 = c .before .before .before .before .before .before .before .before .before .before .before .before .before .before .before .before .before .before .before .before .before .before .before .if1 .left in
+    let mark = c .before .before .before .before .before .before .before .before .before .before .before .before .before .before .before .before .before .before .before .before .before .before .mark .ensures in
+    let bump-if = c .before .before .before .before .before .before .before .before .before .before .before .before .before .before .before .before .before .before .bump-if .ensures in
+    let mny = c .before .before .before .before .before .before .before .before .before .before .mny .ensures in
+    let close = c .before .before .close .ensures in
+    by-steps pre0 (λ b. s-mark if1 mark (s-by _ (runs-always bump-if) (s-run mny (s-close close s-end))))
+
+mds-bump-requires : (t : ℕ) → mds-lts.Need-bump-requires (
+  bump-reads.Asked,
+  bump-reads.Learnt,
+  mny-below t,
+  mny.Post,
+  close-reads.Asked,
+  close-reads.Learnt,
+  inc-below t,
+  inc.Post,
+  oth-below t,
+  oth.Post,
+) (mds-at t) mds.Post
+mds-bump-requires t c κs =
+    let pre0 = c .before .before .before .before .before .before .before .before .pre .1 .0 in
+    (pre0 .reads, pre0 .logs)
+
+mds-mny-requires : (t : ℕ) → mds-lts.Need-mny-requires (
+  bump-reads.Asked,
+  bump-reads.Learnt,
+  mny-below t,
+  mny.Post,
+  close-reads.Asked,
+  close-reads.Learnt,
+  inc-below t,
+  inc.Post,
+  oth-below t,
+  oth.Post,
+) (mds-at t) mds.Post
+mds-mny-requires t c κs =
+    let falls = c .before .before .before .before .before .before .before .before .before .before .before .before .before .before .pre .0 in
+    let pre0 = c .before .before .before .before .before .before .before .before .before .before .before .before .before .before .pre .1 .0 in
+    let pre1 = c .before .before .before .before .before .before .before .before .before .before .before .before .before .before .pre .1 .1 in
+    let if1 = c .before .before .before .before .before .before .before .if1 .taken in
+    let bump = c .before .before .before .before .before .bump .ensures in
+    let bump-ok = ok-bumps bump pre0 in
+    (omega arith, bump-ok)
+
+mds-close-requires : (t : ℕ) → mds-lts.Need-close-requires (
+  bump-reads.Asked,
+  bump-reads.Learnt,
+  mny-below t,
+  mny.Post,
+  close-reads.Asked,
+  close-reads.Learnt,
+  inc-below t,
+  inc.Post,
+  oth-below t,
+  oth.Post,
+) (mds-at t) mds.Post
+mds-close-requires t c κs =
+    let pre1 = c .before .before .before .before .before .before .before .before .before .before .before .before .before .before .before .before .before .before .before .before .before .before .pre .1 .1 in
+    let mny = c .before .before .before .before .before .before .before .mny .ensures in
+    let mny-ok = mny .ok in
+    (mny-ok .logs, pre1)
+
+mds-same-length : (t : ℕ) → mds-lts.Need-same-length (
+  bump-reads.Asked,
+  bump-reads.Learnt,
+  mny-below t,
+  mny.Post,
+  close-reads.Asked,
+  close-reads.Learnt,
+  inc-below t,
+  inc.Post,
+  oth-below t,
+  oth.Post,
+) (mds-at t) mds.Post
+mds-same-length t c =
+    c .before .before .before .before .before .before .before .before .before .before .mny .kept .1 .1 .1 .0
+
+mds-same-length-2 : (t : ℕ) → mds-lts.Need-same-length-2 (
+  bump-reads.Asked,
+  bump-reads.Learnt,
+  mny-below t,
+  mny.Post,
+  close-reads.Asked,
+  close-reads.Learnt,
+  inc-below t,
+  inc.Post,
+  oth-below t,
+  oth.Post,
+) (mds-at t) mds.Post
+mds-same-length-2 t c =
+    c .before .before .close .kept .0 ∙ c .before .before .before .before .before .before .before .before .before .before .mny .kept .1 .1 .1 .1 .0 ∙ c .before .before .before .before .before .before .before .before .before .before .before .before .before .before .before .before .bump .kept .1 .0
+
+mds-same-length-3 : (t : ℕ) → mds-lts.Need-same-length-3 (
+  bump-reads.Asked,
+  bump-reads.Learnt,
+  mny-below t,
+  mny.Post,
+  close-reads.Asked,
+  close-reads.Learnt,
+  inc-below t,
+  inc.Post,
+  oth-below t,
+  oth.Post,
+) (mds-at t) mds.Post
+mds-same-length-3 t c =
+    c .before .before .before .before .before .before .before .before .before .before .mny .kept .1 .1 .1 .1 .1 .0
+
+mds-returns : (t : ℕ) → mds-lts.Need-returns (
+  bump-reads.Asked,
+  bump-reads.Learnt,
+  mny-below t,
+  mny.Post,
+  close-reads.Asked,
+  close-reads.Learnt,
+  inc-below t,
+  inc.Post,
+  oth-below t,
+  oth.Post,
+) (mds-at t) mds.Post
+unfolding decl.moduleDec util.manySep decl.manyClosure util.choose plan choose chosen
+mds-returns t c =
+    let falls = c .before .before .before .before .before .before .before .before .before .before .before .before .before .before .before .before .before .before .before .before .before .before .before .before .before .pre .0 in
+    let pre0 = c .before .before .before .before .before .before .before .before .before .before .before .before .before .before .before .before .before .before .before .before .before .before .before .before .before .pre .1 .0 in
+    let pre1 = c .before .before .before .before .before .before .before .before .before .before .before .before .before .before .before .before .before .before .before .before .before .before .before .before .before .pre .1 .1 in
+    let if1 = c .before .before .before .before .before .before .before .before .before .before .before .before .before .before .before .before .before .before .if1 .taken in
+    let bump = c .before .before .before .before .before .before .before .before .before .before .before .before .before .before .before .before .bump .ensures in
+    let mny = c .before .before .before .before .before .before .before .before .before .before .mny .ensures in
+    let close = c .before .before .close .ensures in
+    in-steps pre0 (s-true _ _ (kind-is if1) (s-bump bump (s-run mny (s-close close s-end))))
+
+mds-bump-requires-2 : (t : ℕ) → mds-lts.Need-bump-requires-2 (
+  bump-reads.Asked,
+  bump-reads.Learnt,
+  mny-below t,
+  mny.Post,
+  close-reads.Asked,
+  close-reads.Learnt,
+  inc-below t,
+  inc.Post,
+  oth-below t,
+  oth.Post,
+) (mds-at t) mds.Post
+mds-bump-requires-2 t c κs =
+    let pre0 = c .before .before .before .before .before .before .before .before .before .pre .1 .0 in
+    (pre0 .reads, pre0 .logs)
+
+mds-mny-requires-2 : (t : ℕ) → mds-lts.Need-mny-requires-2 (
+  bump-reads.Asked,
+  bump-reads.Learnt,
+  mny-below t,
+  mny.Post,
+  close-reads.Asked,
+  close-reads.Learnt,
+  inc-below t,
+  inc.Post,
+  oth-below t,
+  oth.Post,
+) (mds-at t) mds.Post
+mds-mny-requires-2 t c κs =
+    let falls = c .before .before .before .before .before .before .before .before .before .before .before .before .before .before .before .pre .0 in
+    let pre0 = c .before .before .before .before .before .before .before .before .before .before .before .before .before .before .before .pre .1 .0 in
+    let pre1 = c .before .before .before .before .before .before .before .before .before .before .before .before .before .before .before .pre .1 .1 in
+    let if1 = c .before .before .before .before .before .before .before .before .if1 .left in
+    let if2 = c .before .before .before .before .before .before .before .if2 .taken in
+    let bump2 = c .before .before .before .before .before .bump2 .ensures in
+    let bump2-ok = ok-bumps bump2 pre0 in
+    (omega arith, bump2-ok)
+
+mds-close-requires-2 : (t : ℕ) → mds-lts.Need-close-requires-2 (
+  bump-reads.Asked,
+  bump-reads.Learnt,
+  mny-below t,
+  mny.Post,
+  close-reads.Asked,
+  close-reads.Learnt,
+  inc-below t,
+  inc.Post,
+  oth-below t,
+  oth.Post,
+) (mds-at t) mds.Post
+mds-close-requires-2 t c κs =
+    let pre1 = c .before .before .before .before .before .before .before .before .before .before .before .before .before .before .before .before .before .before .before .before .before .before .before .pre .1 .1 in
+    let mny2 = c .before .before .before .before .before .before .before .mny2 .ensures in
+    let mny2-ok = mny2 .ok in
+    (mny2-ok .logs, pre1)
+
+mds-same-length-4 : (t : ℕ) → mds-lts.Need-same-length-4 (
+  bump-reads.Asked,
+  bump-reads.Learnt,
+  mny-below t,
+  mny.Post,
+  close-reads.Asked,
+  close-reads.Learnt,
+  inc-below t,
+  inc.Post,
+  oth-below t,
+  oth.Post,
+) (mds-at t) mds.Post
+mds-same-length-4 t c =
+    c .before .before .before .before .before .before .before .before .before .before .mny2 .kept .1 .1 .1 .0
+
+mds-same-length-5 : (t : ℕ) → mds-lts.Need-same-length-5 (
+  bump-reads.Asked,
+  bump-reads.Learnt,
+  mny-below t,
+  mny.Post,
+  close-reads.Asked,
+  close-reads.Learnt,
+  inc-below t,
+  inc.Post,
+  oth-below t,
+  oth.Post,
+) (mds-at t) mds.Post
+mds-same-length-5 t c =
+    c .before .before .close2 .kept .0 ∙ c .before .before .before .before .before .before .before .before .before .before .mny2 .kept .1 .1 .1 .1 .0 ∙ c .before .before .before .before .before .before .before .before .before .before .before .before .before .before .before .before .bump2 .kept .1 .0
+
+mds-same-length-6 : (t : ℕ) → mds-lts.Need-same-length-6 (
+  bump-reads.Asked,
+  bump-reads.Learnt,
+  mny-below t,
+  mny.Post,
+  close-reads.Asked,
+  close-reads.Learnt,
+  inc-below t,
+  inc.Post,
+  oth-below t,
+  oth.Post,
+) (mds-at t) mds.Post
+mds-same-length-6 t c =
+    c .before .before .before .before .before .before .before .before .before .before .mny2 .kept .1 .1 .1 .1 .1 .0
+
+mds-returns-2 : (t : ℕ) → mds-lts.Need-returns-2 (
+  bump-reads.Asked,
+  bump-reads.Learnt,
+  mny-below t,
+  mny.Post,
+  close-reads.Asked,
+  close-reads.Learnt,
+  inc-below t,
+  inc.Post,
+  oth-below t,
+  oth.Post,
+) (mds-at t) mds.Post
+unfolding decl.moduleDec util.manySep decl.manyClosure util.choose plan choose chosen
+mds-returns-2 t c =
+    let falls = c .before .before .before .before .before .before .before .before .before .before .before .before .before .before .before .before .before .before .before .before .before .before .before .before .before .before .pre .0 in
+    let pre0 = c .before .before .before .before .before .before .before .before .before .before .before .before .before .before .before .before .before .before .before .before .before .before .before .before .before .before .pre .1 .0 in
+    let pre1 = c .before .before .before .before .before .before .before .before .before .before .before .before .before .before .before .before .before .before .before .before .before .before .before .before .before .before .pre .1 .1 in
+    let if1 = c .before .before .before .before .before .before .before .before .before .before .before .before .before .before .before .before .before .before .before .if1 .left in
+    let if2 = c .before .before .before .before .before .before .before .before .before .before .before .before .before .before .before .before .before .before .if2 .taken in
+    let bump2 = c .before .before .before .before .before .before .before .before .before .before .before .before .before .before .before .before .bump2 .ensures in
+    let mny2 = c .before .before .before .before .before .before .before .before .before .before .mny2 .ensures in
+    let close2 = c .before .before .close2 .ensures in
+    in-steps pre0 (s-false _ _ (kind-not if1) (s-true _ _ (kind-is if2) (s-bump bump2 (s-run mny2 (s-close close2 s-end)))))
+
+mds-bump-requires-3 : (t : ℕ) → mds-lts.Need-bump-requires-3 (
+  bump-reads.Asked,
+  bump-reads.Learnt,
+  mny-below t,
+  mny.Post,
+  close-reads.Asked,
+  close-reads.Learnt,
+  inc-below t,
+  inc.Post,
+  oth-below t,
+  oth.Post,
+) (mds-at t) mds.Post
+mds-bump-requires-3 t c κs =
+    let pre0 = c .before .before .before .before .before .before .before .before .before .before .pre .1 .0 in
+    (pre0 .reads, pre0 .logs)
+
+mds-mny-requires-3 : (t : ℕ) → mds-lts.Need-mny-requires-3 (
+  bump-reads.Asked,
+  bump-reads.Learnt,
+  mny-below t,
+  mny.Post,
+  close-reads.Asked,
+  close-reads.Learnt,
+  inc-below t,
+  inc.Post,
+  oth-below t,
+  oth.Post,
+) (mds-at t) mds.Post
+mds-mny-requires-3 t c κs =
+    let falls = c .before .before .before .before .before .before .before .before .before .before .before .before .before .before .before .before .pre .0 in
+    let pre0 = c .before .before .before .before .before .before .before .before .before .before .before .before .before .before .before .before .pre .1 .0 in
+    let pre1 = c .before .before .before .before .before .before .before .before .before .before .before .before .before .before .before .before .pre .1 .1 in
+    let if1 = c .before .before .before .before .before .before .before .before .before .if1 .left in
+    let if2 = c .before .before .before .before .before .before .before .before .if2 .left in
+    let if3 = c .before .before .before .before .before .before .before .if3 .taken in
+    let bump3 = c .before .before .before .before .before .bump3 .ensures in
+    let bump3-ok = ok-bumps bump3 pre0 in
+    (omega arith, bump3-ok)
+
+mds-close-requires-3 : (t : ℕ) → mds-lts.Need-close-requires-3 (
+  bump-reads.Asked,
+  bump-reads.Learnt,
+  mny-below t,
+  mny.Post,
+  close-reads.Asked,
+  close-reads.Learnt,
+  inc-below t,
+  inc.Post,
+  oth-below t,
+  oth.Post,
+) (mds-at t) mds.Post
+mds-close-requires-3 t c κs =
+    let pre1 = c .before .before .before .before .before .before .before .before .before .before .before .before .before .before .before .before .before .before .before .before .before .before .before .before .pre .1 .1 in
+    let mny3 = c .before .before .before .before .before .before .before .mny3 .ensures in
+    let mny3-ok = mny3 .ok in
+    (mny3-ok .logs, pre1)
+
+mds-same-length-7 : (t : ℕ) → mds-lts.Need-same-length-7 (
+  bump-reads.Asked,
+  bump-reads.Learnt,
+  mny-below t,
+  mny.Post,
+  close-reads.Asked,
+  close-reads.Learnt,
+  inc-below t,
+  inc.Post,
+  oth-below t,
+  oth.Post,
+) (mds-at t) mds.Post
+mds-same-length-7 t c =
+    c .before .before .before .before .before .before .before .before .before .before .mny3 .kept .1 .1 .1 .0
+
+mds-same-length-8 : (t : ℕ) → mds-lts.Need-same-length-8 (
+  bump-reads.Asked,
+  bump-reads.Learnt,
+  mny-below t,
+  mny.Post,
+  close-reads.Asked,
+  close-reads.Learnt,
+  inc-below t,
+  inc.Post,
+  oth-below t,
+  oth.Post,
+) (mds-at t) mds.Post
+mds-same-length-8 t c =
+    c .before .before .close3 .kept .0 ∙ c .before .before .before .before .before .before .before .before .before .before .mny3 .kept .1 .1 .1 .1 .0 ∙ c .before .before .before .before .before .before .before .before .before .before .before .before .before .before .before .before .bump3 .kept .1 .0
+
+mds-same-length-9 : (t : ℕ) → mds-lts.Need-same-length-9 (
+  bump-reads.Asked,
+  bump-reads.Learnt,
+  mny-below t,
+  mny.Post,
+  close-reads.Asked,
+  close-reads.Learnt,
+  inc-below t,
+  inc.Post,
+  oth-below t,
+  oth.Post,
+) (mds-at t) mds.Post
+mds-same-length-9 t c =
+    c .before .before .before .before .before .before .before .before .before .before .mny3 .kept .1 .1 .1 .1 .1 .0
+
+mds-returns-3 : (t : ℕ) → mds-lts.Need-returns-3 (
+  bump-reads.Asked,
+  bump-reads.Learnt,
+  mny-below t,
+  mny.Post,
+  close-reads.Asked,
+  close-reads.Learnt,
+  inc-below t,
+  inc.Post,
+  oth-below t,
+  oth.Post,
+) (mds-at t) mds.Post
+unfolding decl.moduleDec util.manySep decl.manyClosure util.choose plan choose chosen
+mds-returns-3 t c =
+    let falls = c .before .before .before .before .before .before .before .before .before .before .before .before .before .before .before .before .before .before .before .before .before .before .before .before .before .before .before .pre .0 in
+    let pre0 = c .before .before .before .before .before .before .before .before .before .before .before .before .before .before .before .before .before .before .before .before .before .before .before .before .before .before .before .pre .1 .0 in
+    let pre1 = c .before .before .before .before .before .before .before .before .before .before .before .before .before .before .before .before .before .before .before .before .before .before .before .before .before .before .before .pre .1 .1 in
+    let if1 = c .before .before .before .before .before .before .before .before .before .before .before .before .before .before .before .before .before .before .before .before .if1 .left in
+    let if2 = c .before .before .before .before .before .before .before .before .before .before .before .before .before .before .before .before .before .before .before .if2 .left in
+    let if3 = c .before .before .before .before .before .before .before .before .before .before .before .before .before .before .before .before .before .before .if3 .taken in
+    let bump3 = c .before .before .before .before .before .before .before .before .before .before .before .before .before .before .before .before .bump3 .ensures in
+    let mny3 = c .before .before .before .before .before .before .before .before .before .before .mny3 .ensures in
+    let close3 = c .before .before .close3 .ensures in
+    in-steps pre0 (s-false _ _ (kind-not if1) (s-false _ _ (kind-not if2) (s-true _ _ (kind-is if3) (s-bump bump3 (s-run mny3 (s-close close3 s-end))))))
+
+mds-bump-requires-4 : (t : ℕ) → mds-lts.Need-bump-requires-4 (
+  bump-reads.Asked,
+  bump-reads.Learnt,
+  mny-below t,
+  mny.Post,
+  close-reads.Asked,
+  close-reads.Learnt,
+  inc-below t,
+  inc.Post,
+  oth-below t,
+  oth.Post,
+) (mds-at t) mds.Post
+mds-bump-requires-4 t c κs =
+    let pre0 = c .before .before .before .before .before .before .before .before .before .before .before .pre .1 .0 in
+    (pre0 .reads, pre0 .logs)
+
+mds-inc-requires : (t : ℕ) → mds-lts.Need-inc-requires (
+  bump-reads.Asked,
+  bump-reads.Learnt,
+  mny-below t,
+  mny.Post,
+  close-reads.Asked,
+  close-reads.Learnt,
+  inc-below t,
+  inc.Post,
+  oth-below t,
+  oth.Post,
+) (mds-at t) mds.Post
+mds-inc-requires t c κs =
+    let falls = c .before .before .before .before .before .before .before .before .before .before .before .before .before .before .before .before .before .pre .0 in
+    let pre0 = c .before .before .before .before .before .before .before .before .before .before .before .before .before .before .before .before .before .pre .1 .0 in
+    let pre1 = c .before .before .before .before .before .before .before .before .before .before .before .before .before .before .before .before .before .pre .1 .1 in
+    let if1 = c .before .before .before .before .before .before .before .before .before .before .if1 .left in
+    let if2 = c .before .before .before .before .before .before .before .before .before .if2 .left in
+    let if3 = c .before .before .before .before .before .before .before .before .if3 .left in
+    let if4 = c .before .before .before .before .before .before .before .if4 .taken in
+    let bump4 = c .before .before .before .before .before .bump4 .ensures in
+    let bump4-ok = ok-bumps bump4 pre0 in
+    (omega arith, bump4-ok)
+
+mds-close-requires-4 : (t : ℕ) → mds-lts.Need-close-requires-4 (
+  bump-reads.Asked,
+  bump-reads.Learnt,
+  mny-below t,
+  mny.Post,
+  close-reads.Asked,
+  close-reads.Learnt,
+  inc-below t,
+  inc.Post,
+  oth-below t,
+  oth.Post,
+) (mds-at t) mds.Post
+mds-close-requires-4 t c κs =
+    let pre1 = c .before .before .before .before .before .before .before .before .before .before .before .before .before .before .before .before .before .before .before .before .before .before .before .before .before .pre .1 .1 in
+    let inc = c .before .before .before .before .before .before .before .inc .ensures in
+    let inc-ok = inc .ok in
+    (inc-ok .logs, pre1)
+
+mds-same-length-10 : (t : ℕ) → mds-lts.Need-same-length-10 (
+  bump-reads.Asked,
+  bump-reads.Learnt,
+  mny-below t,
+  mny.Post,
+  close-reads.Asked,
+  close-reads.Learnt,
+  inc-below t,
+  inc.Post,
+  oth-below t,
+  oth.Post,
+) (mds-at t) mds.Post
+mds-same-length-10 t c =
+    c .before .before .before .before .before .before .before .before .before .before .inc .kept .1 .1 .1 .0
+
+mds-same-length-11 : (t : ℕ) → mds-lts.Need-same-length-11 (
+  bump-reads.Asked,
+  bump-reads.Learnt,
+  mny-below t,
+  mny.Post,
+  close-reads.Asked,
+  close-reads.Learnt,
+  inc-below t,
+  inc.Post,
+  oth-below t,
+  oth.Post,
+) (mds-at t) mds.Post
+mds-same-length-11 t c =
+    c .before .before .close4 .kept .0 ∙ c .before .before .before .before .before .before .before .before .before .before .inc .kept .1 .1 .1 .1 .0 ∙ c .before .before .before .before .before .before .before .before .before .before .before .before .before .before .before .before .bump4 .kept .1 .0
+
+mds-same-length-12 : (t : ℕ) → mds-lts.Need-same-length-12 (
+  bump-reads.Asked,
+  bump-reads.Learnt,
+  mny-below t,
+  mny.Post,
+  close-reads.Asked,
+  close-reads.Learnt,
+  inc-below t,
+  inc.Post,
+  oth-below t,
+  oth.Post,
+) (mds-at t) mds.Post
+mds-same-length-12 t c =
+    c .before .before .before .before .before .before .before .before .before .before .inc .kept .1 .1 .1 .1 .1 .0
+
+mds-returns-4 : (t : ℕ) → mds-lts.Need-returns-4 (
+  bump-reads.Asked,
+  bump-reads.Learnt,
+  mny-below t,
+  mny.Post,
+  close-reads.Asked,
+  close-reads.Learnt,
+  inc-below t,
+  inc.Post,
+  oth-below t,
+  oth.Post,
+) (mds-at t) mds.Post
+unfolding decl.moduleDec util.manySep decl.manyClosure util.choose plan choose chosen
+mds-returns-4 t c =
+    let falls = c .before .before .before .before .before .before .before .before .before .before .before .before .before .before .before .before .before .before .before .before .before .before .before .before .before .before .before .before .pre .0 in
+    let pre0 = c .before .before .before .before .before .before .before .before .before .before .before .before .before .before .before .before .before .before .before .before .before .before .before .before .before .before .before .before .pre .1 .0 in
+    let pre1 = c .before .before .before .before .before .before .before .before .before .before .before .before .before .before .before .before .before .before .before .before .before .before .before .before .before .before .before .before .pre .1 .1 in
+    let if1 = c .before .before .before .before .before .before .before .before .before .before .before .before .before .before .before .before .before .before .before .before .before .if1 .left in
+    let if2 = c .before .before .before .before .before .before .before .before .before .before .before .before .before .before .before .before .before .before .before .before .if2 .left in
+    let if3 = c .before .before .before .before .before .before .before .before .before .before .before .before .before .before .before .before .before .before .before .if3 .left in
+    let if4 = c .before .before .before .before .before .before .before .before .before .before .before .before .before .before .before .before .before .before .if4 .taken in
+    let bump4 = c .before .before .before .before .before .before .before .before .before .before .before .before .before .before .before .before .bump4 .ensures in
+    let inc = c .before .before .before .before .before .before .before .before .before .before .inc .ensures in
+    let close4 = c .before .before .close4 .ensures in
+    in-steps pre0 (s-false _ _ (kind-not if1) (s-false _ _ (kind-not if2) (s-false _ _ (kind-not if3) (s-true _ _ (kind-is if4) (s-bump bump4 (s-run inc (s-close close4 s-end)))))))
+
+mds-oth-requires : (t : ℕ) → mds-lts.Need-oth-requires (
+  bump-reads.Asked,
+  bump-reads.Learnt,
+  mny-below t,
+  mny.Post,
+  close-reads.Asked,
+  close-reads.Learnt,
+  inc-below t,
+  inc.Post,
+  oth-below t,
+  oth.Post,
+) (mds-at t) mds.Post
+mds-oth-requires t c κs =
+    let falls = c .before .before .before .before .before .before .before .before .before .before .before .before .before .pre .0 in
+    let pre0 = c .before .before .before .before .before .before .before .before .before .before .before .before .before .pre .1 .0 in
+    let pre1 = c .before .before .before .before .before .before .before .before .before .before .before .before .before .pre .1 .1 in
+    let if1 = c .before .before .before .before .before .before .if1 .left in
+    let if2 = c .before .before .before .before .before .if2 .left in
+    let if3 = c .before .before .before .before .if3 .left in
+    let if4 = c .before .before .before .if4 .left in
+    (omega arith, (pre0, pre1))
+
+mds-same-length-13 : (t : ℕ) → mds-lts.Need-same-length-13 (
+  bump-reads.Asked,
+  bump-reads.Learnt,
+  mny-below t,
+  mny.Post,
+  close-reads.Asked,
+  close-reads.Learnt,
+  inc-below t,
+  inc.Post,
+  oth-below t,
+  oth.Post,
+) (mds-at t) mds.Post
+mds-same-length-13 t c =
+    c .before .before .before .before .before .before .oth .kept .1 .1 .1 .0
+
+mds-same-length-14 : (t : ℕ) → mds-lts.Need-same-length-14 (
+  bump-reads.Asked,
+  bump-reads.Learnt,
+  mny-below t,
+  mny.Post,
+  close-reads.Asked,
+  close-reads.Learnt,
+  inc-below t,
+  inc.Post,
+  oth-below t,
+  oth.Post,
+) (mds-at t) mds.Post
+mds-same-length-14 t c =
+    c .before .before .before .before .before .before .oth .kept .1 .1 .1 .1 .0
+
+mds-same-length-15 : (t : ℕ) → mds-lts.Need-same-length-15 (
+  bump-reads.Asked,
+  bump-reads.Learnt,
+  mny-below t,
+  mny.Post,
+  close-reads.Asked,
+  close-reads.Learnt,
+  inc-below t,
+  inc.Post,
+  oth-below t,
+  oth.Post,
+) (mds-at t) mds.Post
+mds-same-length-15 t c =
+    c .before .before .before .before .before .before .oth .kept .1 .1 .1 .1 .1 .0
+
+mds-returns-5 : (t : ℕ) → mds-lts.Need-returns-5 (
+  bump-reads.Asked,
+  bump-reads.Learnt,
+  mny-below t,
+  mny.Post,
+  close-reads.Asked,
+  close-reads.Learnt,
+  inc-below t,
+  inc.Post,
+  oth-below t,
+  oth.Post,
+) (mds-at t) mds.Post
+unfolding decl.moduleDec util.manySep decl.manyClosure util.choose plan choose chosen
+mds-returns-5 t c =
+    let falls = c .before .before .before .before .before .before .before .before .before .before .before .before .before .before .before .before .before .before .before .before .pre .0 in
+    let pre0 = c .before .before .before .before .before .before .before .before .before .before .before .before .before .before .before .before .before .before .before .before .pre .1 .0 in
+    let pre1 = c .before .before .before .before .before .before .before .before .before .before .before .before .before .before .before .before .before .before .before .before .pre .1 .1 in
+    let if1 = c .before .before .before .before .before .before .before .before .before .before .before .before .before .if1 .left in
+    let if2 = c .before .before .before .before .before .before .before .before .before .before .before .before .if2 .left in
+    let if3 = c .before .before .before .before .before .before .before .before .before .before .before .if3 .left in
+    let if4 = c .before .before .before .before .before .before .before .before .before .before .if4 .left in
+    let oth = c .before .before .before .before .before .before .oth .ensures in
+    in-steps pre0 (s-false _ _ (kind-not if1) (s-false _ _ (kind-not if2) (s-false _ _ (kind-not if3) (s-false _ _ (kind-not if4) (s-by _ oth s-end)))))
+
+abbrev mny-Inv-loop : mny-lts.InvT-loop
+mny-Inv-loop text toks env table₀ scratch₀ finds₀ left q e b s1₀ table scratch finds s1 =
+    Loops left b (util.manyTurn {g = true} (q .sep) (q .wrap) (decl.manyClosure (q .wrap) (errOf e))) (mem text toks env table₀ scratch₀ finds₀ s1₀) (mem text toks env table scratch finds s1) × (length table ≡ length table₀) × (length scratch ≡ length scratch₀) × (length finds ≡ length finds₀)
+
+abbrev mny-μ-loop : mny-lts.MeasureT-loop
+mny-μ-loop text toks env table₀ scratch₀ finds₀ left q e b s1₀ table scratch finds s1 = turns (mem text toks env table scratch finds s1)
+
+mny-loop-holds : (t : ℕ) → mny-lts.Need-loop-holds (
+  refuse-reads.Asked,
+  refuse-reads.Learnt,
+  mark-reads.Asked,
+  mark-reads.Learnt,
+  itm-below t,
+  itm.Post,
+  at-reads.Asked,
+  at-reads.Learnt,
+  bump-reads.Asked,
+  bump-reads.Learnt,
+  close-reads.Asked,
+  close-reads.Learnt,
+) (mny-at t) mny.Post mny-Inv-loop mny-μ-loop
+mny-loop-holds t c =
+    let falls = c .before .before .before .before .before .before .pre .0 in
+    let pre0 = c .before .before .before .before .before .before .pre .1 in
+    (loop-starts pre0, refl, refl, refl)
+
+mny-refuse-requires : (t : ℕ) → mny-lts.Need-refuse-requires (
+  refuse-reads.Asked,
+  refuse-reads.Learnt,
+  mark-reads.Asked,
+  mark-reads.Learnt,
+  itm-below t,
+  itm.Post,
+  at-reads.Asked,
+  at-reads.Learnt,
+  bump-reads.Asked,
+  bump-reads.Learnt,
+  close-reads.Asked,
+  close-reads.Learnt,
+) (mny-at t) mny.Post mny-Inv-loop mny-μ-loop
+mny-refuse-requires t c κs =
+    tt
+
+mny-same-length : (t : ℕ) → mny-lts.Need-same-length (
+  refuse-reads.Asked,
+  refuse-reads.Learnt,
+  mark-reads.Asked,
+  mark-reads.Learnt,
+  itm-below t,
+  itm.Post,
+  at-reads.Asked,
+  at-reads.Learnt,
+  bump-reads.Asked,
+  bump-reads.Learnt,
+  close-reads.Asked,
+  close-reads.Learnt,
+) (mny-at t) mny.Post mny-Inv-loop mny-μ-loop
+mny-same-length t c =
+    c .before .before .loop .inv .1
+
+mny-same-length-2 : (t : ℕ) → mny-lts.Need-same-length-2 (
+  refuse-reads.Asked,
+  refuse-reads.Learnt,
+  mark-reads.Asked,
+  mark-reads.Learnt,
+  itm-below t,
+  itm.Post,
+  at-reads.Asked,
+  at-reads.Learnt,
+  bump-reads.Asked,
+  bump-reads.Learnt,
+  close-reads.Asked,
+  close-reads.Learnt,
+) (mny-at t) mny.Post mny-Inv-loop mny-μ-loop
+mny-same-length-2 t c =
+    c .before .before .loop .inv .2
+
+mny-same-length-3 : (t : ℕ) → mny-lts.Need-same-length-3 (
+  refuse-reads.Asked,
+  refuse-reads.Learnt,
+  mark-reads.Asked,
+  mark-reads.Learnt,
+  itm-below t,
+  itm.Post,
+  at-reads.Asked,
+  at-reads.Learnt,
+  bump-reads.Asked,
+  bump-reads.Learnt,
+  close-reads.Asked,
+  close-reads.Learnt,
+) (mny-at t) mny.Post mny-Inv-loop mny-μ-loop
+mny-same-length-3 t c =
+    c .before .before .loop .inv .3
+
+mny-returns : (t : ℕ) → mny-lts.Need-returns (
+  refuse-reads.Asked,
+  refuse-reads.Learnt,
+  mark-reads.Asked,
+  mark-reads.Learnt,
+  itm-below t,
+  itm.Post,
+  at-reads.Asked,
+  at-reads.Learnt,
+  bump-reads.Asked,
+  bump-reads.Learnt,
+  close-reads.Asked,
+  close-reads.Learnt,
+) (mny-at t) mny.Post mny-Inv-loop mny-μ-loop
+unfolding util.manyTurn plan choose chosen
+mny-returns t c =
+    let inv = c .before .before .loop .inv .0 in
+    let if1 = c .before .if1 .taken in
+    let refuse = c .refuse .ensures in
+    loop-ends (many-turn-advances true _ _ _ _ _) inv (in-steps (inv .ok) {n = (c .before .before .before .before .before .before .before .before .before .args .left)} {b = (c .before .before .before .before .before .before .before .before .before .args .b)} (s-deep if1 refuse s-end))
+
+mny-mark-requires : (t : ℕ) → mny-lts.Need-mark-requires (
+  refuse-reads.Asked,
+  refuse-reads.Learnt,
+  mark-reads.Asked,
+  mark-reads.Learnt,
+  itm-below t,
+  itm.Post,
+  at-reads.Asked,
+  at-reads.Learnt,
+  bump-reads.Asked,
+  bump-reads.Learnt,
+  close-reads.Asked,
+  close-reads.Learnt,
+) (mny-at t) mny.Post mny-Inv-loop mny-μ-loop
+mny-mark-requires t c κs =
+    tt
+
+mny-sub-itm : (t : ℕ) → mny-lts.Need-sub-itm (
+  refuse-reads.Asked,
+  refuse-reads.Learnt,
+  mark-reads.Asked,
+  mark-reads.Learnt,
+  itm-below t,
+  itm.Post,
+  at-reads.Asked,
+  at-reads.Learnt,
+  bump-reads.Asked,
+  bump-reads.Learnt,
+  close-reads.Asked,
+  close-reads.Learnt,
+) (mny-at t) mny.Post mny-Inv-loop mny-μ-loop
+mny-sub-itm t c =
+    let falls = c .before .before .before .before .before .before .before .before .before .before .before .before .pre .0 in
+    let pre0 = c .before .before .before .before .before .before .before .before .before .before .before .before .pre .1 in
+    let if1 = c .before .before .before .before .if1 .left in
+    search needs
+
+mny-itm-requires : (t : ℕ) → mny-lts.Need-itm-requires (
+  refuse-reads.Asked,
+  refuse-reads.Learnt,
+  mark-reads.Asked,
+  mark-reads.Learnt,
+  itm-below t,
+  itm.Post,
+  at-reads.Asked,
+  at-reads.Learnt,
+  bump-reads.Asked,
+  bump-reads.Learnt,
+  close-reads.Asked,
+  close-reads.Learnt,
+) (mny-at t) mny.Post mny-Inv-loop mny-μ-loop
+mny-itm-requires t c κs =
+    let falls = c .before .before .before .before .before .before .before .before .before .before .before .before .pre .0 in
+    let inv = c .before .before .before .before .before .loop .inv .0 .ok in
+    let if1 = c .before .before .before .before .if1 .left in
+    let mark = c .before .before .before .mark .ensures in
+    let mark-ok = ok-marks mark inv in
+    (omega arith, mark-ok)
+
+mny-enum-known-got : (t : ℕ) → mny-lts.Need-enum-known-got (
+  refuse-reads.Asked,
+  refuse-reads.Learnt,
+  mark-reads.Asked,
+  mark-reads.Learnt,
+  itm-below t,
+  itm.Post,
+  at-reads.Asked,
+  at-reads.Learnt,
+  bump-reads.Asked,
+  bump-reads.Learnt,
+  close-reads.Asked,
+  close-reads.Learnt,
+) (mny-at t) mny.Post mny-Inv-loop mny-μ-loop
+mny-enum-known-got t c =
+    let falls = c .before .before .before .before .before .before .before .before .before .before .before .before .before .before .before .before .before .before .before .before .pre .0 in
+    let pre0 = c .before .before .before .before .before .before .before .before .before .before .before .before .before .before .before .before .before .before .before .before .pre .1 in
+    let if1 = c .before .before .before .before .before .before .before .before .before .before .before .before .if1 .left in
+    search needs
+
+mny-same-length-4 : (t : ℕ) → mny-lts.Need-same-length-4 (
+  refuse-reads.Asked,
+  refuse-reads.Learnt,
+  mark-reads.Asked,
+  mark-reads.Learnt,
+  itm-below t,
+  itm.Post,
+  at-reads.Asked,
+  at-reads.Learnt,
+  bump-reads.Asked,
+  bump-reads.Learnt,
+  close-reads.Asked,
+  close-reads.Learnt,
+) (mny-at t) mny.Post mny-Inv-loop mny-μ-loop
+mny-same-length-4 t c =
+    c .before .before .before .before .before .before .before .before .before .itm .kept .1 .1 .1 .0 ∙ c .before .before .before .before .before .before .before .before .before .before .before .before .before .before .before .loop .inv .1
+
+mny-same-length-5 : (t : ℕ) → mny-lts.Need-same-length-5 (
+  refuse-reads.Asked,
+  refuse-reads.Learnt,
+  mark-reads.Asked,
+  mark-reads.Learnt,
+  itm-below t,
+  itm.Post,
+  at-reads.Asked,
+  at-reads.Learnt,
+  bump-reads.Asked,
+  bump-reads.Learnt,
+  close-reads.Asked,
+  close-reads.Learnt,
+) (mny-at t) mny.Post mny-Inv-loop mny-μ-loop
+mny-same-length-5 t c =
+    c .before .before .before .before .before .before .before .before .before .itm .kept .1 .1 .1 .1 .0 ∙ c .before .before .before .before .before .before .before .before .before .before .before .before .before .before .before .loop .inv .2
+
+mny-same-length-6 : (t : ℕ) → mny-lts.Need-same-length-6 (
+  refuse-reads.Asked,
+  refuse-reads.Learnt,
+  mark-reads.Asked,
+  mark-reads.Learnt,
+  itm-below t,
+  itm.Post,
+  at-reads.Asked,
+  at-reads.Learnt,
+  bump-reads.Asked,
+  bump-reads.Learnt,
+  close-reads.Asked,
+  close-reads.Learnt,
+) (mny-at t) mny.Post mny-Inv-loop mny-μ-loop
+mny-same-length-6 t c =
+    c .before .before .before .before .before .before .before .before .before .itm .kept .1 .1 .1 .1 .1 .0 ∙ c .before .before .before .before .before .before .before .before .before .before .before .before .before .before .before .loop .inv .3
+
+mny-returns-2 : (t : ℕ) → mny-lts.Need-returns-2 (
+  refuse-reads.Asked,
+  refuse-reads.Learnt,
+  mark-reads.Asked,
+  mark-reads.Learnt,
+  itm-below t,
+  itm.Post,
+  at-reads.Asked,
+  at-reads.Learnt,
+  bump-reads.Asked,
+  bump-reads.Learnt,
+  close-reads.Asked,
+  close-reads.Learnt,
+) (mny-at t) mny.Post mny-Inv-loop mny-μ-loop
+unfolding util.manyTurn plan choose chosen
+mny-returns-2 t c =
+    let inv = c .before .before .before .before .before .before .before .before .before .before .before .before .before .before .before .loop .inv .0 in
+    let if1 = c .before .before .before .before .before .before .before .before .before .before .before .before .before .before .if1 .left in
+    let mark = c .before .before .before .before .before .before .before .before .before .before .before .before .before .mark .ensures in
+    let itm = rw (c .before .got .given .1) at (c .before .before .before .before .before .before .before .before .before .itm .ensures) in
+    loop-ends (many-turn-advances true _ _ _ _ _) inv (in-steps (inv .ok) {n = (c .before .before .before .before .before .before .before .before .before .before .before .before .before .before .before .before .before .before .before .before .before .before .args .left)} {b = (c .before .before .before .before .before .before .before .before .before .before .before .before .before .before .before .before .before .before .before .before .before .before .args .b)} (s-mark if1 mark (s-by _ (runs-in itm) s-end)))
+
+mny-enum-known-got-2 : (t : ℕ) → mny-lts.Need-enum-known-got-2 (
+  refuse-reads.Asked,
+  refuse-reads.Learnt,
+  mark-reads.Asked,
+  mark-reads.Learnt,
+  itm-below t,
+  itm.Post,
+  at-reads.Asked,
+  at-reads.Learnt,
+  bump-reads.Asked,
+  bump-reads.Learnt,
+  close-reads.Asked,
+  close-reads.Learnt,
+) (mny-at t) mny.Post mny-Inv-loop mny-μ-loop
+mny-enum-known-got-2 t c =
+    let falls = c .before .before .before .before .before .before .before .before .before .before .before .before .before .before .before .before .before .before .before .before .pre .0 in
+    let pre0 = c .before .before .before .before .before .before .before .before .before .before .before .before .before .before .before .before .before .before .before .before .pre .1 in
+    let if1 = c .before .before .before .before .before .before .before .before .before .before .before .before .if1 .left in
+    search needs
+
+mny-at-requires : (t : ℕ) → mny-lts.Need-at-requires (
+  refuse-reads.Asked,
+  refuse-reads.Learnt,
+  mark-reads.Asked,
+  mark-reads.Learnt,
+  itm-below t,
+  itm.Post,
+  at-reads.Asked,
+  at-reads.Learnt,
+  bump-reads.Asked,
+  bump-reads.Learnt,
+  close-reads.Asked,
+  close-reads.Learnt,
+) (mny-at t) mny.Post mny-Inv-loop mny-μ-loop
+mny-at-requires t c κs =
+    let itm = rw (c .before .got2 .given .1) at (c .before .before .before .before .before .before .before .before .before .itm .ensures) in
+    let itm-ok = itm .ok in
+    itm-ok .reads
+
+mny-bump-requires : (t : ℕ) → mny-lts.Need-bump-requires (
+  refuse-reads.Asked,
+  refuse-reads.Learnt,
+  mark-reads.Asked,
+  mark-reads.Learnt,
+  itm-below t,
+  itm.Post,
+  at-reads.Asked,
+  at-reads.Learnt,
+  bump-reads.Asked,
+  bump-reads.Learnt,
+  close-reads.Asked,
+  close-reads.Learnt,
+) (mny-at t) mny.Post mny-Inv-loop mny-μ-loop
+mny-bump-requires t c κs =
+    let itm = rw (c .before .before .before .before .got2 .given .1) at (c .before .before .before .before .before .before .before .before .before .before .before .before .itm .ensures) in
+    let itm-ok = itm .ok in
+    (itm-ok .reads, itm-ok .logs)
+
+mny-close-requires : (t : ℕ) → mny-lts.Need-close-requires (
+  refuse-reads.Asked,
+  refuse-reads.Learnt,
+  mark-reads.Asked,
+  mark-reads.Learnt,
+  itm-below t,
+  itm.Post,
+  at-reads.Asked,
+  at-reads.Learnt,
+  bump-reads.Asked,
+  bump-reads.Learnt,
+  close-reads.Asked,
+  close-reads.Learnt,
+) (mny-at t) mny.Post mny-Inv-loop mny-μ-loop
+mny-close-requires t c κs =
+    let inv = c .before .before .before .before .before .before .before .before .before .before .before .before .before .before .before .before .before .before .before .before .before .before .loop .inv .0 .ok in
+    let mark = c .before .before .before .before .before .before .before .before .before .before .before .before .before .before .before .before .before .before .before .before .mark .ensures in
+    let mark-ok = ok-marks mark inv in
+    let itm = rw (c .before .before .before .before .before .before .before .before .got2 .given .1) at (c .before .before .before .before .before .before .before .before .before .before .before .before .before .before .before .before .itm .ensures) in
+    let itm-ok = itm .ok in
+    let bump = c .before .before .before .bump .ensures in
+    let bump-ok = ok-bumps bump itm-ok in
+    (bump-ok .logs, small-len mark-ok)
+
+mny-loop-less : (t : ℕ) → mny-lts.Need-loop-less (
+  refuse-reads.Asked,
+  refuse-reads.Learnt,
+  mark-reads.Asked,
+  mark-reads.Learnt,
+  itm-below t,
+  itm.Post,
+  at-reads.Asked,
+  at-reads.Learnt,
+  bump-reads.Asked,
+  bump-reads.Learnt,
+  close-reads.Asked,
+  close-reads.Learnt,
+) (mny-at t) mny.Post mny-Inv-loop mny-μ-loop
+unfolding util.manyTurn plan choose chosen
+mny-loop-less t c =
+    let inv = c .before .before .before .before .before .before .before .before .before .before .before .before .before .before .before .before .before .before .before .before .before .before .before .before .before .loop .inv .0 in
+    let if1 = c .before .before .before .before .before .before .before .before .before .before .before .before .before .before .before .before .before .before .before .before .before .before .before .before .if1 .left in
+    let mark = c .before .before .before .before .before .before .before .before .before .before .before .before .before .before .before .before .before .before .before .before .before .before .before .mark .ensures in
+    let itm = rw (c .before .before .before .before .before .before .before .before .before .before .before .got2 .given .1) at (c .before .before .before .before .before .before .before .before .before .before .before .before .before .before .before .before .before .before .before .itm .ensures) in
+    let at = c .before .before .before .before .before .before .before .before .before .at .ensures in
+    let if2 = c .before .before .before .before .before .before .before .before .if2 .taken in
+    let bump = c .before .before .before .before .before .before .bump .ensures in
+    let close = c .before .before .close .ensures in
+    loop-falls {p = (util.manyTurn {g = true} ((c .before .before .before .before .before .before .before .before .before .before .before .before .before .before .before .before .before .before .before .before .before .before .before .before .before .before .before .before .before .before .before .before .args .q) .sep) ((c .before .before .before .before .before .before .before .before .before .before .before .before .before .before .before .before .before .before .before .before .before .before .before .before .before .before .before .before .before .before .before .before .args .q) .wrap) (decl.manyClosure ((c .before .before .before .before .before .before .before .before .before .before .before .before .before .before .before .before .before .before .before .before .before .before .before .before .before .before .before .before .before .before .before .before .args .q) .wrap) (errOf (c .before .before .before .before .before .before .before .before .before .before .before .before .before .before .before .before .before .before .before .before .before .before .before .before .before .before .before .before .before .before .before .before .args .e))))} (many-turn-advances true _ _ _ _ _) (in-steps (inv .ok) {n = (c .before .before .before .before .before .before .before .before .before .before .before .before .before .before .before .before .before .before .before .before .before .before .before .before .before .before .before .before .before .before .before .before .args .left)} {b = (c .before .before .before .before .before .before .before .before .before .before .before .before .before .before .before .before .before .before .before .before .before .before .before .before .before .before .before .before .before .before .before .before .args .b)} (s-mark if1 mark (s-by _ (runs-in itm) (s-kind (s-true _ _ (kind-at _ _ _ _ at if2) (s-bump bump (s-close close s-end)))))))
+
+mny-loop-again : (t : ℕ) → mny-lts.Need-loop-again (
+  refuse-reads.Asked,
+  refuse-reads.Learnt,
+  mark-reads.Asked,
+  mark-reads.Learnt,
+  itm-below t,
+  itm.Post,
+  at-reads.Asked,
+  at-reads.Learnt,
+  bump-reads.Asked,
+  bump-reads.Learnt,
+  close-reads.Asked,
+  close-reads.Learnt,
+) (mny-at t) mny.Post mny-Inv-loop mny-μ-loop
+unfolding util.manyTurn plan choose chosen
+mny-loop-again t c =
+    let inv = c .before .before .before .before .before .before .before .before .before .before .before .before .before .before .before .before .before .before .before .before .before .before .before .before .before .loop .inv .0 in
+    let if1 = c .before .before .before .before .before .before .before .before .before .before .before .before .before .before .before .before .before .before .before .before .before .before .before .before .if1 .left in
+    let mark = c .before .before .before .before .before .before .before .before .before .before .before .before .before .before .before .before .before .before .before .before .before .before .before .mark .ensures in
+    let itm = rw (c .before .before .before .before .before .before .before .before .before .before .before .got2 .given .1) at (c .before .before .before .before .before .before .before .before .before .before .before .before .before .before .before .before .before .before .before .itm .ensures) in
+    let at = c .before .before .before .before .before .before .before .before .before .at .ensures in
+    let if2 = c .before .before .before .before .before .before .before .before .if2 .taken in
+    let bump = c .before .before .before .before .before .before .bump .ensures in
+    let close = c .before .before .close .ensures in
+    (loop-goes (many-turn-advances true _ _ _ _ _) inv (in-steps (inv .ok) {n = (c .before .before .before .before .before .before .before .before .before .before .before .before .before .before .before .before .before .before .before .before .before .before .before .before .before .before .before .before .before .before .before .before .args .left)} {b = (c .before .before .before .before .before .before .before .before .before .before .before .before .before .before .before .before .before .before .before .before .before .before .before .before .before .before .before .before .before .before .before .before .args .b)} (s-mark if1 mark (s-by _ (runs-in itm) (s-kind (s-true _ _ (kind-at _ _ _ _ at if2) (s-bump bump (s-close close s-end))))))), c .before .before .before .before .before .before .before .before .before .before .before .before .before .before .before .before .before .before .before .itm .kept .1 .1 .1 .0 ∙ c .before .before .before .before .before .before .before .before .before .before .before .before .before .before .before .before .before .before .before .before .before .before .before .before .before .loop .inv .1, c .before .before .close .kept .0 ∙ c .before .before .before .before .before .before .bump .kept .1 .0 ∙ c .before .before .before .before .before .before .before .before .before .before .before .before .before .before .before .before .before .before .before .itm .kept .1 .1 .1 .1 .0 ∙ c .before .before .before .before .before .before .before .before .before .before .before .before .before .before .before .before .before .before .before .before .before .before .before .before .before .loop .inv .2, c .before .before .before .before .before .before .before .before .before .before .before .before .before .before .before .before .before .before .before .itm .kept .1 .1 .1 .1 .1 .0 ∙ c .before .before .before .before .before .before .before .before .before .before .before .before .before .before .before .before .before .before .before .before .before .before .before .before .before .loop .inv .3)
+
+mny-close-requires-2 : (t : ℕ) → mny-lts.Need-close-requires-2 (
+  refuse-reads.Asked,
+  refuse-reads.Learnt,
+  mark-reads.Asked,
+  mark-reads.Learnt,
+  itm-below t,
+  itm.Post,
+  at-reads.Asked,
+  at-reads.Learnt,
+  bump-reads.Asked,
+  bump-reads.Learnt,
+  close-reads.Asked,
+  close-reads.Learnt,
+) (mny-at t) mny.Post mny-Inv-loop mny-μ-loop
+mny-close-requires-2 t c κs =
+    let inv = c .before .before .before .before .before .before .before .before .before .before .before .before .before .before .before .before .before .before .loop .inv .0 .ok in
+    let mark = c .before .before .before .before .before .before .before .before .before .before .before .before .before .before .before .before .mark .ensures in
+    let mark-ok = ok-marks mark inv in
+    let itm = rw (c .before .before .before .before .got2 .given .1) at (c .before .before .before .before .before .before .before .before .before .before .before .before .itm .ensures) in
+    let itm-ok = itm .ok in
+    (itm-ok .logs, small-len mark-ok)
+
+mny-same-length-7 : (t : ℕ) → mny-lts.Need-same-length-7 (
+  refuse-reads.Asked,
+  refuse-reads.Learnt,
+  mark-reads.Asked,
+  mark-reads.Learnt,
+  itm-below t,
+  itm.Post,
+  at-reads.Asked,
+  at-reads.Learnt,
+  bump-reads.Asked,
+  bump-reads.Learnt,
+  close-reads.Asked,
+  close-reads.Learnt,
+) (mny-at t) mny.Post mny-Inv-loop mny-μ-loop
+mny-same-length-7 t c =
+    c .before .before .before .before .before .before .before .before .before .before .before .before .before .before .before .itm .kept .1 .1 .1 .0 ∙ c .before .before .before .before .before .before .before .before .before .before .before .before .before .before .before .before .before .before .before .before .before .loop .inv .1
+
+mny-same-length-8 : (t : ℕ) → mny-lts.Need-same-length-8 (
+  refuse-reads.Asked,
+  refuse-reads.Learnt,
+  mark-reads.Asked,
+  mark-reads.Learnt,
+  itm-below t,
+  itm.Post,
+  at-reads.Asked,
+  at-reads.Learnt,
+  bump-reads.Asked,
+  bump-reads.Learnt,
+  close-reads.Asked,
+  close-reads.Learnt,
+) (mny-at t) mny.Post mny-Inv-loop mny-μ-loop
+mny-same-length-8 t c =
+    c .before .before .close2 .kept .0 ∙ c .before .before .before .before .before .before .before .before .before .before .before .before .before .before .before .itm .kept .1 .1 .1 .1 .0 ∙ c .before .before .before .before .before .before .before .before .before .before .before .before .before .before .before .before .before .before .before .before .before .loop .inv .2
+
+mny-same-length-9 : (t : ℕ) → mny-lts.Need-same-length-9 (
+  refuse-reads.Asked,
+  refuse-reads.Learnt,
+  mark-reads.Asked,
+  mark-reads.Learnt,
+  itm-below t,
+  itm.Post,
+  at-reads.Asked,
+  at-reads.Learnt,
+  bump-reads.Asked,
+  bump-reads.Learnt,
+  close-reads.Asked,
+  close-reads.Learnt,
+) (mny-at t) mny.Post mny-Inv-loop mny-μ-loop
+mny-same-length-9 t c =
+    c .before .before .before .before .before .before .before .before .before .before .before .before .before .before .before .itm .kept .1 .1 .1 .1 .1 .0 ∙ c .before .before .before .before .before .before .before .before .before .before .before .before .before .before .before .before .before .before .before .before .before .loop .inv .3
+
+mny-returns-3 : (t : ℕ) → mny-lts.Need-returns-3 (
+  refuse-reads.Asked,
+  refuse-reads.Learnt,
+  mark-reads.Asked,
+  mark-reads.Learnt,
+  itm-below t,
+  itm.Post,
+  at-reads.Asked,
+  at-reads.Learnt,
+  bump-reads.Asked,
+  bump-reads.Learnt,
+  close-reads.Asked,
+  close-reads.Learnt,
+) (mny-at t) mny.Post mny-Inv-loop mny-μ-loop
+unfolding util.manyTurn plan choose chosen
+mny-returns-3 t c =
+    let inv = c .before .before .before .before .before .before .before .before .before .before .before .before .before .before .before .before .before .before .before .before .before .loop .inv .0 in
+    let if1 = c .before .before .before .before .before .before .before .before .before .before .before .before .before .before .before .before .before .before .before .before .if1 .left in
+    let mark = c .before .before .before .before .before .before .before .before .before .before .before .before .before .before .before .before .before .before .before .mark .ensures in
+    let itm = rw (c .before .before .before .before .before .before .before .got2 .given .1) at (c .before .before .before .before .before .before .before .before .before .before .before .before .before .before .before .itm .ensures) in
+    let at = c .before .before .before .before .before .at .ensures in
+    let if2 = c .before .before .before .before .if2 .left in
+    let close2 = c .before .before .close2 .ensures in
+    loop-ends (many-turn-advances true _ _ _ _ _) inv (in-steps (inv .ok) {n = (c .before .before .before .before .before .before .before .before .before .before .before .before .before .before .before .before .before .before .before .before .before .before .before .before .before .before .before .before .args .left)} {b = (c .before .before .before .before .before .before .before .before .before .before .before .before .before .before .before .before .before .before .before .before .before .before .before .before .before .before .before .before .args .b)} (s-mark if1 mark (s-by _ (runs-in itm) (s-kind (s-false _ _ (kind-off _ _ _ _ at if2) (s-close close2 s-end))))))
+
+one-peek-requires : (t : ℕ) → one-lts.Need-peek-requires (
+  peek-reads.Asked,
+  peek-reads.Learnt,
+  refuse-reads.Asked,
+  refuse-reads.Learnt,
+  mark-reads.Asked,
+  mark-reads.Learnt,
+  leaf-dec-reads.Asked,
+  leaf-dec-reads.Learnt,
+  cor-below t,
+  cor.Post,
+) (one-at t) one.Post
+one-peek-requires t c κs =
+    let pre0 = c .before .before .before .before .before .before .pre .1 in
+    pre0 .reads
+
+one-enum-known-k : (t : ℕ) → one-lts.Need-enum-known-k (
+  peek-reads.Asked,
+  peek-reads.Learnt,
+  refuse-reads.Asked,
+  refuse-reads.Learnt,
+  mark-reads.Asked,
+  mark-reads.Learnt,
+  leaf-dec-reads.Asked,
+  leaf-dec-reads.Learnt,
+  cor-below t,
+  cor.Post,
+) (one-at t) one.Post
+one-enum-known-k t c =
+    let falls = c .before .before .before .before .before .before .before .before .pre .0 in
+    let pre0 = c .before .before .before .before .before .before .before .before .pre .1 in
+    search needs
+
+one-enum-told : (t : ℕ) → one-lts.Need-enum-told (
+  peek-reads.Asked,
+  peek-reads.Learnt,
+  refuse-reads.Asked,
+  refuse-reads.Learnt,
+  mark-reads.Asked,
+  mark-reads.Learnt,
+  leaf-dec-reads.Asked,
+  leaf-dec-reads.Learnt,
+  cor-below t,
+  cor.Post,
+) (one-at t) one.Post
+one-enum-told t c =
+    let falls = c .before .before .before .before .before .before .before .before .pre .0 in
+    let pre0 = c .before .before .before .before .before .before .before .before .pre .1 in
+    search needs
+
+one-returns : (t : ℕ) → one-lts.Need-returns (
+  peek-reads.Asked,
+  peek-reads.Learnt,
+  refuse-reads.Asked,
+  refuse-reads.Learnt,
+  mark-reads.Asked,
+  mark-reads.Learnt,
+  leaf-dec-reads.Asked,
+  leaf-dec-reads.Learnt,
+  cor-below t,
+  cor.Post,
+) (one-at t) one.Post
+unfolding decl.decOne decl.decHead plan choose chosen
+one-returns t c =
+    let falls = c .before .before .before .before .before .before .before .before .before .pre .0 in
+    let pre0 = c .before .before .before .before .before .before .before .before .before .pre .1 in
+    let peek = rw (c .enum-told .given .1) at (c .before .before .peek .ensures) in
+    by-steps pre0 (λ b. s-look peek s-end)
+
+one-refuse-requires : (t : ℕ) → one-lts.Need-refuse-requires (
+  peek-reads.Asked,
+  peek-reads.Learnt,
+  refuse-reads.Asked,
+  refuse-reads.Learnt,
+  mark-reads.Asked,
+  mark-reads.Learnt,
+  leaf-dec-reads.Asked,
+  leaf-dec-reads.Learnt,
+  cor-below t,
+  cor.Post,
+) (one-at t) one.Post
+one-refuse-requires t c κs =
+    tt
+
+one-returns-2 : (t : ℕ) → one-lts.Need-returns-2 (
+  peek-reads.Asked,
+  peek-reads.Learnt,
+  refuse-reads.Asked,
+  refuse-reads.Learnt,
+  mark-reads.Asked,
+  mark-reads.Learnt,
+  leaf-dec-reads.Asked,
+  leaf-dec-reads.Learnt,
+  cor-below t,
+  cor.Post,
+) (one-at t) one.Post
+unfolding decl.decOne decl.decHead plan choose chosen
+one-returns-2 t c =
+    let falls = c .before .before .before .before .before .before .before .before .before .before .before .before .pre .0 in
+    let pre0 = c .before .before .before .before .before .before .before .before .before .before .before .before .pre .1 in
+    let peek = rw (c .before .before .before .k .given .1) at (c .before .before .before .before .before .peek .ensures) in
+    let if1 = c .before .if1 .taken in
+    let refuse = c .refuse .ensures in
+    by-steps pre0 (λ b. s-look peek (s-deep if1 refuse s-end))
+
+one-sub-n : (t : ℕ) → one-lts.Need-sub-n (
+  peek-reads.Asked,
+  peek-reads.Learnt,
+  refuse-reads.Asked,
+  refuse-reads.Learnt,
+  mark-reads.Asked,
+  mark-reads.Learnt,
+  leaf-dec-reads.Asked,
+  leaf-dec-reads.Learnt,
+  cor-below t,
+  cor.Post,
+) (one-at t) one.Post
+one-sub-n t c =
+    let falls = c .before .before .before .before .before .before .before .before .before .before .before .pre .0 in
+    let pre0 = c .before .before .before .before .before .before .before .before .before .before .before .pre .1 in
+    let if1 = c .if1 .left in
+    search needs
+
+one-mark-requires : (t : ℕ) → one-lts.Need-mark-requires (
+  peek-reads.Asked,
+  peek-reads.Learnt,
+  refuse-reads.Asked,
+  refuse-reads.Learnt,
+  mark-reads.Asked,
+  mark-reads.Learnt,
+  leaf-dec-reads.Asked,
+  leaf-dec-reads.Learnt,
+  cor-below t,
+  cor.Post,
+) (one-at t) one.Post
+one-mark-requires t c κs =
+    tt
+
+one-leaf-dec-requires : (t : ℕ) → one-lts.Need-leaf-dec-requires (
+  peek-reads.Asked,
+  peek-reads.Learnt,
+  refuse-reads.Asked,
+  refuse-reads.Learnt,
+  mark-reads.Asked,
+  mark-reads.Learnt,
+  leaf-dec-reads.Asked,
+  leaf-dec-reads.Learnt,
+  cor-below t,
+  cor.Post,
+) (one-at t) one.Post
+one-leaf-dec-requires t c κs =
+    let pre0 = c .before .before .before .before .before .before .before .before .before .before .before .before .before .before .before .pre .1 in
+    let mark = c .before .before .before .mark .ensures in
+    let mark-ok = ok-marks mark pre0 in
+    (mark-ok, small-len mark-ok)
+
+one-enum-known-got : (t : ℕ) → one-lts.Need-enum-known-got (
+  peek-reads.Asked,
+  peek-reads.Learnt,
+  refuse-reads.Asked,
+  refuse-reads.Learnt,
+  mark-reads.Asked,
+  mark-reads.Learnt,
+  leaf-dec-reads.Asked,
+  leaf-dec-reads.Learnt,
+  cor-below t,
+  cor.Post,
+) (one-at t) one.Post
+one-enum-known-got t c =
+    let falls = c .before .before .before .before .before .before .before .before .before .before .before .before .before .before .before .before .before .before .before .before .before .before .before .pre .0 in
+    let pre0 = c .before .before .before .before .before .before .before .before .before .before .before .before .before .before .before .before .before .before .before .before .before .before .before .pre .1 in
+    let if1 = c .before .before .before .before .before .before .before .before .before .before .before .before .if1 .left in
+    search needs
+
+one-enum-known-got-2 : (t : ℕ) → one-lts.Need-enum-known-got-2 (
+  peek-reads.Asked,
+  peek-reads.Learnt,
+  refuse-reads.Asked,
+  refuse-reads.Learnt,
+  mark-reads.Asked,
+  mark-reads.Learnt,
+  leaf-dec-reads.Asked,
+  leaf-dec-reads.Learnt,
+  cor-below t,
+  cor.Post,
+) (one-at t) one.Post
+one-enum-known-got-2 t c =
+    let falls = c .before .before .before .before .before .before .before .before .before .before .before .before .before .before .before .before .before .before .before .before .before .before .before .pre .0 in
+    let pre0 = c .before .before .before .before .before .before .before .before .before .before .before .before .before .before .before .before .before .before .before .before .before .before .before .pre .1 in
+    let if1 = c .before .before .before .before .before .before .before .before .before .before .before .before .if1 .left in
+    search needs
+
+one-cor-requires : (t : ℕ) → one-lts.Need-cor-requires (
+  peek-reads.Asked,
+  peek-reads.Learnt,
+  refuse-reads.Asked,
+  refuse-reads.Learnt,
+  mark-reads.Asked,
+  mark-reads.Learnt,
+  leaf-dec-reads.Asked,
+  leaf-dec-reads.Learnt,
+  cor-below t,
+  cor.Post,
+) (one-at t) one.Post
+one-cor-requires t c κs =
+    let falls = c .before .before .before .before .before .before .before .before .before .before .before .before .before .before .before .before .before .before .before .before .before .before .before .before .before .before .before .before .pre .0 in
+    let pre0 = c .before .before .before .before .before .before .before .before .before .before .before .before .before .before .before .before .before .before .before .before .before .before .before .before .before .before .before .before .pre .1 in
+    let if1 = c .before .before .before .before .before .before .before .before .before .before .before .before .before .before .before .before .before .if1 .left in
+    let mark = c .before .before .before .before .before .before .before .before .before .before .before .before .before .before .before .before .mark .ensures in
+    let mark-ok = ok-marks mark pre0 in
+    let leaf-dec = rw (c .before .before .before .before .got2 .given .1) at (c .before .before .before .before .before .before .before .before .before .before .before .before .leaf-dec .ensures) in
+    let leaf-dec-ok = leaf-dec .ok in
+    (omega arith, (leaf-dec-ok, small-len mark-ok))
+
+one-same-length : (t : ℕ) → one-lts.Need-same-length (
+  peek-reads.Asked,
+  peek-reads.Learnt,
+  refuse-reads.Asked,
+  refuse-reads.Learnt,
+  mark-reads.Asked,
+  mark-reads.Learnt,
+  leaf-dec-reads.Asked,
+  leaf-dec-reads.Learnt,
+  cor-below t,
+  cor.Post,
+) (one-at t) one.Post
+one-same-length t c =
+    c .before .before .before .before .before .before .before .before .before .leaf-dec .kept .1 .1 .1 .0
+
+one-same-length-2 : (t : ℕ) → one-lts.Need-same-length-2 (
+  peek-reads.Asked,
+  peek-reads.Learnt,
+  refuse-reads.Asked,
+  refuse-reads.Learnt,
+  mark-reads.Asked,
+  mark-reads.Learnt,
+  leaf-dec-reads.Asked,
+  leaf-dec-reads.Learnt,
+  cor-below t,
+  cor.Post,
+) (one-at t) one.Post
+one-same-length-2 t c =
+    c .before .before .before .before .before .before .before .before .before .leaf-dec .kept .1 .1 .1 .1 .0
+
+one-same-length-3 : (t : ℕ) → one-lts.Need-same-length-3 (
+  peek-reads.Asked,
+  peek-reads.Learnt,
+  refuse-reads.Asked,
+  refuse-reads.Learnt,
+  mark-reads.Asked,
+  mark-reads.Learnt,
+  leaf-dec-reads.Asked,
+  leaf-dec-reads.Learnt,
+  cor-below t,
+  cor.Post,
+) (one-at t) one.Post
+one-same-length-3 t c =
+    c .before .before .before .before .before .before .before .before .before .leaf-dec .kept .1 .1 .1 .1 .1 .0
+
+one-returns-3 : (t : ℕ) → one-lts.Need-returns-3 (
+  peek-reads.Asked,
+  peek-reads.Learnt,
+  refuse-reads.Asked,
+  refuse-reads.Learnt,
+  mark-reads.Asked,
+  mark-reads.Learnt,
+  leaf-dec-reads.Asked,
+  leaf-dec-reads.Learnt,
+  cor-below t,
+  cor.Post,
+) (one-at t) one.Post
+unfolding decl.decOne decl.decHead plan choose chosen
+one-returns-3 t c =
+    let falls = c .before .before .before .before .before .before .before .before .before .before .before .before .before .before .before .before .before .before .before .before .before .before .before .before .before .pre .0 in
+    let pre0 = c .before .before .before .before .before .before .before .before .before .before .before .before .before .before .before .before .before .before .before .before .before .before .before .before .before .pre .1 in
+    let peek = rw (c .before .before .before .before .before .before .before .before .before .before .before .before .before .before .before .before .k .given .1) at (c .before .before .before .before .before .before .before .before .before .before .before .before .before .before .before .before .before .before .peek .ensures) in
+    let if1 = c .before .before .before .before .before .before .before .before .before .before .before .before .before .before .if1 .left in
+    let mark = c .before .before .before .before .before .before .before .before .before .before .before .before .before .mark .ensures in
+    let leaf-dec = rw (c .before .got .given .1) at (c .before .before .before .before .before .before .before .before .before .leaf-dec .ensures) in
+    by-steps pre0 (λ b. s-look peek (s-mark if1 mark (s-by _ leaf-dec s-end)))
+
+one-same-length-4 : (t : ℕ) → one-lts.Need-same-length-4 (
+  peek-reads.Asked,
+  peek-reads.Learnt,
+  refuse-reads.Asked,
+  refuse-reads.Learnt,
+  mark-reads.Asked,
+  mark-reads.Learnt,
+  leaf-dec-reads.Asked,
+  leaf-dec-reads.Learnt,
+  cor-below t,
+  cor.Post,
+) (one-at t) one.Post
+one-same-length-4 t c =
+    c .before .before .before .before .before .before .cor .kept .1 .1 .1 .0 ∙ c .before .before .before .before .before .before .before .before .before .before .before .before .before .before .before .before .before .before .before .leaf-dec .kept .1 .1 .1 .0
+
+one-same-length-5 : (t : ℕ) → one-lts.Need-same-length-5 (
+  peek-reads.Asked,
+  peek-reads.Learnt,
+  refuse-reads.Asked,
+  refuse-reads.Learnt,
+  mark-reads.Asked,
+  mark-reads.Learnt,
+  leaf-dec-reads.Asked,
+  leaf-dec-reads.Learnt,
+  cor-below t,
+  cor.Post,
+) (one-at t) one.Post
+one-same-length-5 t c =
+    c .before .before .before .before .before .before .cor .kept .1 .1 .1 .1 .0 ∙ c .before .before .before .before .before .before .before .before .before .before .before .before .before .before .before .before .before .before .before .leaf-dec .kept .1 .1 .1 .1 .0
+
+one-same-length-6 : (t : ℕ) → one-lts.Need-same-length-6 (
+  peek-reads.Asked,
+  peek-reads.Learnt,
+  refuse-reads.Asked,
+  refuse-reads.Learnt,
+  mark-reads.Asked,
+  mark-reads.Learnt,
+  leaf-dec-reads.Asked,
+  leaf-dec-reads.Learnt,
+  cor-below t,
+  cor.Post,
+) (one-at t) one.Post
+one-same-length-6 t c =
+    c .before .before .before .before .before .before .cor .kept .1 .1 .1 .1 .1 .0 ∙ c .before .before .before .before .before .before .before .before .before .before .before .before .before .before .before .before .before .before .before .leaf-dec .kept .1 .1 .1 .1 .1 .0
+
+one-returns-4 : (t : ℕ) → one-lts.Need-returns-4 (
+  peek-reads.Asked,
+  peek-reads.Learnt,
+  refuse-reads.Asked,
+  refuse-reads.Learnt,
+  mark-reads.Asked,
+  mark-reads.Learnt,
+  leaf-dec-reads.Asked,
+  leaf-dec-reads.Learnt,
+  cor-below t,
+  cor.Post,
+) (one-at t) one.Post
+unfolding decl.decOne decl.decHead plan choose chosen
+one-returns-4 t c =
+    let falls = c .before .before .before .before .before .before .before .before .before .before .before .before .before .before .before .before .before .before .before .before .before .before .before .before .before .before .before .before .before .before .before .before .before .before .before .pre .0 in
+    let pre0 = c .before .before .before .before .before .before .before .before .before .before .before .before .before .before .before .before .before .before .before .before .before .before .before .before .before .before .before .before .before .before .before .before .before .before .before .pre .1 in
+    let peek = rw (c .before .before .before .before .before .before .before .before .before .before .before .before .before .before .before .before .before .before .before .before .before .before .before .before .before .before .k .given .1) at (c .before .before .before .before .before .before .before .before .before .before .before .before .before .before .before .before .before .before .before .before .before .before .before .before .before .before .before .before .peek .ensures) in
+    let if1 = c .before .before .before .before .before .before .before .before .before .before .before .before .before .before .before .before .before .before .before .before .before .before .before .before .if1 .left in
+    let mark = c .before .before .before .before .before .before .before .before .before .before .before .before .before .before .before .before .before .before .before .before .before .before .before .mark .ensures in
+    let leaf-dec = rw (c .before .before .before .before .before .before .before .before .before .before .before .got2 .given .1) at (c .before .before .before .before .before .before .before .before .before .before .before .before .before .before .before .before .before .before .before .leaf-dec .ensures) in
+    let cor = c .before .before .before .before .before .before .cor .ensures in
+    by-steps pre0 (λ b. s-look peek (s-mark if1 mark (s-by _ leaf-dec (s-by _ cor s-end))))
+
+opr-should-break-exp-requires : (t : ℕ) → opr-lts.Need-should-break-exp-requires (
+  should-break-exp-reads.Asked,
+  should-break-exp-reads.Learnt,
+  refuse-reads.Asked,
+  refuse-reads.Learnt,
+  mark-reads.Asked,
+  mark-reads.Learnt,
+  bump-reads.Asked,
+  bump-reads.Learnt,
+  rhs-below t,
+  rhs.Post,
+) (opr-at t) opr.Post
+opr-should-break-exp-requires t c κs =
+    let pre0 = c .before .before .before .before .before .before .before .before .before .pre .1 .0 in
+    pre0
+
+opr-enum-known-ends : (t : ℕ) → opr-lts.Need-enum-known-ends (
+  should-break-exp-reads.Asked,
+  should-break-exp-reads.Learnt,
+  refuse-reads.Asked,
+  refuse-reads.Learnt,
+  mark-reads.Asked,
+  mark-reads.Learnt,
+  bump-reads.Asked,
+  bump-reads.Learnt,
+  rhs-below t,
+  rhs.Post,
+) (opr-at t) opr.Post
+opr-enum-known-ends t c =
+    let falls = c .before .before .before .before .before .before .before .before .before .before .before .before .before .before .before .pre .0 in
+    let pre0 = c .before .before .before .before .before .before .before .before .before .before .before .before .before .before .before .pre .1 .0 in
+    let pre1 = c .before .before .before .before .before .before .before .before .before .before .before .before .before .before .before .pre .1 .1 in
+    search needs
+
+opr-enum-known-ends-2 : (t : ℕ) → opr-lts.Need-enum-known-ends-2 (
+  should-break-exp-reads.Asked,
+  should-break-exp-reads.Learnt,
+  refuse-reads.Asked,
+  refuse-reads.Learnt,
+  mark-reads.Asked,
+  mark-reads.Learnt,
+  bump-reads.Asked,
+  bump-reads.Learnt,
+  rhs-below t,
+  rhs.Post,
+) (opr-at t) opr.Post
+opr-enum-known-ends-2 t c =
+    let falls = c .before .before .before .before .before .before .before .before .before .before .before .before .before .before .before .pre .0 in
+    let pre0 = c .before .before .before .before .before .before .before .before .before .before .before .before .before .before .before .pre .1 .0 in
+    let pre1 = c .before .before .before .before .before .before .before .before .before .before .before .before .before .before .before .pre .1 .1 in
+    search needs
+
+opr-refuse-requires : (t : ℕ) → opr-lts.Need-refuse-requires (
+  should-break-exp-reads.Asked,
+  should-break-exp-reads.Learnt,
+  refuse-reads.Asked,
+  refuse-reads.Learnt,
+  mark-reads.Asked,
+  mark-reads.Learnt,
+  bump-reads.Asked,
+  bump-reads.Learnt,
+  rhs-below t,
+  rhs.Post,
+) (opr-at t) opr.Post
+opr-refuse-requires t c κs =
+    tt
+
+opr-same-length : (t : ℕ) → opr-lts.Need-same-length (
+  should-break-exp-reads.Asked,
+  should-break-exp-reads.Learnt,
+  refuse-reads.Asked,
+  refuse-reads.Learnt,
+  mark-reads.Asked,
+  mark-reads.Learnt,
+  bump-reads.Asked,
+  bump-reads.Learnt,
+  rhs-below t,
+  rhs.Post,
+) (opr-at t) opr.Post
+opr-same-length t c =
+    refl
+
+opr-same-length-2 : (t : ℕ) → opr-lts.Need-same-length-2 (
+  should-break-exp-reads.Asked,
+  should-break-exp-reads.Learnt,
+  refuse-reads.Asked,
+  refuse-reads.Learnt,
+  mark-reads.Asked,
+  mark-reads.Learnt,
+  bump-reads.Asked,
+  bump-reads.Learnt,
+  rhs-below t,
+  rhs.Post,
+) (opr-at t) opr.Post
+opr-same-length-2 t c =
+    c .before .before .before .before .before .before .before .before .before .should-break-exp .kept .1 .1 .1 .1 .0
+
+opr-same-length-3 : (t : ℕ) → opr-lts.Need-same-length-3 (
+  should-break-exp-reads.Asked,
+  should-break-exp-reads.Learnt,
+  refuse-reads.Asked,
+  refuse-reads.Learnt,
+  mark-reads.Asked,
+  mark-reads.Learnt,
+  bump-reads.Asked,
+  bump-reads.Learnt,
+  rhs-below t,
+  rhs.Post,
+) (opr-at t) opr.Post
+opr-same-length-3 t c =
+    c .before .before .before .before .before .before .before .before .before .should-break-exp .kept .1 .1 .1 .1 .1 .0
+
+opr-returns : (t : ℕ) → opr-lts.Need-returns (
+  should-break-exp-reads.Asked,
+  should-break-exp-reads.Learnt,
+  refuse-reads.Asked,
+  refuse-reads.Learnt,
+  mark-reads.Asked,
+  mark-reads.Learnt,
+  bump-reads.Asked,
+  bump-reads.Learnt,
+  rhs-below t,
+  rhs.Post,
+) (opr-at t) opr.Post
+unfolding expr.climb plan choose chosen
+opr-returns t c =
+    let falls = c .before .before .before .before .before .before .before .before .before .before .before .before .before .before .before .before .before .before .before .pre .0 in
+    let pre0 = c .before .before .before .before .before .before .before .before .before .before .before .before .before .before .before .before .before .before .before .pre .1 .0 in
+    let pre1 = c .before .before .before .before .before .before .before .before .before .before .before .before .before .before .before .before .before .before .before .pre .1 .1 in
+    let should-break-exp = rw (c .before .before .before .ends2 .given .1) at (c .before .before .before .before .before .before .before .before .before .should-break-exp .ensures) in
+    let if1 = c .before .if1 .taken in
+    let refuse = c .refuse .ensures in
+    in-steps pre0 (s-by _ (runs-always should-break-exp) (s-deep if1 refuse s-end))
+
+opr-mark-requires : (t : ℕ) → opr-lts.Need-mark-requires (
+  should-break-exp-reads.Asked,
+  should-break-exp-reads.Learnt,
+  refuse-reads.Asked,
+  refuse-reads.Learnt,
+  mark-reads.Asked,
+  mark-reads.Learnt,
+  bump-reads.Asked,
+  bump-reads.Learnt,
+  rhs-below t,
+  rhs.Post,
+) (opr-at t) opr.Post
+opr-mark-requires t c κs =
+    tt
+
+opr-bump-requires : (t : ℕ) → opr-lts.Need-bump-requires (
+  should-break-exp-reads.Asked,
+  should-break-exp-reads.Learnt,
+  refuse-reads.Asked,
+  refuse-reads.Learnt,
+  mark-reads.Asked,
+  mark-reads.Learnt,
+  bump-reads.Asked,
+  bump-reads.Learnt,
+  rhs-below t,
+  rhs.Post,
+) (opr-at t) opr.Post
+opr-bump-requires t c κs =
+    let should-break-exp = rw (c .before .before .before .before .ends2 .given .1) at (c .before .before .before .before .before .before .before .before .before .before .should-break-exp .ensures) in
+    let should-break-exp-ok = should-break-exp .ok in
+    let mark = c .before .mark .ensures in
+    let mark-ok = ok-marks mark should-break-exp-ok in
+    (mark-ok .reads, mark-ok .logs)
+
+opr-sub-rhs : (t : ℕ) → opr-lts.Need-sub-rhs (
+  should-break-exp-reads.Asked,
+  should-break-exp-reads.Learnt,
+  refuse-reads.Asked,
+  refuse-reads.Learnt,
+  mark-reads.Asked,
+  mark-reads.Learnt,
+  bump-reads.Asked,
+  bump-reads.Learnt,
+  rhs-below t,
+  rhs.Post,
+) (opr-at t) opr.Post
+opr-sub-rhs t c =
+    let falls = c .before .before .before .before .before .before .before .before .before .before .before .before .before .before .before .before .before .before .before .before .before .before .before .before .before .before .pre .0 in
+    let pre0 = c .before .before .before .before .before .before .before .before .before .before .before .before .before .before .before .before .before .before .before .before .before .before .before .before .before .before .pre .1 .0 in
+    let pre1 = c .before .before .before .before .before .before .before .before .before .before .before .before .before .before .before .before .before .before .before .before .before .before .before .before .before .before .pre .1 .1 in
+    let if1 = c .before .before .before .before .before .before .before .before .if1 .left in
+    search needs
+
+opr-rhs-requires : (t : ℕ) → opr-lts.Need-rhs-requires (
+  should-break-exp-reads.Asked,
+  should-break-exp-reads.Learnt,
+  refuse-reads.Asked,
+  refuse-reads.Learnt,
+  mark-reads.Asked,
+  mark-reads.Learnt,
+  bump-reads.Asked,
+  bump-reads.Learnt,
+  rhs-below t,
+  rhs.Post,
+) (opr-at t) opr.Post
+opr-rhs-requires t c κs =
+    let falls = c .before .before .before .before .before .before .before .before .before .before .before .before .before .before .before .before .before .before .before .before .before .before .before .before .before .before .pre .0 in
+    let pre1 = c .before .before .before .before .before .before .before .before .before .before .before .before .before .before .before .before .before .before .before .before .before .before .before .before .before .before .pre .1 .1 in
+    let should-break-exp = rw (c .before .before .before .before .before .before .before .before .before .before .ends2 .given .1) at (c .before .before .before .before .before .before .before .before .before .before .before .before .before .before .before .before .should-break-exp .ensures) in
+    let should-break-exp-ok = should-break-exp .ok in
+    let if1 = c .before .before .before .before .before .before .before .before .if1 .left in
+    let mark = c .before .before .before .before .before .before .before .mark .ensures in
+    let mark-ok = ok-marks mark should-break-exp-ok in
+    let bump = c .before .before .before .before .before .bump .ensures in
+    let bump-ok = ok-bumps bump mark-ok in
+    (omega arith, (bump-ok, pre1))
+
+opr-same-length-4 : (t : ℕ) → opr-lts.Need-same-length-4 (
+  should-break-exp-reads.Asked,
+  should-break-exp-reads.Learnt,
+  refuse-reads.Asked,
+  refuse-reads.Learnt,
+  mark-reads.Asked,
+  mark-reads.Learnt,
+  bump-reads.Asked,
+  bump-reads.Learnt,
+  rhs-below t,
+  rhs.Post,
+) (opr-at t) opr.Post
+opr-same-length-4 t c =
+    refl
+
+opr-same-length-5 : (t : ℕ) → opr-lts.Need-same-length-5 (
+  should-break-exp-reads.Asked,
+  should-break-exp-reads.Learnt,
+  refuse-reads.Asked,
+  refuse-reads.Learnt,
+  mark-reads.Asked,
+  mark-reads.Learnt,
+  bump-reads.Asked,
+  bump-reads.Learnt,
+  rhs-below t,
+  rhs.Post,
+) (opr-at t) opr.Post
+opr-same-length-5 t c =
+    c .before .before .before .before .before .before .before .should-break-exp .kept .1 .1 .1 .1 .0
+
+opr-same-length-6 : (t : ℕ) → opr-lts.Need-same-length-6 (
+  should-break-exp-reads.Asked,
+  should-break-exp-reads.Learnt,
+  refuse-reads.Asked,
+  refuse-reads.Learnt,
+  mark-reads.Asked,
+  mark-reads.Learnt,
+  bump-reads.Asked,
+  bump-reads.Learnt,
+  rhs-below t,
+  rhs.Post,
+) (opr-at t) opr.Post
+opr-same-length-6 t c =
+    c .before .before .before .before .before .before .before .should-break-exp .kept .1 .1 .1 .1 .1 .0
+
+opr-returns-2 : (t : ℕ) → opr-lts.Need-returns-2 (
+  should-break-exp-reads.Asked,
+  should-break-exp-reads.Learnt,
+  refuse-reads.Asked,
+  refuse-reads.Learnt,
+  mark-reads.Asked,
+  mark-reads.Learnt,
+  bump-reads.Asked,
+  bump-reads.Learnt,
+  rhs-below t,
+  rhs.Post,
+) (opr-at t) opr.Post
+unfolding expr.climb plan choose chosen
+opr-returns-2 t c =
+    let falls = c .before .before .before .before .before .before .before .before .before .before .before .before .before .before .before .before .before .pre .0 in
+    let pre0 = c .before .before .before .before .before .before .before .before .before .before .before .before .before .before .before .before .before .pre .1 .0 in
+    let pre1 = c .before .before .before .before .before .before .before .before .before .before .before .before .before .before .before .before .before .pre .1 .1 in
+    let should-break-exp = rw (c .before .ends .given .1) at (c .before .before .before .before .before .before .before .should-break-exp .ensures) in
+    in-steps pre0 (s-by _ (runs-always should-break-exp) s-end)
+
+opr-same-length-7 : (t : ℕ) → opr-lts.Need-same-length-7 (
+  should-break-exp-reads.Asked,
+  should-break-exp-reads.Learnt,
+  refuse-reads.Asked,
+  refuse-reads.Learnt,
+  mark-reads.Asked,
+  mark-reads.Learnt,
+  bump-reads.Asked,
+  bump-reads.Learnt,
+  rhs-below t,
+  rhs.Post,
+) (opr-at t) opr.Post
+opr-same-length-7 t c =
+    c .before .before .before .before .before .before .rhs .kept .1 .1 .1 .0
+
+opr-same-length-8 : (t : ℕ) → opr-lts.Need-same-length-8 (
+  should-break-exp-reads.Asked,
+  should-break-exp-reads.Learnt,
+  refuse-reads.Asked,
+  refuse-reads.Learnt,
+  mark-reads.Asked,
+  mark-reads.Learnt,
+  bump-reads.Asked,
+  bump-reads.Learnt,
+  rhs-below t,
+  rhs.Post,
+) (opr-at t) opr.Post
+opr-same-length-8 t c =
+    c .before .before .before .before .before .before .rhs .kept .1 .1 .1 .1 .0 ∙ c .before .before .before .before .before .before .before .before .before .before .before .before .bump .kept .1 .0 ∙ c .before .before .before .before .before .before .before .before .before .before .before .before .before .before .before .before .before .before .before .before .before .before .before .should-break-exp .kept .1 .1 .1 .1 .0
+
+opr-same-length-9 : (t : ℕ) → opr-lts.Need-same-length-9 (
+  should-break-exp-reads.Asked,
+  should-break-exp-reads.Learnt,
+  refuse-reads.Asked,
+  refuse-reads.Learnt,
+  mark-reads.Asked,
+  mark-reads.Learnt,
+  bump-reads.Asked,
+  bump-reads.Learnt,
+  rhs-below t,
+  rhs.Post,
+) (opr-at t) opr.Post
+opr-same-length-9 t c =
+    c .before .before .before .before .before .before .rhs .kept .1 .1 .1 .1 .1 .0 ∙ c .before .before .before .before .before .before .before .before .before .before .before .before .before .before .before .before .before .before .before .before .before .before .before .should-break-exp .kept .1 .1 .1 .1 .1 .0
+
+opr-returns-3 : (t : ℕ) → opr-lts.Need-returns-3 (
+  should-break-exp-reads.Asked,
+  should-break-exp-reads.Learnt,
+  refuse-reads.Asked,
+  refuse-reads.Learnt,
+  mark-reads.Asked,
+  mark-reads.Learnt,
+  bump-reads.Asked,
+  bump-reads.Learnt,
+  rhs-below t,
+  rhs.Post,
+) (opr-at t) opr.Post
+unfolding expr.climb plan choose chosen
+opr-returns-3 t c =
+    let falls = c .before .before .before .before .before .before .before .before .before .before .before .before .before .before .before .before .before .before .before .before .before .before .before .before .before .before .before .before .before .before .before .before .before .pre .0 in
+    let pre0 = c .before .before .before .before .before .before .before .before .before .before .before .before .before .before .before .before .before .before .before .before .before .before .before .before .before .before .before .before .before .before .before .before .before .pre .1 .0 in
+    let pre1 = c .before .before .before .before .before .before .before .before .before .before .before .before .before .before .before .before .before .before .before .before .before .before .before .before .before .before .before .before .before .before .before .before .before .pre .1 .1 in
+    let should-break-exp = rw (c .before .before .before .before .before .before .before .before .before .before .before .before .before .before .before .before .before .ends2 .given .1) at (c .before .before .before .before .before .before .before .before .before .before .before .before .before .before .before .before .before .before .before .before .before .before .before .should-break-exp .ensures) in
+    let if1 = c .before .before .before .before .before .before .before .before .before .before .before .before .before .before .before .if1 .left in
+    let mark = c .before .before .before .before .before .before .before .before .before .before .before .before .before .before .mark .ensures in
+    let bump = c .before .before .before .before .before .before .before .before .before .before .before .before .bump .ensures in
+    let rhs = c .before .before .before .before .before .before .rhs .ensures in
+    in-steps pre0 (s-by _ (runs-always should-break-exp) (s-mark if1 mark (s-bump bump (s-by _ rhs s-end))))
+
+abbrev ops-Inv-loop : ops-lts.InvT-loop
+ops-Inv-loop text toks env table₀ scratch₀ finds₀ left min b s1₀ table scratch finds s1 =
+    Loops left b (expr.expStep (precOf min)) (mem text toks env table₀ scratch₀ finds₀ s1₀) (mem text toks env table scratch finds s1) × (length table ≡ length table₀) × (length scratch ≡ length scratch₀) × (length finds ≡ length finds₀)
+
+abbrev ops-μ-loop : ops-lts.MeasureT-loop
+ops-μ-loop text toks env table₀ scratch₀ finds₀ left min b s1₀ table scratch finds s1 = turns (mem text toks env table scratch finds s1)
+
+ops-loop-holds :
+    (t : ℕ) →
+    ops-lts.Need-loop-holds (stp-below t, stp.Post) (ops-at t) ops.Post ops-Inv-loop ops-μ-loop
+ops-loop-holds t c =
+    let falls = c .before .before .before .before .before .before .pre .0 in
+    let pre0 = c .before .before .before .before .before .before .pre .1 .0 in
+    let pre1 = c .before .before .before .before .before .before .pre .1 .1 in
+    (loop-starts pre0, refl, refl, refl)
+
+ops-stp-requires :
+    (t : ℕ) →
+    ops-lts.Need-stp-requires (stp-below t, stp.Post) (ops-at t) ops.Post ops-Inv-loop ops-μ-loop
+ops-stp-requires t c κs =
+    let falls = c .before .before .before .before .before .before .before .before .before .before .pre .0 in
+    let pre1 = c .before .before .before .before .before .before .before .before .before .before .pre .1 .1 in
+    let inv = c .before .before .before .loop .inv .0 .ok in
+    (omega arith, (inv, pre1))
+
+ops-enum-known-turn :
+    (t : ℕ) →
+    ops-lts.Need-enum-known-turn
+    (stp-below t, stp.Post)
+    (ops-at t)
+    ops.Post
+    ops-Inv-loop
+    ops-μ-loop
+ops-enum-known-turn t c =
+    let falls = c .before .before .before .before .before .before .before .before .before .before .before .before .before .before .before .before .before .before .pre .0 in
+    let pre0 = c .before .before .before .before .before .before .before .before .before .before .before .before .before .before .before .before .before .before .pre .1 .0 in
+    let pre1 = c .before .before .before .before .before .before .before .before .before .before .before .before .before .before .before .before .before .before .pre .1 .1 in
+    search needs
+
+ops-loop-less :
+    (t : ℕ) →
+    ops-lts.Need-loop-less (stp-below t, stp.Post) (ops-at t) ops.Post ops-Inv-loop ops-μ-loop
+ops-loop-less t c =
+    let stp = rw (c .before .turn .given .1) at (c .before .before .before .before .before .before .before .before .before .stp .ensures) in
+    loop-falls (exp-step-advances _ _ _) stp
+
+ops-loop-again :
+    (t : ℕ) →
+    ops-lts.Need-loop-again (stp-below t, stp.Post) (ops-at t) ops.Post ops-Inv-loop ops-μ-loop
+ops-loop-again t c =
+    let inv = c .before .before .before .before .before .before .before .before .before .before .before .before .before .loop .inv .0 in
+    let stp = rw (c .before .turn .given .1) at (c .before .before .before .before .before .before .before .before .before .stp .ensures) in
+    (loop-goes (exp-step-advances _ _ _) inv stp, c .before .before .before .before .before .before .before .before .before .stp .kept .1 .1 .1 .0 ∙ c .before .before .before .before .before .before .before .before .before .before .before .before .before .loop .inv .1, c .before .before .before .before .before .before .before .before .before .stp .kept .1 .1 .1 .1 .0 ∙ c .before .before .before .before .before .before .before .before .before .before .before .before .before .loop .inv .2, c .before .before .before .before .before .before .before .before .before .stp .kept .1 .1 .1 .1 .1 .0 ∙ c .before .before .before .before .before .before .before .before .before .before .before .before .before .loop .inv .3)
+
+ops-enum-known-turn-2 :
+    (t : ℕ) →
+    ops-lts.Need-enum-known-turn-2
+    (stp-below t, stp.Post)
+    (ops-at t)
+    ops.Post
+    ops-Inv-loop
+    ops-μ-loop
+ops-enum-known-turn-2 t c =
+    let falls = c .before .before .before .before .before .before .before .before .before .before .before .before .before .before .before .before .before .before .pre .0 in
+    let pre0 = c .before .before .before .before .before .before .before .before .before .before .before .before .before .before .before .before .before .before .pre .1 .0 in
+    let pre1 = c .before .before .before .before .before .before .before .before .before .before .before .before .before .before .before .before .before .before .pre .1 .1 in
+    search needs
+
+ops-same-length :
+    (t : ℕ) →
+    ops-lts.Need-same-length (stp-below t, stp.Post) (ops-at t) ops.Post ops-Inv-loop ops-μ-loop
+ops-same-length t c =
+    c .before .before .before .before .before .before .before .before .before .stp .kept .1 .1 .1 .0 ∙ c .before .before .before .before .before .before .before .before .before .before .before .before .before .loop .inv .1
+
+ops-same-length-2 :
+    (t : ℕ) →
+    ops-lts.Need-same-length-2 (stp-below t, stp.Post) (ops-at t) ops.Post ops-Inv-loop ops-μ-loop
+ops-same-length-2 t c =
+    c .before .before .before .before .before .before .before .before .before .stp .kept .1 .1 .1 .1 .0 ∙ c .before .before .before .before .before .before .before .before .before .before .before .before .before .loop .inv .2
+
+ops-same-length-3 :
+    (t : ℕ) →
+    ops-lts.Need-same-length-3 (stp-below t, stp.Post) (ops-at t) ops.Post ops-Inv-loop ops-μ-loop
+ops-same-length-3 t c =
+    c .before .before .before .before .before .before .before .before .before .stp .kept .1 .1 .1 .1 .1 .0 ∙ c .before .before .before .before .before .before .before .before .before .before .before .before .before .loop .inv .3
+
+ops-returns :
+    (t : ℕ) →
+    ops-lts.Need-returns (stp-below t, stp.Post) (ops-at t) ops.Post ops-Inv-loop ops-μ-loop
+ops-returns t c =
+    let inv = c .before .before .before .before .before .before .before .before .before .before .before .before .before .loop .inv .0 in
+    let stp = rw (c .before .turn2 .given .1) at (c .before .before .before .before .before .before .before .before .before .stp .ensures) in
+    loop-ends (exp-step-advances _ _ _) inv stp
+
+oth-bump-requires : (t : ℕ) → oth-lts.Need-bump-requires (
+  bump-reads.Asked,
+  bump-reads.Learnt,
+  dat-binds-reads.Asked,
+  dat-binds-reads.Learnt,
+  want-reads.Asked,
+  want-reads.Learnt,
+  dec-below t,
+  dec.Post,
+  state-reads.Asked,
+  state-reads.Learnt,
+  close-reads.Asked,
+  close-reads.Learnt,
+  loc-below t,
+  loc.Post,
+  pre-below t,
+  pre.Post,
+) (oth-at t) oth.Post
+oth-bump-requires t c κs =
+    let pre0 = c .before .before .before .before .before .before .before .before .pre .1 .0 in
+    (pre0 .reads, pre0 .logs)
+
+oth-dat-binds-requires : (t : ℕ) → oth-lts.Need-dat-binds-requires (
+  bump-reads.Asked,
+  bump-reads.Learnt,
+  dat-binds-reads.Asked,
+  dat-binds-reads.Learnt,
+  want-reads.Asked,
+  want-reads.Learnt,
+  dec-below t,
+  dec.Post,
+  state-reads.Asked,
+  state-reads.Learnt,
+  close-reads.Asked,
+  close-reads.Learnt,
+  loc-below t,
+  loc.Post,
+  pre-below t,
+  pre.Post,
+) (oth-at t) oth.Post
+oth-dat-binds-requires t c κs =
+    let pre0 = c .before .before .before .before .before .before .before .before .before .before .before .before .before .before .pre .1 .0 in
+    let bump = c .before .before .before .before .before .bump .ensures in
+    let bump-ok = ok-bumps bump pre0 in
+    bump-ok
+
+oth-want-requires : (t : ℕ) → oth-lts.Need-want-requires (
+  bump-reads.Asked,
+  bump-reads.Learnt,
+  dat-binds-reads.Asked,
+  dat-binds-reads.Learnt,
+  want-reads.Asked,
+  want-reads.Learnt,
+  dec-below t,
+  dec.Post,
+  state-reads.Asked,
+  state-reads.Learnt,
+  close-reads.Asked,
+  close-reads.Learnt,
+  loc-below t,
+  loc.Post,
+  pre-below t,
+  pre.Post,
+) (oth-at t) oth.Post
+oth-want-requires t c κs =
+    let falls = c .before .before .before .before .before .before .before .before .before .before .before .before .before .before .before .before .before .before .before .before .before .before .pre .0 in
+    let pre1 = c .before .before .before .before .before .before .before .before .before .before .before .before .before .before .before .before .before .before .before .before .before .before .pre .1 .1 in
+    let if1 = c .before .before .before .before .before .before .before .before .before .before .before .before .before .before .before .if1 .taken in
+    let dat-binds = c .before .before .before .before .before .before .before .dat-binds .ensures in
+    let dat-binds-ok = dat-binds .ok in
+    (dat-binds-ok, omega arith)
+
+oth-dec-requires : (t : ℕ) → oth-lts.Need-dec-requires (
+  bump-reads.Asked,
+  bump-reads.Learnt,
+  dat-binds-reads.Asked,
+  dat-binds-reads.Learnt,
+  want-reads.Asked,
+  want-reads.Learnt,
+  dec-below t,
+  dec.Post,
+  state-reads.Asked,
+  state-reads.Learnt,
+  close-reads.Asked,
+  close-reads.Learnt,
+  loc-below t,
+  loc.Post,
+  pre-below t,
+  pre.Post,
+) (oth-at t) oth.Post
+oth-dec-requires t c κs =
+    let falls = c .before .before .before .before .before .before .before .before .before .before .before .before .before .before .before .before .before .before .before .before .before .before .before .before .before .before .before .before .before .before .pre .0 in
+    let pre1 = c .before .before .before .before .before .before .before .before .before .before .before .before .before .before .before .before .before .before .before .before .before .before .before .before .before .before .before .before .before .before .pre .1 .1 in
+    let if1 = c .before .before .before .before .before .before .before .before .before .before .before .before .before .before .before .before .before .before .before .before .before .before .before .if1 .taken in
+    let want = c .before .before .before .before .before .before .before .want .ensures in
+    let want-ok = want .ok in
+    (omega arith, want-ok)
+
+oth-state-requires : (t : ℕ) → oth-lts.Need-state-requires (
+  bump-reads.Asked,
+  bump-reads.Learnt,
+  dat-binds-reads.Asked,
+  dat-binds-reads.Learnt,
+  want-reads.Asked,
+  want-reads.Learnt,
+  dec-below t,
+  dec.Post,
+  state-reads.Asked,
+  state-reads.Learnt,
+  close-reads.Asked,
+  close-reads.Learnt,
+  loc-below t,
+  loc.Post,
+  pre-below t,
+  pre.Post,
+) (oth-at t) oth.Post
+oth-state-requires t c κs =
+    tt
+
+oth-want-requires-2 : (t : ℕ) → oth-lts.Need-want-requires-2 (
+  bump-reads.Asked,
+  bump-reads.Learnt,
+  dat-binds-reads.Asked,
+  dat-binds-reads.Learnt,
+  want-reads.Asked,
+  want-reads.Learnt,
+  dec-below t,
+  dec.Post,
+  state-reads.Asked,
+  state-reads.Learnt,
+  close-reads.Asked,
+  close-reads.Learnt,
+  loc-below t,
+  loc.Post,
+  pre-below t,
+  pre.Post,
+) (oth-at t) oth.Post
+oth-want-requires-2 t c κs =
+    let falls = c .before .before .before .before .before .before .before .before .before .before .before .before .before .before .before .before .before .before .before .before .before .before .before .before .before .before .before .before .before .before .before .before .before .before .before .before .before .before .before .before .before .pre .0 in
+    let pre1 = c .before .before .before .before .before .before .before .before .before .before .before .before .before .before .before .before .before .before .before .before .before .before .before .before .before .before .before .before .before .before .before .before .before .before .before .before .before .before .before .before .before .pre .1 .1 in
+    let if1 = c .before .before .before .before .before .before .before .before .before .before .before .before .before .before .before .before .before .before .before .before .before .before .before .before .before .before .before .before .before .before .before .before .before .before .if1 .taken in
+    let dec = c .before .before .before .before .before .before .before .before .before .before .dec .ensures in
+    let dec-ok = dec .ok in
+    let state = c .before .before .before .state .ensures in
+    let state-ok = ok-state state dec-ok in
+    (state-ok, omega arith)
+
+oth-close-requires : (t : ℕ) → oth-lts.Need-close-requires (
+  bump-reads.Asked,
+  bump-reads.Learnt,
+  dat-binds-reads.Asked,
+  dat-binds-reads.Learnt,
+  want-reads.Asked,
+  want-reads.Learnt,
+  dec-below t,
+  dec.Post,
+  state-reads.Asked,
+  state-reads.Learnt,
+  close-reads.Asked,
+  close-reads.Learnt,
+  loc-below t,
+  loc.Post,
+  pre-below t,
+  pre.Post,
+) (oth-at t) oth.Post
+oth-close-requires t c κs =
+    let pre1 = c .before .before .before .before .before .before .before .before .before .before .before .before .before .before .before .before .before .before .before .before .before .before .before .before .before .before .before .before .before .before .before .before .before .before .before .before .before .before .before .before .before .before .before .before .before .before .before .pre .1 .1 in
+    let want2 = c .before .before .before .before .before .want2 .ensures in
+    let want2-ok = want2 .ok in
+    (want2-ok .logs, pre1)
+
+oth-same-length : (t : ℕ) → oth-lts.Need-same-length (
+  bump-reads.Asked,
+  bump-reads.Learnt,
+  dat-binds-reads.Asked,
+  dat-binds-reads.Learnt,
+  want-reads.Asked,
+  want-reads.Learnt,
+  dec-below t,
+  dec.Post,
+  state-reads.Asked,
+  state-reads.Learnt,
+  close-reads.Asked,
+  close-reads.Learnt,
+  loc-below t,
+  loc.Post,
+  pre-below t,
+  pre.Post,
+) (oth-at t) oth.Post
+oth-same-length t c =
+    c .before .before .before .before .before .before .before .before .before .before .before .before .before .before .before .before .before .before .before .dec .kept .1 .1 .1 .0
+
+oth-same-length-2 : (t : ℕ) → oth-lts.Need-same-length-2 (
+  bump-reads.Asked,
+  bump-reads.Learnt,
+  dat-binds-reads.Asked,
+  dat-binds-reads.Learnt,
+  want-reads.Asked,
+  want-reads.Learnt,
+  dec-below t,
+  dec.Post,
+  state-reads.Asked,
+  state-reads.Learnt,
+  close-reads.Asked,
+  close-reads.Learnt,
+  loc-below t,
+  loc.Post,
+  pre-below t,
+  pre.Post,
+) (oth-at t) oth.Post
+oth-same-length-2 t c =
+    c .before .before .close .kept .0 ∙ c .before .before .before .before .before .before .before .before .want2 .kept .1 .1 .1 .1 .0 ∙ c .before .before .before .before .before .before .before .before .before .before .before .before .before .before .before .before .before .before .before .dec .kept .1 .1 .1 .1 .0 ∙ c .before .before .before .before .before .before .before .before .before .before .before .before .before .before .before .before .before .before .before .before .before .before .before .before .before .before .before .want .kept .1 .1 .1 .1 .0 ∙ c .before .before .before .before .before .before .before .before .before .before .before .before .before .before .before .before .before .before .before .before .before .before .before .before .before .before .before .before .before .before .before .before .before .before .before .dat-binds .kept .1 .1 .1 .1 .0 ∙ c .before .before .before .before .before .before .before .before .before .before .before .before .before .before .before .before .before .before .before .before .before .before .before .before .before .before .before .before .before .before .before .before .before .before .before .before .before .before .before .before .before .bump .kept .1 .0
+
+oth-same-length-3 : (t : ℕ) → oth-lts.Need-same-length-3 (
+  bump-reads.Asked,
+  bump-reads.Learnt,
+  dat-binds-reads.Asked,
+  dat-binds-reads.Learnt,
+  want-reads.Asked,
+  want-reads.Learnt,
+  dec-below t,
+  dec.Post,
+  state-reads.Asked,
+  state-reads.Learnt,
+  close-reads.Asked,
+  close-reads.Learnt,
+  loc-below t,
+  loc.Post,
+  pre-below t,
+  pre.Post,
+) (oth-at t) oth.Post
+oth-same-length-3 t c =
+    c .before .before .before .before .before .before .before .before .want2 .kept .1 .1 .1 .1 .1 .0 ∙ c .before .before .before .before .before .before .before .before .before .before .before .before .before .before .before .before .before .before .before .dec .kept .1 .1 .1 .1 .1 .0 ∙ c .before .before .before .before .before .before .before .before .before .before .before .before .before .before .before .before .before .before .before .before .before .before .before .before .before .before .before .want .kept .1 .1 .1 .1 .1 .0 ∙ c .before .before .before .before .before .before .before .before .before .before .before .before .before .before .before .before .before .before .before .before .before .before .before .before .before .before .before .before .before .before .before .before .before .before .before .dat-binds .kept .1 .1 .1 .1 .1 .0
+
+oth-returns : (t : ℕ) → oth-lts.Need-returns (
+  bump-reads.Asked,
+  bump-reads.Learnt,
+  dat-binds-reads.Asked,
+  dat-binds-reads.Learnt,
+  want-reads.Asked,
+  want-reads.Learnt,
+  dec-below t,
+  dec.Post,
+  state-reads.Asked,
+  state-reads.Learnt,
+  close-reads.Asked,
+  close-reads.Learnt,
+  loc-below t,
+  loc.Post,
+  pre-below t,
+  pre.Post,
+) (oth-at t) oth.Post
+unfolding decl.otherDec plan choose chosen
+oth-returns t c =
+    let falls = c .before .before .before .before .before .before .before .before .before .before .before .before .before .before .before .before .before .before .before .before .before .before .before .before .before .before .before .before .before .before .before .before .before .before .before .before .before .before .before .before .before .before .before .before .before .before .before .before .before .before .pre .0 in
+    let pre0 = c .before .before .before .before .before .before .before .before .before .before .before .before .before .before .before .before .before .before .before .before .before .before .before .before .before .before .before .before .before .before .before .before .before .before .before .before .before .before .before .before .before .before .before .before .before .before .before .before .before .before .pre .1 .0 in
+    let pre1 = c .before .before .before .before .before .before .before .before .before .before .before .before .before .before .before .before .before .before .before .before .before .before .before .before .before .before .before .before .before .before .before .before .before .before .before .before .before .before .before .before .before .before .before .before .before .before .before .before .before .before .pre .1 .1 in
+    let if1 = c .before .before .before .before .before .before .before .before .before .before .before .before .before .before .before .before .before .before .before .before .before .before .before .before .before .before .before .before .before .before .before .before .before .before .before .before .before .before .before .before .before .before .before .if1 .taken in
+    let bump = c .before .before .before .before .before .before .before .before .before .before .before .before .before .before .before .before .before .before .before .before .before .before .before .before .before .before .before .before .before .before .before .before .before .before .before .before .before .before .before .before .before .bump .ensures in
+    let dat-binds = c .before .before .before .before .before .before .before .before .before .before .before .before .before .before .before .before .before .before .before .before .before .before .before .before .before .before .before .before .before .before .before .before .before .before .before .dat-binds .ensures in
+    let want = c .before .before .before .before .before .before .before .before .before .before .before .before .before .before .before .before .before .before .before .before .before .before .before .before .before .before .before .want .ensures in
+    let dec = c .before .before .before .before .before .before .before .before .before .before .before .before .before .before .before .before .before .before .before .dec .ensures in
+    let state = c .before .before .before .before .before .before .before .before .before .before .before .before .state .ensures in
+    let want2 = c .before .before .before .before .before .before .before .before .want2 .ensures in
+    let close = c .before .before .close .ensures in
+    in-steps pre0 (s-true _ _ (kind-is if1) (s-bump bump (s-by _ dat-binds (s-by _ (runs-always want) (s-run (settled state (runs-in dec)) (s-by _ (runs-always want2) (s-close close s-end)))))))
+
+oth-loc-requires : (t : ℕ) → oth-lts.Need-loc-requires (
+  bump-reads.Asked,
+  bump-reads.Learnt,
+  dat-binds-reads.Asked,
+  dat-binds-reads.Learnt,
+  want-reads.Asked,
+  want-reads.Learnt,
+  dec-below t,
+  dec.Post,
+  state-reads.Asked,
+  state-reads.Learnt,
+  close-reads.Asked,
+  close-reads.Learnt,
+  loc-below t,
+  loc.Post,
+  pre-below t,
+  pre.Post,
+) (oth-at t) oth.Post
+oth-loc-requires t c κs =
+    let falls = c .before .before .before .before .before .before .before .before .before .before .before .pre .0 in
+    let pre0 = c .before .before .before .before .before .before .before .before .before .before .before .pre .1 .0 in
+    let pre1 = c .before .before .before .before .before .before .before .before .before .before .before .pre .1 .1 in
+    let if1 = c .before .before .before .before .if1 .left in
+    let if2 = c .before .before .before .if2 .taken in
+    (omega arith, (pre0, pre1))
+
+oth-same-length-4 : (t : ℕ) → oth-lts.Need-same-length-4 (
+  bump-reads.Asked,
+  bump-reads.Learnt,
+  dat-binds-reads.Asked,
+  dat-binds-reads.Learnt,
+  want-reads.Asked,
+  want-reads.Learnt,
+  dec-below t,
+  dec.Post,
+  state-reads.Asked,
+  state-reads.Learnt,
+  close-reads.Asked,
+  close-reads.Learnt,
+  loc-below t,
+  loc.Post,
+  pre-below t,
+  pre.Post,
+) (oth-at t) oth.Post
+oth-same-length-4 t c =
+    c .before .before .before .before .before .before .loc .kept .1 .1 .1 .0
+
+oth-same-length-5 : (t : ℕ) → oth-lts.Need-same-length-5 (
+  bump-reads.Asked,
+  bump-reads.Learnt,
+  dat-binds-reads.Asked,
+  dat-binds-reads.Learnt,
+  want-reads.Asked,
+  want-reads.Learnt,
+  dec-below t,
+  dec.Post,
+  state-reads.Asked,
+  state-reads.Learnt,
+  close-reads.Asked,
+  close-reads.Learnt,
+  loc-below t,
+  loc.Post,
+  pre-below t,
+  pre.Post,
+) (oth-at t) oth.Post
+oth-same-length-5 t c =
+    c .before .before .before .before .before .before .loc .kept .1 .1 .1 .1 .0
+
+oth-same-length-6 : (t : ℕ) → oth-lts.Need-same-length-6 (
+  bump-reads.Asked,
+  bump-reads.Learnt,
+  dat-binds-reads.Asked,
+  dat-binds-reads.Learnt,
+  want-reads.Asked,
+  want-reads.Learnt,
+  dec-below t,
+  dec.Post,
+  state-reads.Asked,
+  state-reads.Learnt,
+  close-reads.Asked,
+  close-reads.Learnt,
+  loc-below t,
+  loc.Post,
+  pre-below t,
+  pre.Post,
+) (oth-at t) oth.Post
+oth-same-length-6 t c =
+    c .before .before .before .before .before .before .loc .kept .1 .1 .1 .1 .1 .0
+
+oth-returns-2 : (t : ℕ) → oth-lts.Need-returns-2 (
+  bump-reads.Asked,
+  bump-reads.Learnt,
+  dat-binds-reads.Asked,
+  dat-binds-reads.Learnt,
+  want-reads.Asked,
+  want-reads.Learnt,
+  dec-below t,
+  dec.Post,
+  state-reads.Asked,
+  state-reads.Learnt,
+  close-reads.Asked,
+  close-reads.Learnt,
+  loc-below t,
+  loc.Post,
+  pre-below t,
+  pre.Post,
+) (oth-at t) oth.Post
+unfolding decl.otherDec plan choose chosen
+oth-returns-2 t c =
+    let falls = c .before .before .before .before .before .before .before .before .before .before .before .before .before .before .before .before .before .before .pre .0 in
+    let pre0 = c .before .before .before .before .before .before .before .before .before .before .before .before .before .before .before .before .before .before .pre .1 .0 in
+    let pre1 = c .before .before .before .before .before .before .before .before .before .before .before .before .before .before .before .before .before .before .pre .1 .1 in
+    let if1 = c .before .before .before .before .before .before .before .before .before .before .before .if1 .left in
+    let if2 = c .before .before .before .before .before .before .before .before .before .before .if2 .taken in
+    let loc = c .before .before .before .before .before .before .loc .ensures in
+    in-steps pre0 (s-false _ _ (kind-not if1) (s-true _ _ (kind-is if2) (s-by _ loc s-end)))
+
+oth-pre-requires : (t : ℕ) → oth-lts.Need-pre-requires (
+  bump-reads.Asked,
+  bump-reads.Learnt,
+  dat-binds-reads.Asked,
+  dat-binds-reads.Learnt,
+  want-reads.Asked,
+  want-reads.Learnt,
+  dec-below t,
+  dec.Post,
+  state-reads.Asked,
+  state-reads.Learnt,
+  close-reads.Asked,
+  close-reads.Learnt,
+  loc-below t,
+  loc.Post,
+  pre-below t,
+  pre.Post,
+) (oth-at t) oth.Post
+oth-pre-requires t c κs =
+    let falls = c .before .before .before .before .before .before .before .before .before .before .before .pre .0 in
+    let pre0 = c .before .before .before .before .before .before .before .before .before .before .before .pre .1 .0 in
+    let pre1 = c .before .before .before .before .before .before .before .before .before .before .before .pre .1 .1 in
+    let if1 = c .before .before .before .before .if1 .left in
+    let if2 = c .before .before .before .if2 .left in
+    (omega arith, pre0)
+
+oth-enum-known-got : (t : ℕ) → oth-lts.Need-enum-known-got (
+  bump-reads.Asked,
+  bump-reads.Learnt,
+  dat-binds-reads.Asked,
+  dat-binds-reads.Learnt,
+  want-reads.Asked,
+  want-reads.Learnt,
+  dec-below t,
+  dec.Post,
+  state-reads.Asked,
+  state-reads.Learnt,
+  close-reads.Asked,
+  close-reads.Learnt,
+  loc-below t,
+  loc.Post,
+  pre-below t,
+  pre.Post,
+) (oth-at t) oth.Post
+oth-enum-known-got t c =
+    let falls = c .before .before .before .before .before .before .before .before .before .before .before .before .before .before .before .before .before .before .before .pre .0 in
+    let pre0 = c .before .before .before .before .before .before .before .before .before .before .before .before .before .before .before .before .before .before .before .pre .1 .0 in
+    let pre1 = c .before .before .before .before .before .before .before .before .before .before .before .before .before .before .before .before .before .before .before .pre .1 .1 in
+    let if1 = c .before .before .before .before .before .before .before .before .before .before .before .before .if1 .left in
+    let if2 = c .before .before .before .before .before .before .before .before .before .before .before .if2 .left in
+    search needs
+
+oth-enum-known-got-2 : (t : ℕ) → oth-lts.Need-enum-known-got-2 (
+  bump-reads.Asked,
+  bump-reads.Learnt,
+  dat-binds-reads.Asked,
+  dat-binds-reads.Learnt,
+  want-reads.Asked,
+  want-reads.Learnt,
+  dec-below t,
+  dec.Post,
+  state-reads.Asked,
+  state-reads.Learnt,
+  close-reads.Asked,
+  close-reads.Learnt,
+  loc-below t,
+  loc.Post,
+  pre-below t,
+  pre.Post,
+) (oth-at t) oth.Post
+oth-enum-known-got-2 t c =
+    let falls = c .before .before .before .before .before .before .before .before .before .before .before .before .before .before .before .before .before .before .before .pre .0 in
+    let pre0 = c .before .before .before .before .before .before .before .before .before .before .before .before .before .before .before .before .before .before .before .pre .1 .0 in
+    let pre1 = c .before .before .before .before .before .before .before .before .before .before .before .before .before .before .before .before .before .before .before .pre .1 .1 in
+    let if1 = c .before .before .before .before .before .before .before .before .before .before .before .before .if1 .left in
+    let if2 = c .before .before .before .before .before .before .before .before .before .before .before .if2 .left in
+    search needs
+
+oth-close-requires-2 : (t : ℕ) → oth-lts.Need-close-requires-2 (
+  bump-reads.Asked,
+  bump-reads.Learnt,
+  dat-binds-reads.Asked,
+  dat-binds-reads.Learnt,
+  want-reads.Asked,
+  want-reads.Learnt,
+  dec-below t,
+  dec.Post,
+  state-reads.Asked,
+  state-reads.Learnt,
+  close-reads.Asked,
+  close-reads.Learnt,
+  loc-below t,
+  loc.Post,
+  pre-below t,
+  pre.Post,
+) (oth-at t) oth.Post
+oth-close-requires-2 t c κs =
+    let pre1 = c .before .before .before .before .before .before .before .before .before .before .before .before .before .before .before .before .before .before .before .before .before .before .pre .1 .1 in
+    let pre2 = rw (c .before .before .got2 .given .1) at (c .before .before .before .before .before .before .before .before .before .before .pre2 .ensures) in
+    let pre2-ok = pre2 .ok in
+    (pre2-ok .logs, pre1)
+
+oth-same-length-7 : (t : ℕ) → oth-lts.Need-same-length-7 (
+  bump-reads.Asked,
+  bump-reads.Learnt,
+  dat-binds-reads.Asked,
+  dat-binds-reads.Learnt,
+  want-reads.Asked,
+  want-reads.Learnt,
+  dec-below t,
+  dec.Post,
+  state-reads.Asked,
+  state-reads.Learnt,
+  close-reads.Asked,
+  close-reads.Learnt,
+  loc-below t,
+  loc.Post,
+  pre-below t,
+  pre.Post,
+) (oth-at t) oth.Post
+oth-same-length-7 t c =
+    c .before .before .before .before .before .before .before .before .before .pre2 .kept .1 .1 .1 .0
+
+oth-same-length-8 : (t : ℕ) → oth-lts.Need-same-length-8 (
+  bump-reads.Asked,
+  bump-reads.Learnt,
+  dat-binds-reads.Asked,
+  dat-binds-reads.Learnt,
+  want-reads.Asked,
+  want-reads.Learnt,
+  dec-below t,
+  dec.Post,
+  state-reads.Asked,
+  state-reads.Learnt,
+  close-reads.Asked,
+  close-reads.Learnt,
+  loc-below t,
+  loc.Post,
+  pre-below t,
+  pre.Post,
+) (oth-at t) oth.Post
+oth-same-length-8 t c =
+    c .before .before .before .before .before .before .before .before .before .pre2 .kept .1 .1 .1 .1 .0
+
+oth-same-length-9 : (t : ℕ) → oth-lts.Need-same-length-9 (
+  bump-reads.Asked,
+  bump-reads.Learnt,
+  dat-binds-reads.Asked,
+  dat-binds-reads.Learnt,
+  want-reads.Asked,
+  want-reads.Learnt,
+  dec-below t,
+  dec.Post,
+  state-reads.Asked,
+  state-reads.Learnt,
+  close-reads.Asked,
+  close-reads.Learnt,
+  loc-below t,
+  loc.Post,
+  pre-below t,
+  pre.Post,
+) (oth-at t) oth.Post
+oth-same-length-9 t c =
+    c .before .before .before .before .before .before .before .before .before .pre2 .kept .1 .1 .1 .1 .1 .0
+
+oth-returns-3 : (t : ℕ) → oth-lts.Need-returns-3 (
+  bump-reads.Asked,
+  bump-reads.Learnt,
+  dat-binds-reads.Asked,
+  dat-binds-reads.Learnt,
+  want-reads.Asked,
+  want-reads.Learnt,
+  dec-below t,
+  dec.Post,
+  state-reads.Asked,
+  state-reads.Learnt,
+  close-reads.Asked,
+  close-reads.Learnt,
+  loc-below t,
+  loc.Post,
+  pre-below t,
+  pre.Post,
+) (oth-at t) oth.Post
+unfolding decl.otherDec plan choose chosen
+oth-returns-3 t c =
+    let falls = c .before .before .before .before .before .before .before .before .before .before .before .before .before .before .before .before .before .before .before .before .before .pre .0 in
+    let pre0 = c .before .before .before .before .before .before .before .before .before .before .before .before .before .before .before .before .before .before .before .before .before .pre .1 .0 in
+    let pre1 = c .before .before .before .before .before .before .before .before .before .before .before .before .before .before .before .before .before .before .before .before .before .pre .1 .1 in
+    let if1 = c .before .before .before .before .before .before .before .before .before .before .before .before .before .before .if1 .left in
+    let if2 = c .before .before .before .before .before .before .before .before .before .before .before .before .before .if2 .left in
+    let pre2 = rw (c .before .got .given .1) at (c .before .before .before .before .before .before .before .before .before .pre2 .ensures) in
+    in-steps pre0 (s-false _ _ (kind-not if1) (s-false _ _ (kind-not if2) (s-run (runs-in pre2) s-end)))
+
+oth-same-length-10 : (t : ℕ) → oth-lts.Need-same-length-10 (
+  bump-reads.Asked,
+  bump-reads.Learnt,
+  dat-binds-reads.Asked,
+  dat-binds-reads.Learnt,
+  want-reads.Asked,
+  want-reads.Learnt,
+  dec-below t,
+  dec.Post,
+  state-reads.Asked,
+  state-reads.Learnt,
+  close-reads.Asked,
+  close-reads.Learnt,
+  loc-below t,
+  loc.Post,
+  pre-below t,
+  pre.Post,
+) (oth-at t) oth.Post
+oth-same-length-10 t c =
+    c .before .before .before .before .before .before .before .before .before .before .before .before .before .pre2 .kept .1 .1 .1 .0
+
+oth-same-length-11 : (t : ℕ) → oth-lts.Need-same-length-11 (
+  bump-reads.Asked,
+  bump-reads.Learnt,
+  dat-binds-reads.Asked,
+  dat-binds-reads.Learnt,
+  want-reads.Asked,
+  want-reads.Learnt,
+  dec-below t,
+  dec.Post,
+  state-reads.Asked,
+  state-reads.Learnt,
+  close-reads.Asked,
+  close-reads.Learnt,
+  loc-below t,
+  loc.Post,
+  pre-below t,
+  pre.Post,
+) (oth-at t) oth.Post
+oth-same-length-11 t c =
+    c .before .before .close2 .kept .0 ∙ c .before .before .before .before .before .before .before .before .before .before .before .before .before .pre2 .kept .1 .1 .1 .1 .0
+
+oth-same-length-12 : (t : ℕ) → oth-lts.Need-same-length-12 (
+  bump-reads.Asked,
+  bump-reads.Learnt,
+  dat-binds-reads.Asked,
+  dat-binds-reads.Learnt,
+  want-reads.Asked,
+  want-reads.Learnt,
+  dec-below t,
+  dec.Post,
+  state-reads.Asked,
+  state-reads.Learnt,
+  close-reads.Asked,
+  close-reads.Learnt,
+  loc-below t,
+  loc.Post,
+  pre-below t,
+  pre.Post,
+) (oth-at t) oth.Post
+oth-same-length-12 t c =
+    c .before .before .before .before .before .before .before .before .before .before .before .before .before .pre2 .kept .1 .1 .1 .1 .1 .0
+
+oth-returns-4 : (t : ℕ) → oth-lts.Need-returns-4 (
+  bump-reads.Asked,
+  bump-reads.Learnt,
+  dat-binds-reads.Asked,
+  dat-binds-reads.Learnt,
+  want-reads.Asked,
+  want-reads.Learnt,
+  dec-below t,
+  dec.Post,
+  state-reads.Asked,
+  state-reads.Learnt,
+  close-reads.Asked,
+  close-reads.Learnt,
+  loc-below t,
+  loc.Post,
+  pre-below t,
+  pre.Post,
+) (oth-at t) oth.Post
+unfolding decl.otherDec plan choose chosen
+oth-returns-4 t c =
+    let falls = c .before .before .before .before .before .before .before .before .before .before .before .before .before .before .before .before .before .before .before .before .before .before .before .before .before .pre .0 in
+    let pre0 = c .before .before .before .before .before .before .before .before .before .before .before .before .before .before .before .before .before .before .before .before .before .before .before .before .before .pre .1 .0 in
+    let pre1 = c .before .before .before .before .before .before .before .before .before .before .before .before .before .before .before .before .before .before .before .before .before .before .before .before .before .pre .1 .1 in
+    let if1 = c .before .before .before .before .before .before .before .before .before .before .before .before .before .before .before .before .before .before .if1 .left in
+    let if2 = c .before .before .before .before .before .before .before .before .before .before .before .before .before .before .before .before .before .if2 .left in
+    let pre2 = rw (c .before .before .before .before .before .got2 .given .1) at (c .before .before .before .before .before .before .before .before .before .before .before .before .before .pre2 .ensures) in
+    let close2 = c .before .before .close2 .ensures in
+    in-steps pre0 (s-false _ _ (kind-not if1) (s-false _ _ (kind-not if2) (s-run (runs-in pre2) (s-close close2 s-end))))
+
+par-at-requires : (t : ℕ) → par-lts.Need-at-requires (
+  at-reads.Asked,
+  at-reads.Learnt,
+  refuse-reads.Asked,
+  refuse-reads.Learnt,
+  mark-reads.Asked,
+  mark-reads.Learnt,
+  bump-reads.Asked,
+  bump-reads.Learnt,
+  bump-ascription-reads.Asked,
+  bump-ascription-reads.Learnt,
+  sgm-below t,
+  sgm.Post,
+  close-reads.Asked,
+  close-reads.Learnt,
+  dec-below t,
+  dec.Post,
+  state-reads.Asked,
+  state-reads.Learnt,
+) (par-at t) par.Post
+par-at-requires t c κs =
+    let pre0 = c .before .before .before .before .before .before .pre .1 in
+    pre0 .reads
+
+par-refuse-requires : (t : ℕ) → par-lts.Need-refuse-requires (
+  at-reads.Asked,
+  at-reads.Learnt,
+  refuse-reads.Asked,
+  refuse-reads.Learnt,
+  mark-reads.Asked,
+  mark-reads.Learnt,
+  bump-reads.Asked,
+  bump-reads.Learnt,
+  bump-ascription-reads.Asked,
+  bump-ascription-reads.Learnt,
+  sgm-below t,
+  sgm.Post,
+  close-reads.Asked,
+  close-reads.Learnt,
+  dec-below t,
+  dec.Post,
+  state-reads.Asked,
+  state-reads.Learnt,
+) (par-at t) par.Post
+par-refuse-requires t c κs =
+    tt
+
+par-returns : (t : ℕ) → par-lts.Need-returns (
+  at-reads.Asked,
+  at-reads.Learnt,
+  refuse-reads.Asked,
+  refuse-reads.Learnt,
+  mark-reads.Asked,
+  mark-reads.Learnt,
+  bump-reads.Asked,
+  bump-reads.Learnt,
+  bump-ascription-reads.Asked,
+  bump-ascription-reads.Learnt,
+  sgm-below t,
+  sgm.Post,
+  close-reads.Asked,
+  close-reads.Learnt,
+  dec-below t,
+  dec.Post,
+  state-reads.Asked,
+  state-reads.Learnt,
+) (par-at t) par.Post
+unfolding decl.functorArg plan choose chosen
+par-returns t c =
+    let falls = c .before .before .before .before .before .before .before .before .before .before .pre .0 in
+    let pre0 = c .before .before .before .before .before .before .before .before .before .before .pre .1 in
+    let at = c .before .before .before .at .ensures in
+    let if1 = c .before .before .if1 .taken in
+    let if2 = c .before .if2 .taken in
+    let refuse = c .refuse .ensures in
+    by-steps pre0 (λ b. s-kind (s-true _ _ (kind-at _ _ _ _ at if1) (s-deep if2 refuse s-end)))
+
+par-mark-requires : (t : ℕ) → par-lts.Need-mark-requires (
+  at-reads.Asked,
+  at-reads.Learnt,
+  refuse-reads.Asked,
+  refuse-reads.Learnt,
+  mark-reads.Asked,
+  mark-reads.Learnt,
+  bump-reads.Asked,
+  bump-reads.Learnt,
+  bump-ascription-reads.Asked,
+  bump-ascription-reads.Learnt,
+  sgm-below t,
+  sgm.Post,
+  close-reads.Asked,
+  close-reads.Learnt,
+  dec-below t,
+  dec.Post,
+  state-reads.Asked,
+  state-reads.Learnt,
+) (par-at t) par.Post
+par-mark-requires t c κs =
+    tt
+
+par-bump-requires : (t : ℕ) → par-lts.Need-bump-requires (
+  at-reads.Asked,
+  at-reads.Learnt,
+  refuse-reads.Asked,
+  refuse-reads.Learnt,
+  mark-reads.Asked,
+  mark-reads.Learnt,
+  bump-reads.Asked,
+  bump-reads.Learnt,
+  bump-ascription-reads.Asked,
+  bump-ascription-reads.Learnt,
+  sgm-below t,
+  sgm.Post,
+  close-reads.Asked,
+  close-reads.Learnt,
+  dec-below t,
+  dec.Post,
+  state-reads.Asked,
+  state-reads.Learnt,
+) (par-at t) par.Post
+par-bump-requires t c κs =
+    let pre0 = c .before .before .before .before .before .before .before .before .before .before .before .pre .1 in
+    let mark = c .before .mark .ensures in
+    let mark-ok = ok-marks mark pre0 in
+    (mark-ok .reads, mark-ok .logs)
+
+par-bump-ascription-requires : (t : ℕ) → par-lts.Need-bump-ascription-requires (
+  at-reads.Asked,
+  at-reads.Learnt,
+  refuse-reads.Asked,
+  refuse-reads.Learnt,
+  mark-reads.Asked,
+  mark-reads.Learnt,
+  bump-reads.Asked,
+  bump-reads.Learnt,
+  bump-ascription-reads.Asked,
+  bump-ascription-reads.Learnt,
+  sgm-below t,
+  sgm.Post,
+  close-reads.Asked,
+  close-reads.Learnt,
+  dec-below t,
+  dec.Post,
+  state-reads.Asked,
+  state-reads.Learnt,
+) (par-at t) par.Post
+par-bump-ascription-requires t c κs =
+    let pre0 = c .before .before .before .before .before .before .before .before .before .before .before .before .before .before .before .before .before .pre .1 in
+    let mark = c .before .before .before .before .before .before .before .mark .ensures in
+    let mark-ok = ok-marks mark pre0 in
+    let bump = c .before .before .before .before .before .bump .ensures in
+    let bump-ok = ok-bumps bump mark-ok in
+    bump-ok
+
+par-sub-sgm : (t : ℕ) → par-lts.Need-sub-sgm (
+  at-reads.Asked,
+  at-reads.Learnt,
+  refuse-reads.Asked,
+  refuse-reads.Learnt,
+  mark-reads.Asked,
+  mark-reads.Learnt,
+  bump-reads.Asked,
+  bump-reads.Learnt,
+  bump-ascription-reads.Asked,
+  bump-ascription-reads.Learnt,
+  sgm-below t,
+  sgm.Post,
+  close-reads.Asked,
+  close-reads.Learnt,
+  dec-below t,
+  dec.Post,
+  state-reads.Asked,
+  state-reads.Learnt,
+) (par-at t) par.Post
+par-sub-sgm t c =
+    let falls = c .before .before .before .before .before .before .before .before .before .before .before .before .before .before .before .before .before .before .before .before .before .before .before .before .before .pre .0 in
+    let pre0 = c .before .before .before .before .before .before .before .before .before .before .before .before .before .before .before .before .before .before .before .before .before .before .before .before .before .pre .1 in
+    let if1 = c .before .before .before .before .before .before .before .before .before .before .before .before .before .before .before .before .before .if1 .taken in
+    let if2 = c .before .before .before .before .before .before .before .before .before .before .before .before .before .before .before .before .if2 .left in
+    search needs
+
+par-sgm-requires : (t : ℕ) → par-lts.Need-sgm-requires (
+  at-reads.Asked,
+  at-reads.Learnt,
+  refuse-reads.Asked,
+  refuse-reads.Learnt,
+  mark-reads.Asked,
+  mark-reads.Learnt,
+  bump-reads.Asked,
+  bump-reads.Learnt,
+  bump-ascription-reads.Asked,
+  bump-ascription-reads.Learnt,
+  sgm-below t,
+  sgm.Post,
+  close-reads.Asked,
+  close-reads.Learnt,
+  dec-below t,
+  dec.Post,
+  state-reads.Asked,
+  state-reads.Learnt,
+) (par-at t) par.Post
+par-sgm-requires t c κs =
+    let falls = c .before .before .before .before .before .before .before .before .before .before .before .before .before .before .before .before .before .before .before .before .before .before .before .before .before .pre .0 in
+    let if1 = c .before .before .before .before .before .before .before .before .before .before .before .before .before .before .before .before .before .if1 .taken in
+    let if2 = c .before .before .before .before .before .before .before .before .before .before .before .before .before .before .before .before .if2 .left in
+    let bump-ascription = c .before .before .before .before .before .before .before .bump-ascription .ensures in
+    let bump-ascription-ok = bump-ascription .ok in
+    (omega arith, bump-ascription-ok)
+
+par-close-requires : (t : ℕ) → par-lts.Need-close-requires (
+  at-reads.Asked,
+  at-reads.Learnt,
+  refuse-reads.Asked,
+  refuse-reads.Learnt,
+  mark-reads.Asked,
+  mark-reads.Learnt,
+  bump-reads.Asked,
+  bump-reads.Learnt,
+  bump-ascription-reads.Asked,
+  bump-ascription-reads.Learnt,
+  sgm-below t,
+  sgm.Post,
+  close-reads.Asked,
+  close-reads.Learnt,
+  dec-below t,
+  dec.Post,
+  state-reads.Asked,
+  state-reads.Learnt,
+) (par-at t) par.Post
+par-close-requires t c κs =
+    let pre0 = c .before .before .before .before .before .before .before .before .before .before .before .before .before .before .before .before .before .before .before .before .before .before .before .before .before .before .before .before .before .before .before .before .before .pre .1 in
+    let mark = c .before .before .before .before .before .before .before .before .before .before .before .before .before .before .before .before .before .before .before .before .before .before .before .mark .ensures in
+    let mark-ok = ok-marks mark pre0 in
+    let sgm = c .before .before .before .before .before .before .before .sgm .ensures in
+    let sgm-ok = sgm .ok in
+    (sgm-ok .logs, small-len mark-ok)
+
+par-same-length : (t : ℕ) → par-lts.Need-same-length (
+  at-reads.Asked,
+  at-reads.Learnt,
+  refuse-reads.Asked,
+  refuse-reads.Learnt,
+  mark-reads.Asked,
+  mark-reads.Learnt,
+  bump-reads.Asked,
+  bump-reads.Learnt,
+  bump-ascription-reads.Asked,
+  bump-ascription-reads.Learnt,
+  sgm-below t,
+  sgm.Post,
+  close-reads.Asked,
+  close-reads.Learnt,
+  dec-below t,
+  dec.Post,
+  state-reads.Asked,
+  state-reads.Learnt,
+) (par-at t) par.Post
+par-same-length t c =
+    c .before .before .before .before .before .before .before .before .before .before .sgm .kept .1 .1 .1 .0
+
+par-same-length-2 : (t : ℕ) → par-lts.Need-same-length-2 (
+  at-reads.Asked,
+  at-reads.Learnt,
+  refuse-reads.Asked,
+  refuse-reads.Learnt,
+  mark-reads.Asked,
+  mark-reads.Learnt,
+  bump-reads.Asked,
+  bump-reads.Learnt,
+  bump-ascription-reads.Asked,
+  bump-ascription-reads.Learnt,
+  sgm-below t,
+  sgm.Post,
+  close-reads.Asked,
+  close-reads.Learnt,
+  dec-below t,
+  dec.Post,
+  state-reads.Asked,
+  state-reads.Learnt,
+) (par-at t) par.Post
+par-same-length-2 t c =
+    c .before .before .close .kept .0 ∙ c .before .before .before .before .before .before .before .before .before .before .sgm .kept .1 .1 .1 .1 .0 ∙ c .before .before .before .before .before .before .before .before .before .before .before .before .before .before .before .before .before .before .bump-ascription .kept .1 .1 .1 .1 .0 ∙ c .before .before .before .before .before .before .before .before .before .before .before .before .before .before .before .before .before .before .before .before .before .before .before .before .bump .kept .1 .0
+
+par-same-length-3 : (t : ℕ) → par-lts.Need-same-length-3 (
+  at-reads.Asked,
+  at-reads.Learnt,
+  refuse-reads.Asked,
+  refuse-reads.Learnt,
+  mark-reads.Asked,
+  mark-reads.Learnt,
+  bump-reads.Asked,
+  bump-reads.Learnt,
+  bump-ascription-reads.Asked,
+  bump-ascription-reads.Learnt,
+  sgm-below t,
+  sgm.Post,
+  close-reads.Asked,
+  close-reads.Learnt,
+  dec-below t,
+  dec.Post,
+  state-reads.Asked,
+  state-reads.Learnt,
+) (par-at t) par.Post
+par-same-length-3 t c =
+    c .before .before .before .before .before .before .before .before .before .before .sgm .kept .1 .1 .1 .1 .1 .0 ∙ c .before .before .before .before .before .before .before .before .before .before .before .before .before .before .before .before .before .before .bump-ascription .kept .1 .1 .1 .1 .1 .0
+
+par-returns-2 : (t : ℕ) → par-lts.Need-returns-2 (
+  at-reads.Asked,
+  at-reads.Learnt,
+  refuse-reads.Asked,
+  refuse-reads.Learnt,
+  mark-reads.Asked,
+  mark-reads.Learnt,
+  bump-reads.Asked,
+  bump-reads.Learnt,
+  bump-ascription-reads.Asked,
+  bump-ascription-reads.Learnt,
+  sgm-below t,
+  sgm.Post,
+  close-reads.Asked,
+  close-reads.Learnt,
+  dec-below t,
+  dec.Post,
+  state-reads.Asked,
+  state-reads.Learnt,
+) (par-at t) par.Post
+unfolding decl.functorArg plan choose chosen
+par-returns-2 t c =
+    let falls = c .before .before .before .before .before .before .before .before .before .before .before .before .before .before .before .before .before .before .before .before .before .before .before .before .before .before .before .before .before .before .before .before .before .before .before .before .pre .0 in
+    let pre0 = c .before .before .before .before .before .before .before .before .before .before .before .before .before .before .before .before .before .before .before .before .before .before .before .before .before .before .before .before .before .before .before .before .before .before .before .before .pre .1 in
+    let at = c .before .before .before .before .before .before .before .before .before .before .before .before .before .before .before .before .before .before .before .before .before .before .before .before .before .before .before .before .before .at .ensures in
+    let if1 = c .before .before .before .before .before .before .before .before .before .before .before .before .before .before .before .before .before .before .before .before .before .before .before .before .before .before .before .before .if1 .taken in
+    let if2 = c .before .before .before .before .before .before .before .before .before .before .before .before .before .before .before .before .before .before .before .before .before .before .before .before .before .before .before .if2 .left in
+    let mark = c .before .before .before .before .before .before .before .before .before .before .before .before .before .before .before .before .before .before .before .before .before .before .before .before .before .before .mark .ensures in
+    let bump = c .before .before .before .before .before .before .before .before .before .before .before .before .before .before .before .before .before .before .before .before .before .before .before .before .bump .ensures in
+    let bump-ascription = c .before .before .before .before .before .before .before .before .before .before .before .before .before .before .before .before .before .before .bump-ascription .ensures in
+    let sgm = c .before .before .before .before .before .before .before .before .before .before .sgm .ensures in
+    let close = c .before .before .close .ensures in
+    by-steps pre0 (λ b. s-kind (s-true _ _ (kind-at _ _ _ _ at if1) (s-mark if2 mark (s-bump bump (s-by _ (runs-always bump-ascription) (s-by _ (runs-in sgm) (s-close close s-end)))))))
+
+par-dec-requires : (t : ℕ) → par-lts.Need-dec-requires (
+  at-reads.Asked,
+  at-reads.Learnt,
+  refuse-reads.Asked,
+  refuse-reads.Learnt,
+  mark-reads.Asked,
+  mark-reads.Learnt,
+  bump-reads.Asked,
+  bump-reads.Learnt,
+  bump-ascription-reads.Asked,
+  bump-ascription-reads.Learnt,
+  sgm-below t,
+  sgm.Post,
+  close-reads.Asked,
+  close-reads.Learnt,
+  dec-below t,
+  dec.Post,
+  state-reads.Asked,
+  state-reads.Learnt,
+) (par-at t) par.Post
+par-dec-requires t c κs =
+    let falls = c .before .before .before .before .before .before .before .before .before .before .before .pre .0 in
+    let pre0 = c .before .before .before .before .before .before .before .before .before .before .before .pre .1 in
+    let if1 = c .before .before .before .if1 .left in
+    (omega arith, pre0)
+
+par-state-requires : (t : ℕ) → par-lts.Need-state-requires (
+  at-reads.Asked,
+  at-reads.Learnt,
+  refuse-reads.Asked,
+  refuse-reads.Learnt,
+  mark-reads.Asked,
+  mark-reads.Learnt,
+  bump-reads.Asked,
+  bump-reads.Learnt,
+  bump-ascription-reads.Asked,
+  bump-ascription-reads.Learnt,
+  sgm-below t,
+  sgm.Post,
+  close-reads.Asked,
+  close-reads.Learnt,
+  dec-below t,
+  dec.Post,
+  state-reads.Asked,
+  state-reads.Learnt,
+) (par-at t) par.Post
+par-state-requires t c κs =
+    tt
+
+par-same-length-4 : (t : ℕ) → par-lts.Need-same-length-4 (
+  at-reads.Asked,
+  at-reads.Learnt,
+  refuse-reads.Asked,
+  refuse-reads.Learnt,
+  mark-reads.Asked,
+  mark-reads.Learnt,
+  bump-reads.Asked,
+  bump-reads.Learnt,
+  bump-ascription-reads.Asked,
+  bump-ascription-reads.Learnt,
+  sgm-below t,
+  sgm.Post,
+  close-reads.Asked,
+  close-reads.Learnt,
+  dec-below t,
+  dec.Post,
+  state-reads.Asked,
+  state-reads.Learnt,
+) (par-at t) par.Post
+par-same-length-4 t c =
+    c .before .before .before .before .before .before .before .dec .kept .1 .1 .1 .0
+
+par-same-length-5 : (t : ℕ) → par-lts.Need-same-length-5 (
+  at-reads.Asked,
+  at-reads.Learnt,
+  refuse-reads.Asked,
+  refuse-reads.Learnt,
+  mark-reads.Asked,
+  mark-reads.Learnt,
+  bump-reads.Asked,
+  bump-reads.Learnt,
+  bump-ascription-reads.Asked,
+  bump-ascription-reads.Learnt,
+  sgm-below t,
+  sgm.Post,
+  close-reads.Asked,
+  close-reads.Learnt,
+  dec-below t,
+  dec.Post,
+  state-reads.Asked,
+  state-reads.Learnt,
+) (par-at t) par.Post
+par-same-length-5 t c =
+    c .before .before .before .before .before .before .before .dec .kept .1 .1 .1 .1 .0
+
+par-same-length-6 : (t : ℕ) → par-lts.Need-same-length-6 (
+  at-reads.Asked,
+  at-reads.Learnt,
+  refuse-reads.Asked,
+  refuse-reads.Learnt,
+  mark-reads.Asked,
+  mark-reads.Learnt,
+  bump-reads.Asked,
+  bump-reads.Learnt,
+  bump-ascription-reads.Asked,
+  bump-ascription-reads.Learnt,
+  sgm-below t,
+  sgm.Post,
+  close-reads.Asked,
+  close-reads.Learnt,
+  dec-below t,
+  dec.Post,
+  state-reads.Asked,
+  state-reads.Learnt,
+) (par-at t) par.Post
+par-same-length-6 t c =
+    c .before .before .before .before .before .before .before .dec .kept .1 .1 .1 .1 .1 .0
+
+par-returns-3 : (t : ℕ) → par-lts.Need-returns-3 (
+  at-reads.Asked,
+  at-reads.Learnt,
+  refuse-reads.Asked,
+  refuse-reads.Learnt,
+  mark-reads.Asked,
+  mark-reads.Learnt,
+  bump-reads.Asked,
+  bump-reads.Learnt,
+  bump-ascription-reads.Asked,
+  bump-ascription-reads.Learnt,
+  sgm-below t,
+  sgm.Post,
+  close-reads.Asked,
+  close-reads.Learnt,
+  dec-below t,
+  dec.Post,
+  state-reads.Asked,
+  state-reads.Learnt,
+) (par-at t) par.Post
+unfolding decl.functorArg plan choose chosen
+par-returns-3 t c =
+    let falls = c .before .before .before .before .before .before .before .before .before .before .before .before .before .before .before .before .before .before .before .pre .0 in
+    let pre0 = c .before .before .before .before .before .before .before .before .before .before .before .before .before .before .before .before .before .before .before .pre .1 in
+    let at = c .before .before .before .before .before .before .before .before .before .before .before .before .at .ensures in
+    let if1 = c .before .before .before .before .before .before .before .before .before .before .before .if1 .left in
+    let dec = c .before .before .before .before .before .before .before .dec .ensures in
+    let state = c .state .ensures in
+    by-steps pre0 (λ b. s-kind (s-false _ _ (kind-off _ _ _ _ at if1) (s-run (settled state (runs-in dec)) s-end)))
+
+pre-peek-requires : (t : ℕ) → pre-lts.Need-peek-requires (
+  peek-reads.Asked,
+  peek-reads.Learnt,
+  refuse-reads.Asked,
+  refuse-reads.Learnt,
+  rst-below t,
+  rst.Post,
+  mark-reads.Asked,
+  mark-reads.Learnt,
+  starts-reads.Asked,
+  starts-reads.Learnt,
+  keyword-reads.Asked,
+  keyword-reads.Learnt,
+  key-below t,
+  key.Post,
+) (pre-at t) pre.Post
+pre-peek-requires t c κs =
+    let pre0 = c .before .before .before .before .before .before .pre .1 in
+    pre0 .reads
+
+pre-enum-known-k : (t : ℕ) → pre-lts.Need-enum-known-k (
+  peek-reads.Asked,
+  peek-reads.Learnt,
+  refuse-reads.Asked,
+  refuse-reads.Learnt,
+  rst-below t,
+  rst.Post,
+  mark-reads.Asked,
+  mark-reads.Learnt,
+  starts-reads.Asked,
+  starts-reads.Learnt,
+  keyword-reads.Asked,
+  keyword-reads.Learnt,
+  key-below t,
+  key.Post,
+) (pre-at t) pre.Post
+pre-enum-known-k t c =
+    let falls = c .before .before .before .before .before .before .before .before .pre .0 in
+    let pre0 = c .before .before .before .before .before .before .before .before .pre .1 in
+    search needs
+
+pre-enum-told : (t : ℕ) → pre-lts.Need-enum-told (
+  peek-reads.Asked,
+  peek-reads.Learnt,
+  refuse-reads.Asked,
+  refuse-reads.Learnt,
+  rst-below t,
+  rst.Post,
+  mark-reads.Asked,
+  mark-reads.Learnt,
+  starts-reads.Asked,
+  starts-reads.Learnt,
+  keyword-reads.Asked,
+  keyword-reads.Learnt,
+  key-below t,
+  key.Post,
+) (pre-at t) pre.Post
+pre-enum-told t c =
+    let falls = c .before .before .before .before .before .before .before .before .pre .0 in
+    let pre0 = c .before .before .before .before .before .before .before .before .pre .1 in
+    search needs
+
+pre-returns : (t : ℕ) → pre-lts.Need-returns (
+  peek-reads.Asked,
+  peek-reads.Learnt,
+  refuse-reads.Asked,
+  refuse-reads.Learnt,
+  rst-below t,
+  rst.Post,
+  mark-reads.Asked,
+  mark-reads.Learnt,
+  starts-reads.Asked,
+  starts-reads.Learnt,
+  keyword-reads.Asked,
+  keyword-reads.Learnt,
+  key-below t,
+  key.Post,
+) (pre-at t) pre.Post
+unfolding root.body expr.expScope expr.expHead plan choose chosen
+pre-returns t c =
+    let falls = c .before .before .before .before .before .before .before .before .before .pre .0 in
+    let pre0 = c .before .before .before .before .before .before .before .before .before .pre .1 in
+    let peek = rw (c .enum-told .given .1) at (c .before .before .peek .ensures) in
+    by-steps pre0 (λ b. s-rule (s-look peek s-end))
+
+pre-refuse-requires : (t : ℕ) → pre-lts.Need-refuse-requires (
+  peek-reads.Asked,
+  peek-reads.Learnt,
+  refuse-reads.Asked,
+  refuse-reads.Learnt,
+  rst-below t,
+  rst.Post,
+  mark-reads.Asked,
+  mark-reads.Learnt,
+  starts-reads.Asked,
+  starts-reads.Learnt,
+  keyword-reads.Asked,
+  keyword-reads.Learnt,
+  key-below t,
+  key.Post,
+) (pre-at t) pre.Post
+pre-refuse-requires t c κs =
+    tt
+
+pre-rst-requires : (t : ℕ) → pre-lts.Need-rst-requires (
+  peek-reads.Asked,
+  peek-reads.Learnt,
+  refuse-reads.Asked,
+  refuse-reads.Learnt,
+  rst-below t,
+  rst.Post,
+  mark-reads.Asked,
+  mark-reads.Learnt,
+  starts-reads.Asked,
+  starts-reads.Learnt,
+  keyword-reads.Asked,
+  keyword-reads.Learnt,
+  key-below t,
+  key.Post,
+) (pre-at t) pre.Post
+pre-rst-requires t c κs =
+    let falls = c .before .before .before .before .before .before .before .before .before .before .before .before .before .before .before .pre .0 in
+    let pre0 = c .before .before .before .before .before .before .before .before .before .before .before .before .before .before .before .pre .1 in
+    let if1 = c .before .before .before .before .if1 .taken in
+    let refuse = c .before .before .before .refuse .ensures in
+    let refuse-ok = ok-refused _ refuse pre0 in
+    (omega arith, (refuse-ok, small-len pre0))
+
+pre-same-length : (t : ℕ) → pre-lts.Need-same-length (
+  peek-reads.Asked,
+  peek-reads.Learnt,
+  refuse-reads.Asked,
+  refuse-reads.Learnt,
+  rst-below t,
+  rst.Post,
+  mark-reads.Asked,
+  mark-reads.Learnt,
+  starts-reads.Asked,
+  starts-reads.Learnt,
+  keyword-reads.Asked,
+  keyword-reads.Learnt,
+  key-below t,
+  key.Post,
+) (pre-at t) pre.Post
+pre-same-length t c =
+    c .before .before .before .before .before .before .rst .kept .1 .1 .1 .0
+
+pre-same-length-2 : (t : ℕ) → pre-lts.Need-same-length-2 (
+  peek-reads.Asked,
+  peek-reads.Learnt,
+  refuse-reads.Asked,
+  refuse-reads.Learnt,
+  rst-below t,
+  rst.Post,
+  mark-reads.Asked,
+  mark-reads.Learnt,
+  starts-reads.Asked,
+  starts-reads.Learnt,
+  keyword-reads.Asked,
+  keyword-reads.Learnt,
+  key-below t,
+  key.Post,
+) (pre-at t) pre.Post
+pre-same-length-2 t c =
+    c .before .before .before .before .before .before .rst .kept .1 .1 .1 .1 .0
+
+pre-same-length-3 : (t : ℕ) → pre-lts.Need-same-length-3 (
+  peek-reads.Asked,
+  peek-reads.Learnt,
+  refuse-reads.Asked,
+  refuse-reads.Learnt,
+  rst-below t,
+  rst.Post,
+  mark-reads.Asked,
+  mark-reads.Learnt,
+  starts-reads.Asked,
+  starts-reads.Learnt,
+  keyword-reads.Asked,
+  keyword-reads.Learnt,
+  key-below t,
+  key.Post,
+) (pre-at t) pre.Post
+pre-same-length-3 t c =
+    c .before .before .before .before .before .before .rst .kept .1 .1 .1 .1 .1 .0
+
+pre-returns-2 : (t : ℕ) → pre-lts.Need-returns-2 (
+  peek-reads.Asked,
+  peek-reads.Learnt,
+  refuse-reads.Asked,
+  refuse-reads.Learnt,
+  rst-below t,
+  rst.Post,
+  mark-reads.Asked,
+  mark-reads.Learnt,
+  starts-reads.Asked,
+  starts-reads.Learnt,
+  keyword-reads.Asked,
+  keyword-reads.Learnt,
+  key-below t,
+  key.Post,
+) (pre-at t) pre.Post
+unfolding root.body expr.expScope expr.expHead plan choose chosen
+pre-returns-2 t c =
+    let falls = c .before .before .before .before .before .before .before .before .before .before .before .before .before .before .before .before .before .before .before .before .before .before .pre .0 in
+    let pre0 = c .before .before .before .before .before .before .before .before .before .before .before .before .before .before .before .before .before .before .before .before .before .before .pre .1 in
+    let peek = rw (c .before .before .before .before .before .before .before .before .before .before .before .before .before .k .given .1) at (c .before .before .before .before .before .before .before .before .before .before .before .before .before .before .before .peek .ensures) in
+    let if1 = c .before .before .before .before .before .before .before .before .before .before .before .if1 .taken in
+    let refuse = c .before .before .before .before .before .before .before .before .before .before .refuse .ensures in
+    let rst = c .before .before .before .before .before .before .rst .ensures in
+    by-steps pre0 (λ b. s-rule (s-look peek (s-deep if1 refuse (s-by _ rst s-end))))
+
+pre-mark-requires : (t : ℕ) → pre-lts.Need-mark-requires (
+  peek-reads.Asked,
+  peek-reads.Learnt,
+  refuse-reads.Asked,
+  refuse-reads.Learnt,
+  rst-below t,
+  rst.Post,
+  mark-reads.Asked,
+  mark-reads.Learnt,
+  starts-reads.Asked,
+  starts-reads.Learnt,
+  keyword-reads.Asked,
+  keyword-reads.Learnt,
+  key-below t,
+  key.Post,
+) (pre-at t) pre.Post
+pre-mark-requires t c κs =
+    tt
+
+pre-starts-requires : (t : ℕ) → pre-lts.Need-starts-requires (
+  peek-reads.Asked,
+  peek-reads.Learnt,
+  refuse-reads.Asked,
+  refuse-reads.Learnt,
+  rst-below t,
+  rst.Post,
+  mark-reads.Asked,
+  mark-reads.Learnt,
+  starts-reads.Asked,
+  starts-reads.Learnt,
+  keyword-reads.Asked,
+  keyword-reads.Learnt,
+  key-below t,
+  key.Post,
+) (pre-at t) pre.Post
+pre-starts-requires t c κs =
+    tt
+
+pre-keyword-requires : (t : ℕ) → pre-lts.Need-keyword-requires (
+  peek-reads.Asked,
+  peek-reads.Learnt,
+  refuse-reads.Asked,
+  refuse-reads.Learnt,
+  rst-below t,
+  rst.Post,
+  mark-reads.Asked,
+  mark-reads.Learnt,
+  starts-reads.Asked,
+  starts-reads.Learnt,
+  keyword-reads.Asked,
+  keyword-reads.Learnt,
+  key-below t,
+  key.Post,
+) (pre-at t) pre.Post
+pre-keyword-requires t c κs =
+    let pre0 = c .before .before .before .before .before .before .before .before .before .before .before .before .before .before .before .before .before .pre .1 in
+    let mark = c .before .before .before .before .before .mark .ensures in
+    let mark-ok = ok-marks mark pre0 in
+    mark-ok
+
+pre-sub-key : (t : ℕ) → pre-lts.Need-sub-key (
+  peek-reads.Asked,
+  peek-reads.Learnt,
+  refuse-reads.Asked,
+  refuse-reads.Learnt,
+  rst-below t,
+  rst.Post,
+  mark-reads.Asked,
+  mark-reads.Learnt,
+  starts-reads.Asked,
+  starts-reads.Learnt,
+  keyword-reads.Asked,
+  keyword-reads.Learnt,
+  key-below t,
+  key.Post,
+) (pre-at t) pre.Post
+pre-sub-key t c =
+    let falls = c .before .before .before .before .before .before .before .before .before .before .before .before .before .before .before .before .before .before .before .before .before .before .before .before .before .pre .0 in
+    let pre0 = c .before .before .before .before .before .before .before .before .before .before .before .before .before .before .before .before .before .before .before .before .before .before .before .before .before .pre .1 in
+    let if1 = c .before .before .before .before .before .before .before .before .before .before .before .before .before .before .if1 .left in
+    let if2 = c .before .before .before .before .before .before .before .before .before .before .before .if2 .taken in
+    search needs
+
+pre-key-requires : (t : ℕ) → pre-lts.Need-key-requires (
+  peek-reads.Asked,
+  peek-reads.Learnt,
+  refuse-reads.Asked,
+  refuse-reads.Learnt,
+  rst-below t,
+  rst.Post,
+  mark-reads.Asked,
+  mark-reads.Learnt,
+  starts-reads.Asked,
+  starts-reads.Learnt,
+  keyword-reads.Asked,
+  keyword-reads.Learnt,
+  key-below t,
+  key.Post,
+) (pre-at t) pre.Post
+pre-key-requires t c κs =
+    let falls = c .before .before .before .before .before .before .before .before .before .before .before .before .before .before .before .before .before .before .before .before .before .before .before .before .before .pre .0 in
+    let pre0 = c .before .before .before .before .before .before .before .before .before .before .before .before .before .before .before .before .before .before .before .before .before .before .before .before .before .pre .1 in
+    let if1 = c .before .before .before .before .before .before .before .before .before .before .before .before .before .before .if1 .left in
+    let if2 = c .before .before .before .before .before .before .before .before .before .before .before .if2 .taken in
+    let keyword = c .before .before .before .before .before .before .before .keyword .ensures in
+    let keyword-ok = keyword .ok in
+    (omega arith, (keyword-ok, small-len pre0))
+
+pre-same-length-4 : (t : ℕ) → pre-lts.Need-same-length-4 (
+  peek-reads.Asked,
+  peek-reads.Learnt,
+  refuse-reads.Asked,
+  refuse-reads.Learnt,
+  rst-below t,
+  rst.Post,
+  mark-reads.Asked,
+  mark-reads.Learnt,
+  starts-reads.Asked,
+  starts-reads.Learnt,
+  keyword-reads.Asked,
+  keyword-reads.Learnt,
+  key-below t,
+  key.Post,
+) (pre-at t) pre.Post
+pre-same-length-4 t c =
+    c .before .before .before .before .before .before .key .kept .1 .1 .1 .0
+
+pre-same-length-5 : (t : ℕ) → pre-lts.Need-same-length-5 (
+  peek-reads.Asked,
+  peek-reads.Learnt,
+  refuse-reads.Asked,
+  refuse-reads.Learnt,
+  rst-below t,
+  rst.Post,
+  mark-reads.Asked,
+  mark-reads.Learnt,
+  starts-reads.Asked,
+  starts-reads.Learnt,
+  keyword-reads.Asked,
+  keyword-reads.Learnt,
+  key-below t,
+  key.Post,
+) (pre-at t) pre.Post
+pre-same-length-5 t c =
+    c .before .before .before .before .before .before .key .kept .1 .1 .1 .1 .0 ∙ c .before .before .before .before .before .before .before .before .before .before .before .before .before .before .keyword .kept .1 .1 .1 .1 .0
+
+pre-same-length-6 : (t : ℕ) → pre-lts.Need-same-length-6 (
+  peek-reads.Asked,
+  peek-reads.Learnt,
+  refuse-reads.Asked,
+  refuse-reads.Learnt,
+  rst-below t,
+  rst.Post,
+  mark-reads.Asked,
+  mark-reads.Learnt,
+  starts-reads.Asked,
+  starts-reads.Learnt,
+  keyword-reads.Asked,
+  keyword-reads.Learnt,
+  key-below t,
+  key.Post,
+) (pre-at t) pre.Post
+pre-same-length-6 t c =
+    c .before .before .before .before .before .before .key .kept .1 .1 .1 .1 .1 .0 ∙ c .before .before .before .before .before .before .before .before .before .before .before .before .before .before .keyword .kept .1 .1 .1 .1 .1 .0
+
+pre-returns-3 : (t : ℕ) → pre-lts.Need-returns-3 (
+  peek-reads.Asked,
+  peek-reads.Learnt,
+  refuse-reads.Asked,
+  refuse-reads.Learnt,
+  rst-below t,
+  rst.Post,
+  mark-reads.Asked,
+  mark-reads.Learnt,
+  starts-reads.Asked,
+  starts-reads.Learnt,
+  keyword-reads.Asked,
+  keyword-reads.Learnt,
+  key-below t,
+  key.Post,
+) (pre-at t) pre.Post
+unfolding root.body expr.expScope expr.expHead plan choose chosen
+pre-returns-3 t c =
+    let falls = c .before .before .before .before .before .before .before .before .before .before .before .before .before .before .before .before .before .before .before .before .before .before .before .before .before .before .before .before .before .before .before .before .pre .0 in
+    let pre0 = c .before .before .before .before .before .before .before .before .before .before .before .before .before .before .before .before .before .before .before .before .before .before .before .before .before .before .before .before .before .before .before .before .pre .1 in
+    let peek = rw (c .before .before .before .before .before .before .before .before .before .before .before .before .before .before .before .before .before .before .before .before .before .before .before .k .given .1) at (c .before .before .before .before .before .before .before .before .before .before .before .before .before .before .before .before .before .before .before .before .before .before .before .before .before .peek .ensures) in
+    let if1 = c .before .before .before .before .before .before .before .before .before .before .before .before .before .before .before .before .before .before .before .before .before .if1 .left in
+    let mark = c .before .before .before .before .before .before .before .before .before .before .before .before .before .before .before .before .before .before .before .before .mark .ensures in
+    let starts = c .before .before .before .before .before .before .before .before .before .before .before .before .before .before .before .before .before .before .before .starts .ensures in
+    let if2 = c .before .before .before .before .before .before .before .before .before .before .before .before .before .before .before .before .before .before .if2 .taken in
+    let keyword = c .before .before .before .before .before .before .before .before .before .before .before .before .before .before .keyword .ensures in
+    let key = c .before .before .before .before .before .before .key .ensures in
+    by-steps pre0 (λ b. s-rule (s-look peek (s-mark if1 mark (s-true _ _ (test-true starts if2) (s-by _ (runs-always keyword) (s-by _ key s-end))))))
+
+pre-rst-requires-2 : (t : ℕ) → pre-lts.Need-rst-requires-2 (
+  peek-reads.Asked,
+  peek-reads.Learnt,
+  refuse-reads.Asked,
+  refuse-reads.Learnt,
+  rst-below t,
+  rst.Post,
+  mark-reads.Asked,
+  mark-reads.Learnt,
+  starts-reads.Asked,
+  starts-reads.Learnt,
+  keyword-reads.Asked,
+  keyword-reads.Learnt,
+  key-below t,
+  key.Post,
+) (pre-at t) pre.Post
+pre-rst-requires-2 t c κs =
+    let falls = c .before .before .before .before .before .before .before .before .before .before .before .before .before .before .before .before .before .pre .0 in
+    let pre0 = c .before .before .before .before .before .before .before .before .before .before .before .before .before .before .before .before .before .pre .1 in
+    let if1 = c .before .before .before .before .before .before .if1 .left in
+    let mark = c .before .before .before .before .before .mark .ensures in
+    let mark-ok = ok-marks mark pre0 in
+    let if2 = c .before .before .before .if2 .left in
+    (omega arith, (mark-ok, small-len pre0))
+
+pre-same-length-7 : (t : ℕ) → pre-lts.Need-same-length-7 (
+  peek-reads.Asked,
+  peek-reads.Learnt,
+  refuse-reads.Asked,
+  refuse-reads.Learnt,
+  rst-below t,
+  rst.Post,
+  mark-reads.Asked,
+  mark-reads.Learnt,
+  starts-reads.Asked,
+  starts-reads.Learnt,
+  keyword-reads.Asked,
+  keyword-reads.Learnt,
+  key-below t,
+  key.Post,
+) (pre-at t) pre.Post
+pre-same-length-7 t c =
+    c .before .before .before .before .before .before .rst2 .kept .1 .1 .1 .0
+
+pre-same-length-8 : (t : ℕ) → pre-lts.Need-same-length-8 (
+  peek-reads.Asked,
+  peek-reads.Learnt,
+  refuse-reads.Asked,
+  refuse-reads.Learnt,
+  rst-below t,
+  rst.Post,
+  mark-reads.Asked,
+  mark-reads.Learnt,
+  starts-reads.Asked,
+  starts-reads.Learnt,
+  keyword-reads.Asked,
+  keyword-reads.Learnt,
+  key-below t,
+  key.Post,
+) (pre-at t) pre.Post
+pre-same-length-8 t c =
+    c .before .before .before .before .before .before .rst2 .kept .1 .1 .1 .1 .0
+
+pre-same-length-9 : (t : ℕ) → pre-lts.Need-same-length-9 (
+  peek-reads.Asked,
+  peek-reads.Learnt,
+  refuse-reads.Asked,
+  refuse-reads.Learnt,
+  rst-below t,
+  rst.Post,
+  mark-reads.Asked,
+  mark-reads.Learnt,
+  starts-reads.Asked,
+  starts-reads.Learnt,
+  keyword-reads.Asked,
+  keyword-reads.Learnt,
+  key-below t,
+  key.Post,
+) (pre-at t) pre.Post
+pre-same-length-9 t c =
+    c .before .before .before .before .before .before .rst2 .kept .1 .1 .1 .1 .1 .0
+
+pre-returns-4 : (t : ℕ) → pre-lts.Need-returns-4 (
+  peek-reads.Asked,
+  peek-reads.Learnt,
+  refuse-reads.Asked,
+  refuse-reads.Learnt,
+  rst-below t,
+  rst.Post,
+  mark-reads.Asked,
+  mark-reads.Learnt,
+  starts-reads.Asked,
+  starts-reads.Learnt,
+  keyword-reads.Asked,
+  keyword-reads.Learnt,
+  key-below t,
+  key.Post,
+) (pre-at t) pre.Post
+unfolding root.body expr.expScope expr.expHead plan choose chosen
+pre-returns-4 t c =
+    let falls = c .before .before .before .before .before .before .before .before .before .before .before .before .before .before .before .before .before .before .before .before .before .before .before .before .pre .0 in
+    let pre0 = c .before .before .before .before .before .before .before .before .before .before .before .before .before .before .before .before .before .before .before .before .before .before .before .before .pre .1 in
+    let peek = rw (c .before .before .before .before .before .before .before .before .before .before .before .before .before .before .before .k .given .1) at (c .before .before .before .before .before .before .before .before .before .before .before .before .before .before .before .before .before .peek .ensures) in
+    let if1 = c .before .before .before .before .before .before .before .before .before .before .before .before .before .if1 .left in
+    let mark = c .before .before .before .before .before .before .before .before .before .before .before .before .mark .ensures in
+    let starts = c .before .before .before .before .before .before .before .before .before .before .before .starts .ensures in
+    let if2 = c .before .before .before .before .before .before .before .before .before .before .if2 .left in
+    let rst2 = c .before .before .before .before .before .before .rst2 .ensures in
+    by-steps pre0 (λ b. s-rule (s-look peek (s-mark if1 mark (s-false _ _ (test-false starts if2) (s-by _ rst2 s-end)))))
+
+prt-tl-requires :
+    (t : ℕ) →
+    prt-lts.Need-tl-requires (tl-below t, tl.Post, one-below t, one.Post) (prt-at t) prt.Post
+prt-tl-requires t c κs =
+    let falls = c .before .before .before .before .before .before .before .before .before .before .pre .0 in
+    let pre0 = c .before .before .before .before .before .before .before .before .before .before .pre .1 in
+    let if1 = c .before .before .before .if1 .taken in
+    (omega arith, pre0)
+
+prt-same-length :
+    (t : ℕ) →
+    prt-lts.Need-same-length (tl-below t, tl.Post, one-below t, one.Post) (prt-at t) prt.Post
+prt-same-length t c =
+    c .before .before .before .before .before .before .tl .kept .1 .1 .1 .0
+
+prt-same-length-2 : (t : ℕ) → prt-lts.Need-same-length-2 (
+  tl-below t,
+  tl.Post,
+  one-below t,
+  one.Post,
+) (prt-at t) prt.Post
+prt-same-length-2 t c =
+    c .before .before .before .before .before .before .tl .kept .1 .1 .1 .1 .0
+
+prt-same-length-3 : (t : ℕ) → prt-lts.Need-same-length-3 (
+  tl-below t,
+  tl.Post,
+  one-below t,
+  one.Post,
+) (prt-at t) prt.Post
+prt-same-length-3 t c =
+    c .before .before .before .before .before .before .tl .kept .1 .1 .1 .1 .1 .0
+
+prt-returns :
+    (t : ℕ) →
+    prt-lts.Need-returns (tl-below t, tl.Post, one-below t, one.Post) (prt-at t) prt.Post
+unfolding decl.semiClosure plan choose chosen
+prt-returns t c =
+    let falls = c .before .before .before .before .before .before .before .before .before .before .before .before .before .before .before .before .before .pre .0 in
+    let pre0 = c .before .before .before .before .before .before .before .before .before .before .before .before .before .before .before .before .before .pre .1 in
+    let if1 = c .before .before .before .before .before .before .before .before .before .before .if1 .taken in
+    let tl = c .before .before .before .before .before .before .tl .ensures in
+    by-steps pre0 (λ b. s-first _ _ _ _ _ _ (eq-eqb _ _ if1) (s-by _ (runs-in tl) s-end))
+
+prt-one-requires : (t : ℕ) → prt-lts.Need-one-requires (
+  tl-below t,
+  tl.Post,
+  one-below t,
+  one.Post,
+) (prt-at t) prt.Post
+prt-one-requires t c κs =
+    let falls = c .before .before .before .before .before .before .before .before .before .before .pre .0 in
+    let pre0 = c .before .before .before .before .before .before .before .before .before .before .pre .1 in
+    let if1 = c .before .before .before .if1 .left in
+    (omega arith, pre0)
+
+prt-same-length-4 : (t : ℕ) → prt-lts.Need-same-length-4 (
+  tl-below t,
+  tl.Post,
+  one-below t,
+  one.Post,
+) (prt-at t) prt.Post
+prt-same-length-4 t c =
+    c .before .before .before .before .before .before .one .kept .1 .1 .1 .0
+
+prt-same-length-5 : (t : ℕ) → prt-lts.Need-same-length-5 (
+  tl-below t,
+  tl.Post,
+  one-below t,
+  one.Post,
+) (prt-at t) prt.Post
+prt-same-length-5 t c =
+    c .before .before .before .before .before .before .one .kept .1 .1 .1 .1 .0
+
+prt-same-length-6 : (t : ℕ) → prt-lts.Need-same-length-6 (
+  tl-below t,
+  tl.Post,
+  one-below t,
+  one.Post,
+) (prt-at t) prt.Post
+prt-same-length-6 t c =
+    c .before .before .before .before .before .before .one .kept .1 .1 .1 .1 .1 .0
+
+prt-returns-2 :
+    (t : ℕ) →
+    prt-lts.Need-returns-2 (tl-below t, tl.Post, one-below t, one.Post) (prt-at t) prt.Post
+unfolding decl.semiClosure plan choose chosen
+prt-returns-2 t c =
+    let falls = c .before .before .before .before .before .before .before .before .before .before .before .before .before .before .before .before .before .pre .0 in
+    let pre0 = c .before .before .before .before .before .before .before .before .before .before .before .before .before .before .before .before .before .pre .1 in
+    let if1 = c .before .before .before .before .before .before .before .before .before .before .if1 .left in
+    let one = c .before .before .before .before .before .before .one .ensures in
+    by-steps pre0 (λ b. s-second _ _ _ _ _ _ (ne-eqb _ _ if1) (s-by _ (runs-in one) s-end))
+
+rhs-is-ascribed-requires : (t : ℕ) → rhs-lts.Need-is-ascribed-requires (
+  is-ascribed-reads.Asked,
+  is-ascribed-reads.Learnt,
+  ty-must-reads.Asked,
+  ty-must-reads.Learnt,
+  close-reads.Asked,
+  close-reads.Learnt,
+  is-handle-reads.Asked,
+  is-handle-reads.Learnt,
+  mat-below t,
+  mat.Post,
+  is-andalso-reads.Asked,
+  is-andalso-reads.Learnt,
+  exp-below t,
+  exp.Post,
+  is-orelse-reads.Asked,
+  is-orelse-reads.Learnt,
+) (rhs-at t) rhs.Post
+rhs-is-ascribed-requires t c κs =
+    tt
+
+rhs-ty-must-requires : (t : ℕ) → rhs-lts.Need-ty-must-requires (
+  is-ascribed-reads.Asked,
+  is-ascribed-reads.Learnt,
+  ty-must-reads.Asked,
+  ty-must-reads.Learnt,
+  close-reads.Asked,
+  close-reads.Learnt,
+  is-handle-reads.Asked,
+  is-handle-reads.Learnt,
+  mat-below t,
+  mat.Post,
+  is-andalso-reads.Asked,
+  is-andalso-reads.Learnt,
+  exp-below t,
+  exp.Post,
+  is-orelse-reads.Asked,
+  is-orelse-reads.Learnt,
+) (rhs-at t) rhs.Post
+rhs-ty-must-requires t c κs =
+    let pre0 = c .before .before .before .before .before .before .before .before .before .before .before .pre .1 .0 in
+    pre0
+
+rhs-close-requires : (t : ℕ) → rhs-lts.Need-close-requires (
+  is-ascribed-reads.Asked,
+  is-ascribed-reads.Learnt,
+  ty-must-reads.Asked,
+  ty-must-reads.Learnt,
+  close-reads.Asked,
+  close-reads.Learnt,
+  is-handle-reads.Asked,
+  is-handle-reads.Learnt,
+  mat-below t,
+  mat.Post,
+  is-andalso-reads.Asked,
+  is-andalso-reads.Learnt,
+  exp-below t,
+  exp.Post,
+  is-orelse-reads.Asked,
+  is-orelse-reads.Learnt,
+) (rhs-at t) rhs.Post
+rhs-close-requires t c κs =
+    let pre1 = c .before .before .before .before .before .before .before .before .before .before .before .before .before .before .before .before .before .pre .1 .1 in
+    let ty-must = c .before .before .before .before .before .ty-must .ensures in
+    let ty-must-ok = ty-must .ok in
+    (ty-must-ok .logs, pre1)
+
+rhs-same-length : (t : ℕ) → rhs-lts.Need-same-length (
+  is-ascribed-reads.Asked,
+  is-ascribed-reads.Learnt,
+  ty-must-reads.Asked,
+  ty-must-reads.Learnt,
+  close-reads.Asked,
+  close-reads.Learnt,
+  is-handle-reads.Asked,
+  is-handle-reads.Learnt,
+  mat-below t,
+  mat.Post,
+  is-andalso-reads.Asked,
+  is-andalso-reads.Learnt,
+  exp-below t,
+  exp.Post,
+  is-orelse-reads.Asked,
+  is-orelse-reads.Learnt,
+) (rhs-at t) rhs.Post
+rhs-same-length t c =
+    refl
+
+rhs-same-length-2 : (t : ℕ) → rhs-lts.Need-same-length-2 (
+  is-ascribed-reads.Asked,
+  is-ascribed-reads.Learnt,
+  ty-must-reads.Asked,
+  ty-must-reads.Learnt,
+  close-reads.Asked,
+  close-reads.Learnt,
+  is-handle-reads.Asked,
+  is-handle-reads.Learnt,
+  mat-below t,
+  mat.Post,
+  is-andalso-reads.Asked,
+  is-andalso-reads.Learnt,
+  exp-below t,
+  exp.Post,
+  is-orelse-reads.Asked,
+  is-orelse-reads.Learnt,
+) (rhs-at t) rhs.Post
+rhs-same-length-2 t c =
+    c .before .before .close .kept .0 ∙ c .before .before .before .before .before .before .before .before .ty-must .kept .1 .1 .1 .1 .0
+
+rhs-same-length-3 : (t : ℕ) → rhs-lts.Need-same-length-3 (
+  is-ascribed-reads.Asked,
+  is-ascribed-reads.Learnt,
+  ty-must-reads.Asked,
+  ty-must-reads.Learnt,
+  close-reads.Asked,
+  close-reads.Learnt,
+  is-handle-reads.Asked,
+  is-handle-reads.Learnt,
+  mat-below t,
+  mat.Post,
+  is-andalso-reads.Asked,
+  is-andalso-reads.Learnt,
+  exp-below t,
+  exp.Post,
+  is-orelse-reads.Asked,
+  is-orelse-reads.Learnt,
+) (rhs-at t) rhs.Post
+rhs-same-length-3 t c =
+    c .before .before .before .before .before .before .before .before .ty-must .kept .1 .1 .1 .1 .1 .0
+
+rhs-returns : (t : ℕ) → rhs-lts.Need-returns (
+  is-ascribed-reads.Asked,
+  is-ascribed-reads.Learnt,
+  ty-must-reads.Asked,
+  ty-must-reads.Learnt,
+  close-reads.Asked,
+  close-reads.Learnt,
+  is-handle-reads.Asked,
+  is-handle-reads.Learnt,
+  mat-below t,
+  mat.Post,
+  is-andalso-reads.Asked,
+  is-andalso-reads.Learnt,
+  exp-below t,
+  exp.Post,
+  is-orelse-reads.Asked,
+  is-orelse-reads.Learnt,
+) (rhs-at t) rhs.Post
+unfolding expr.rightSide plan choose chosen
+rhs-returns t c =
+    let falls = c .before .before .before .before .before .before .before .before .before .before .before .before .before .before .before .before .before .before .before .before .pre .0 in
+    let pre0 = c .before .before .before .before .before .before .before .before .before .before .before .before .before .before .before .before .before .before .before .before .pre .1 .0 in
+    let pre1 = c .before .before .before .before .before .before .before .before .before .before .before .before .before .before .before .before .before .before .before .before .pre .1 .1 in
+    let is-ascribed = c .before .before .before .before .before .before .before .before .before .before .before .before .before .is-ascribed .ensures in
+    let if1 = c .before .before .before .before .before .before .before .before .before .before .before .before .if1 .taken in
+    let ty-must = c .before .before .before .before .before .before .before .before .ty-must .ensures in
+    let close = c .before .before .close .ensures in
+    in-steps pre0 (s-true _ _ (test-true is-ascribed if1) (s-by _ (runs-in ty-must) (s-close close s-end)))
+
+rhs-is-handle-requires : (t : ℕ) → rhs-lts.Need-is-handle-requires (
+  is-ascribed-reads.Asked,
+  is-ascribed-reads.Learnt,
+  ty-must-reads.Asked,
+  ty-must-reads.Learnt,
+  close-reads.Asked,
+  close-reads.Learnt,
+  is-handle-reads.Asked,
+  is-handle-reads.Learnt,
+  mat-below t,
+  mat.Post,
+  is-andalso-reads.Asked,
+  is-andalso-reads.Learnt,
+  exp-below t,
+  exp.Post,
+  is-orelse-reads.Asked,
+  is-orelse-reads.Learnt,
+) (rhs-at t) rhs.Post
+rhs-is-handle-requires t c κs =
+    tt
+
+rhs-mat-requires : (t : ℕ) → rhs-lts.Need-mat-requires (
+  is-ascribed-reads.Asked,
+  is-ascribed-reads.Learnt,
+  ty-must-reads.Asked,
+  ty-must-reads.Learnt,
+  close-reads.Asked,
+  close-reads.Learnt,
+  is-handle-reads.Asked,
+  is-handle-reads.Learnt,
+  mat-below t,
+  mat.Post,
+  is-andalso-reads.Asked,
+  is-andalso-reads.Learnt,
+  exp-below t,
+  exp.Post,
+  is-orelse-reads.Asked,
+  is-orelse-reads.Learnt,
+) (rhs-at t) rhs.Post
+rhs-mat-requires t c κs =
+    let falls = c .before .before .before .before .before .before .before .before .before .before .before .before .before .pre .0 in
+    let pre0 = c .before .before .before .before .before .before .before .before .before .before .before .before .before .pre .1 .0 in
+    let pre1 = c .before .before .before .before .before .before .before .before .before .before .before .before .before .pre .1 .1 in
+    let if1 = c .before .before .before .before .before .if1 .left in
+    let if2 = c .before .before .before .if2 .taken in
+    (omega arith, pre0)
+
+rhs-close-requires-2 : (t : ℕ) → rhs-lts.Need-close-requires-2 (
+  is-ascribed-reads.Asked,
+  is-ascribed-reads.Learnt,
+  ty-must-reads.Asked,
+  ty-must-reads.Learnt,
+  close-reads.Asked,
+  close-reads.Learnt,
+  is-handle-reads.Asked,
+  is-handle-reads.Learnt,
+  mat-below t,
+  mat.Post,
+  is-andalso-reads.Asked,
+  is-andalso-reads.Learnt,
+  exp-below t,
+  exp.Post,
+  is-orelse-reads.Asked,
+  is-orelse-reads.Learnt,
+) (rhs-at t) rhs.Post
+rhs-close-requires-2 t c κs =
+    let pre1 = c .before .before .before .before .before .before .before .before .before .before .before .before .before .before .before .before .before .before .before .before .before .pre .1 .1 in
+    let mat = c .before .before .before .before .before .before .before .mat .ensures in
+    let mat-ok = mat .ok in
+    (mat-ok .logs, pre1)
+
+rhs-same-length-4 : (t : ℕ) → rhs-lts.Need-same-length-4 (
+  is-ascribed-reads.Asked,
+  is-ascribed-reads.Learnt,
+  ty-must-reads.Asked,
+  ty-must-reads.Learnt,
+  close-reads.Asked,
+  close-reads.Learnt,
+  is-handle-reads.Asked,
+  is-handle-reads.Learnt,
+  mat-below t,
+  mat.Post,
+  is-andalso-reads.Asked,
+  is-andalso-reads.Learnt,
+  exp-below t,
+  exp.Post,
+  is-orelse-reads.Asked,
+  is-orelse-reads.Learnt,
+) (rhs-at t) rhs.Post
+rhs-same-length-4 t c =
+    c .before .before .before .before .before .before .before .before .before .before .mat .kept .1 .1 .1 .0
+
+rhs-same-length-5 : (t : ℕ) → rhs-lts.Need-same-length-5 (
+  is-ascribed-reads.Asked,
+  is-ascribed-reads.Learnt,
+  ty-must-reads.Asked,
+  ty-must-reads.Learnt,
+  close-reads.Asked,
+  close-reads.Learnt,
+  is-handle-reads.Asked,
+  is-handle-reads.Learnt,
+  mat-below t,
+  mat.Post,
+  is-andalso-reads.Asked,
+  is-andalso-reads.Learnt,
+  exp-below t,
+  exp.Post,
+  is-orelse-reads.Asked,
+  is-orelse-reads.Learnt,
+) (rhs-at t) rhs.Post
+rhs-same-length-5 t c =
+    c .before .before .close2 .kept .0 ∙ c .before .before .before .before .before .before .before .before .before .before .mat .kept .1 .1 .1 .1 .0
+
+rhs-same-length-6 : (t : ℕ) → rhs-lts.Need-same-length-6 (
+  is-ascribed-reads.Asked,
+  is-ascribed-reads.Learnt,
+  ty-must-reads.Asked,
+  ty-must-reads.Learnt,
+  close-reads.Asked,
+  close-reads.Learnt,
+  is-handle-reads.Asked,
+  is-handle-reads.Learnt,
+  mat-below t,
+  mat.Post,
+  is-andalso-reads.Asked,
+  is-andalso-reads.Learnt,
+  exp-below t,
+  exp.Post,
+  is-orelse-reads.Asked,
+  is-orelse-reads.Learnt,
+) (rhs-at t) rhs.Post
+rhs-same-length-6 t c =
+    c .before .before .before .before .before .before .before .before .before .before .mat .kept .1 .1 .1 .1 .1 .0
+
+rhs-returns-2 : (t : ℕ) → rhs-lts.Need-returns-2 (
+  is-ascribed-reads.Asked,
+  is-ascribed-reads.Learnt,
+  ty-must-reads.Asked,
+  ty-must-reads.Learnt,
+  close-reads.Asked,
+  close-reads.Learnt,
+  is-handle-reads.Asked,
+  is-handle-reads.Learnt,
+  mat-below t,
+  mat.Post,
+  is-andalso-reads.Asked,
+  is-andalso-reads.Learnt,
+  exp-below t,
+  exp.Post,
+  is-orelse-reads.Asked,
+  is-orelse-reads.Learnt,
+) (rhs-at t) rhs.Post
+unfolding expr.rightSide plan choose chosen
+rhs-returns-2 t c =
+    let falls = c .before .before .before .before .before .before .before .before .before .before .before .before .before .before .before .before .before .before .before .before .before .before .before .before .pre .0 in
+    let pre0 = c .before .before .before .before .before .before .before .before .before .before .before .before .before .before .before .before .before .before .before .before .before .before .before .before .pre .1 .0 in
+    let pre1 = c .before .before .before .before .before .before .before .before .before .before .before .before .before .before .before .before .before .before .before .before .before .before .before .before .pre .1 .1 in
+    let is-ascribed = c .before .before .before .before .before .before .before .before .before .before .before .before .before .before .before .before .before .is-ascribed .ensures in
+    let if1 = c .before .before .before .before .before .before .before .before .before .before .before .before .before .before .before .before .if1 .left in
+    let is-handle = c .before .before .before .before .before .before .before .before .before .before .before .before .before .before .before .is-handle .ensures in
+    let if2 = c .before .before .before .before .before .before .before .before .before .before .before .before .before .before .if2 .taken in
+    let mat = c .before .before .before .before .before .before .before .before .before .before .mat .ensures in
+    let close2 = c .before .before .close2 .ensures in
+    in-steps pre0 (s-false _ _ (test-false is-ascribed if1) (s-true _ _ (test-true is-handle if2) (s-by _ (runs-in mat) (s-close close2 s-end))))
+
+rhs-is-andalso-requires : (t : ℕ) → rhs-lts.Need-is-andalso-requires (
+  is-ascribed-reads.Asked,
+  is-ascribed-reads.Learnt,
+  ty-must-reads.Asked,
+  ty-must-reads.Learnt,
+  close-reads.Asked,
+  close-reads.Learnt,
+  is-handle-reads.Asked,
+  is-handle-reads.Learnt,
+  mat-below t,
+  mat.Post,
+  is-andalso-reads.Asked,
+  is-andalso-reads.Learnt,
+  exp-below t,
+  exp.Post,
+  is-orelse-reads.Asked,
+  is-orelse-reads.Learnt,
+) (rhs-at t) rhs.Post
+rhs-is-andalso-requires t c κs =
+    tt
+
+rhs-exp-requires : (t : ℕ) → rhs-lts.Need-exp-requires (
+  is-ascribed-reads.Asked,
+  is-ascribed-reads.Learnt,
+  ty-must-reads.Asked,
+  ty-must-reads.Learnt,
+  close-reads.Asked,
+  close-reads.Learnt,
+  is-handle-reads.Asked,
+  is-handle-reads.Learnt,
+  mat-below t,
+  mat.Post,
+  is-andalso-reads.Asked,
+  is-andalso-reads.Learnt,
+  exp-below t,
+  exp.Post,
+  is-orelse-reads.Asked,
+  is-orelse-reads.Learnt,
+) (rhs-at t) rhs.Post
+rhs-exp-requires t c κs =
+    let falls = c .before .before .before .before .before .before .before .before .before .before .before .before .before .before .before .pre .0 in
+    let pre0 = c .before .before .before .before .before .before .before .before .before .before .before .before .before .before .before .pre .1 .0 in
+    let pre1 = c .before .before .before .before .before .before .before .before .before .before .before .before .before .before .before .pre .1 .1 in
+    let if1 = c .before .before .before .before .before .before .before .if1 .left in
+    let if2 = c .before .before .before .before .before .if2 .left in
+    let if3 = c .before .before .before .if3 .taken in
+    (omega arith, pre0)
+
+rhs-close-requires-3 : (t : ℕ) → rhs-lts.Need-close-requires-3 (
+  is-ascribed-reads.Asked,
+  is-ascribed-reads.Learnt,
+  ty-must-reads.Asked,
+  ty-must-reads.Learnt,
+  close-reads.Asked,
+  close-reads.Learnt,
+  is-handle-reads.Asked,
+  is-handle-reads.Learnt,
+  mat-below t,
+  mat.Post,
+  is-andalso-reads.Asked,
+  is-andalso-reads.Learnt,
+  exp-below t,
+  exp.Post,
+  is-orelse-reads.Asked,
+  is-orelse-reads.Learnt,
+) (rhs-at t) rhs.Post
+rhs-close-requires-3 t c κs =
+    let pre1 = c .before .before .before .before .before .before .before .before .before .before .before .before .before .before .before .before .before .before .before .before .before .before .before .pre .1 .1 in
+    let exp = c .before .before .before .before .before .before .before .exp .ensures in
+    let exp-ok = exp .ok in
+    (exp-ok .logs, pre1)
+
+rhs-same-length-7 : (t : ℕ) → rhs-lts.Need-same-length-7 (
+  is-ascribed-reads.Asked,
+  is-ascribed-reads.Learnt,
+  ty-must-reads.Asked,
+  ty-must-reads.Learnt,
+  close-reads.Asked,
+  close-reads.Learnt,
+  is-handle-reads.Asked,
+  is-handle-reads.Learnt,
+  mat-below t,
+  mat.Post,
+  is-andalso-reads.Asked,
+  is-andalso-reads.Learnt,
+  exp-below t,
+  exp.Post,
+  is-orelse-reads.Asked,
+  is-orelse-reads.Learnt,
+) (rhs-at t) rhs.Post
+rhs-same-length-7 t c =
+    c .before .before .before .before .before .before .before .before .before .before .exp .kept .1 .1 .1 .0
+
+rhs-same-length-8 : (t : ℕ) → rhs-lts.Need-same-length-8 (
+  is-ascribed-reads.Asked,
+  is-ascribed-reads.Learnt,
+  ty-must-reads.Asked,
+  ty-must-reads.Learnt,
+  close-reads.Asked,
+  close-reads.Learnt,
+  is-handle-reads.Asked,
+  is-handle-reads.Learnt,
+  mat-below t,
+  mat.Post,
+  is-andalso-reads.Asked,
+  is-andalso-reads.Learnt,
+  exp-below t,
+  exp.Post,
+  is-orelse-reads.Asked,
+  is-orelse-reads.Learnt,
+) (rhs-at t) rhs.Post
+rhs-same-length-8 t c =
+    c .before .before .close3 .kept .0 ∙ c .before .before .before .before .before .before .before .before .before .before .exp .kept .1 .1 .1 .1 .0
+
+rhs-same-length-9 : (t : ℕ) → rhs-lts.Need-same-length-9 (
+  is-ascribed-reads.Asked,
+  is-ascribed-reads.Learnt,
+  ty-must-reads.Asked,
+  ty-must-reads.Learnt,
+  close-reads.Asked,
+  close-reads.Learnt,
+  is-handle-reads.Asked,
+  is-handle-reads.Learnt,
+  mat-below t,
+  mat.Post,
+  is-andalso-reads.Asked,
+  is-andalso-reads.Learnt,
+  exp-below t,
+  exp.Post,
+  is-orelse-reads.Asked,
+  is-orelse-reads.Learnt,
+) (rhs-at t) rhs.Post
+rhs-same-length-9 t c =
+    c .before .before .before .before .before .before .before .before .before .before .exp .kept .1 .1 .1 .1 .1 .0
+
+rhs-returns-3 : (t : ℕ) → rhs-lts.Need-returns-3 (
+  is-ascribed-reads.Asked,
+  is-ascribed-reads.Learnt,
+  ty-must-reads.Asked,
+  ty-must-reads.Learnt,
+  close-reads.Asked,
+  close-reads.Learnt,
+  is-handle-reads.Asked,
+  is-handle-reads.Learnt,
+  mat-below t,
+  mat.Post,
+  is-andalso-reads.Asked,
+  is-andalso-reads.Learnt,
+  exp-below t,
+  exp.Post,
+  is-orelse-reads.Asked,
+  is-orelse-reads.Learnt,
+) (rhs-at t) rhs.Post
+unfolding expr.rightSide plan choose chosen
+rhs-returns-3 t c =
+    let falls = c .before .before .before .before .before .before .before .before .before .before .before .before .before .before .before .before .before .before .before .before .before .before .before .before .before .before .pre .0 in
+    let pre0 = c .before .before .before .before .before .before .before .before .before .before .before .before .before .before .before .before .before .before .before .before .before .before .before .before .before .before .pre .1 .0 in
+    let pre1 = c .before .before .before .before .before .before .before .before .before .before .before .before .before .before .before .before .before .before .before .before .before .before .before .before .before .before .pre .1 .1 in
+    let is-ascribed = c .before .before .before .before .before .before .before .before .before .before .before .before .before .before .before .before .before .before .before .is-ascribed .ensures in
+    let if1 = c .before .before .before .before .before .before .before .before .before .before .before .before .before .before .before .before .before .before .if1 .left in
+    let is-handle = c .before .before .before .before .before .before .before .before .before .before .before .before .before .before .before .before .before .is-handle .ensures in
+    let if2 = c .before .before .before .before .before .before .before .before .before .before .before .before .before .before .before .before .if2 .left in
+    let is-andalso = c .before .before .before .before .before .before .before .before .before .before .before .before .before .before .before .is-andalso .ensures in
+    let if3 = c .before .before .before .before .before .before .before .before .before .before .before .before .before .before .if3 .taken in
+    let exp = c .before .before .before .before .before .before .before .before .before .before .exp .ensures in
+    let close3 = c .before .before .close3 .ensures in
+    in-steps pre0 (s-false _ _ (test-false is-ascribed if1) (s-false _ _ (test-false is-handle if2) (s-true _ _ (test-true is-andalso if3) (s-by _ (runs-in exp) (s-close close3 s-end)))))
+
+rhs-is-orelse-requires : (t : ℕ) → rhs-lts.Need-is-orelse-requires (
+  is-ascribed-reads.Asked,
+  is-ascribed-reads.Learnt,
+  ty-must-reads.Asked,
+  ty-must-reads.Learnt,
+  close-reads.Asked,
+  close-reads.Learnt,
+  is-handle-reads.Asked,
+  is-handle-reads.Learnt,
+  mat-below t,
+  mat.Post,
+  is-andalso-reads.Asked,
+  is-andalso-reads.Learnt,
+  exp-below t,
+  exp.Post,
+  is-orelse-reads.Asked,
+  is-orelse-reads.Learnt,
+) (rhs-at t) rhs.Post
+rhs-is-orelse-requires t c κs =
+    tt
+
+rhs-exp-requires-2 : (t : ℕ) → rhs-lts.Need-exp-requires-2 (
+  is-ascribed-reads.Asked,
+  is-ascribed-reads.Learnt,
+  ty-must-reads.Asked,
+  ty-must-reads.Learnt,
+  close-reads.Asked,
+  close-reads.Learnt,
+  is-handle-reads.Asked,
+  is-handle-reads.Learnt,
+  mat-below t,
+  mat.Post,
+  is-andalso-reads.Asked,
+  is-andalso-reads.Learnt,
+  exp-below t,
+  exp.Post,
+  is-orelse-reads.Asked,
+  is-orelse-reads.Learnt,
+) (rhs-at t) rhs.Post
+rhs-exp-requires-2 t c κs =
+    let falls = c .before .before .before .before .before .before .before .before .before .before .before .before .before .before .before .before .before .pre .0 in
+    let pre0 = c .before .before .before .before .before .before .before .before .before .before .before .before .before .before .before .before .before .pre .1 .0 in
+    let pre1 = c .before .before .before .before .before .before .before .before .before .before .before .before .before .before .before .before .before .pre .1 .1 in
+    let if1 = c .before .before .before .before .before .before .before .before .before .if1 .left in
+    let if2 = c .before .before .before .before .before .before .before .if2 .left in
+    let if3 = c .before .before .before .before .before .if3 .left in
+    let if4 = c .before .before .before .if4 .taken in
+    (omega arith, pre0)
+
+rhs-close-requires-4 : (t : ℕ) → rhs-lts.Need-close-requires-4 (
+  is-ascribed-reads.Asked,
+  is-ascribed-reads.Learnt,
+  ty-must-reads.Asked,
+  ty-must-reads.Learnt,
+  close-reads.Asked,
+  close-reads.Learnt,
+  is-handle-reads.Asked,
+  is-handle-reads.Learnt,
+  mat-below t,
+  mat.Post,
+  is-andalso-reads.Asked,
+  is-andalso-reads.Learnt,
+  exp-below t,
+  exp.Post,
+  is-orelse-reads.Asked,
+  is-orelse-reads.Learnt,
+) (rhs-at t) rhs.Post
+rhs-close-requires-4 t c κs =
+    let pre1 = c .before .before .before .before .before .before .before .before .before .before .before .before .before .before .before .before .before .before .before .before .before .before .before .before .before .pre .1 .1 in
+    let exp2 = c .before .before .before .before .before .before .before .exp2 .ensures in
+    let exp2-ok = exp2 .ok in
+    (exp2-ok .logs, pre1)
+
+rhs-same-length-10 : (t : ℕ) → rhs-lts.Need-same-length-10 (
+  is-ascribed-reads.Asked,
+  is-ascribed-reads.Learnt,
+  ty-must-reads.Asked,
+  ty-must-reads.Learnt,
+  close-reads.Asked,
+  close-reads.Learnt,
+  is-handle-reads.Asked,
+  is-handle-reads.Learnt,
+  mat-below t,
+  mat.Post,
+  is-andalso-reads.Asked,
+  is-andalso-reads.Learnt,
+  exp-below t,
+  exp.Post,
+  is-orelse-reads.Asked,
+  is-orelse-reads.Learnt,
+) (rhs-at t) rhs.Post
+rhs-same-length-10 t c =
+    c .before .before .before .before .before .before .before .before .before .before .exp2 .kept .1 .1 .1 .0
+
+rhs-same-length-11 : (t : ℕ) → rhs-lts.Need-same-length-11 (
+  is-ascribed-reads.Asked,
+  is-ascribed-reads.Learnt,
+  ty-must-reads.Asked,
+  ty-must-reads.Learnt,
+  close-reads.Asked,
+  close-reads.Learnt,
+  is-handle-reads.Asked,
+  is-handle-reads.Learnt,
+  mat-below t,
+  mat.Post,
+  is-andalso-reads.Asked,
+  is-andalso-reads.Learnt,
+  exp-below t,
+  exp.Post,
+  is-orelse-reads.Asked,
+  is-orelse-reads.Learnt,
+) (rhs-at t) rhs.Post
+rhs-same-length-11 t c =
+    c .before .before .close4 .kept .0 ∙ c .before .before .before .before .before .before .before .before .before .before .exp2 .kept .1 .1 .1 .1 .0
+
+rhs-same-length-12 : (t : ℕ) → rhs-lts.Need-same-length-12 (
+  is-ascribed-reads.Asked,
+  is-ascribed-reads.Learnt,
+  ty-must-reads.Asked,
+  ty-must-reads.Learnt,
+  close-reads.Asked,
+  close-reads.Learnt,
+  is-handle-reads.Asked,
+  is-handle-reads.Learnt,
+  mat-below t,
+  mat.Post,
+  is-andalso-reads.Asked,
+  is-andalso-reads.Learnt,
+  exp-below t,
+  exp.Post,
+  is-orelse-reads.Asked,
+  is-orelse-reads.Learnt,
+) (rhs-at t) rhs.Post
+rhs-same-length-12 t c =
+    c .before .before .before .before .before .before .before .before .before .before .exp2 .kept .1 .1 .1 .1 .1 .0
+
+rhs-returns-4 : (t : ℕ) → rhs-lts.Need-returns-4 (
+  is-ascribed-reads.Asked,
+  is-ascribed-reads.Learnt,
+  ty-must-reads.Asked,
+  ty-must-reads.Learnt,
+  close-reads.Asked,
+  close-reads.Learnt,
+  is-handle-reads.Asked,
+  is-handle-reads.Learnt,
+  mat-below t,
+  mat.Post,
+  is-andalso-reads.Asked,
+  is-andalso-reads.Learnt,
+  exp-below t,
+  exp.Post,
+  is-orelse-reads.Asked,
+  is-orelse-reads.Learnt,
+) (rhs-at t) rhs.Post
+unfolding expr.rightSide plan choose chosen
+rhs-returns-4 t c =
+    let falls = c .before .before .before .before .before .before .before .before .before .before .before .before .before .before .before .before .before .before .before .before .before .before .before .before .before .before .before .before .pre .0 in
+    let pre0 = c .before .before .before .before .before .before .before .before .before .before .before .before .before .before .before .before .before .before .before .before .before .before .before .before .before .before .before .before .pre .1 .0 in
+    let pre1 = c .before .before .before .before .before .before .before .before .before .before .before .before .before .before .before .before .before .before .before .before .before .before .before .before .before .before .before .before .pre .1 .1 in
+    let is-ascribed = c .before .before .before .before .before .before .before .before .before .before .before .before .before .before .before .before .before .before .before .before .before .is-ascribed .ensures in
+    let if1 = c .before .before .before .before .before .before .before .before .before .before .before .before .before .before .before .before .before .before .before .before .if1 .left in
+    let is-handle = c .before .before .before .before .before .before .before .before .before .before .before .before .before .before .before .before .before .before .before .is-handle .ensures in
+    let if2 = c .before .before .before .before .before .before .before .before .before .before .before .before .before .before .before .before .before .before .if2 .left in
+    let is-andalso = c .before .before .before .before .before .before .before .before .before .before .before .before .before .before .before .before .before .is-andalso .ensures in
+    let if3 = c .before .before .before .before .before .before .before .before .before .before .before .before .before .before .before .before .if3 .left in
+    let is-orelse = c .before .before .before .before .before .before .before .before .before .before .before .before .before .before .before .is-orelse .ensures in
+    let if4 = c .before .before .before .before .before .before .before .before .before .before .before .before .before .before .if4 .taken in
+    let exp2 = c .before .before .before .before .before .before .before .before .before .before .exp2 .ensures in
+    let close4 = c .before .before .close4 .ensures in
+    in-steps pre0 (s-false _ _ (test-false is-ascribed if1) (s-false _ _ (test-false is-handle if2) (s-false _ _ (test-false is-andalso if3) (s-true _ _ (test-true is-orelse if4) (s-by _ (runs-in exp2) (s-close close4 s-end))))))
+
+rhs-exp-requires-3 : (t : ℕ) → rhs-lts.Need-exp-requires-3 (
+  is-ascribed-reads.Asked,
+  is-ascribed-reads.Learnt,
+  ty-must-reads.Asked,
+  ty-must-reads.Learnt,
+  close-reads.Asked,
+  close-reads.Learnt,
+  is-handle-reads.Asked,
+  is-handle-reads.Learnt,
+  mat-below t,
+  mat.Post,
+  is-andalso-reads.Asked,
+  is-andalso-reads.Learnt,
+  exp-below t,
+  exp.Post,
+  is-orelse-reads.Asked,
+  is-orelse-reads.Learnt,
+) (rhs-at t) rhs.Post
+rhs-exp-requires-3 t c κs =
+    let falls = c .before .before .before .before .before .before .before .before .before .before .before .before .before .before .before .before .before .pre .0 in
+    let pre0 = c .before .before .before .before .before .before .before .before .before .before .before .before .before .before .before .before .before .pre .1 .0 in
+    let pre1 = c .before .before .before .before .before .before .before .before .before .before .before .before .before .before .before .before .before .pre .1 .1 in
+    let if1 = c .before .before .before .before .before .before .before .before .before .if1 .left in
+    let if2 = c .before .before .before .before .before .before .before .if2 .left in
+    let if3 = c .before .before .before .before .before .if3 .left in
+    let if4 = c .before .before .before .if4 .left in
+    (omega arith, pre0)
+
+rhs-close-requires-5 : (t : ℕ) → rhs-lts.Need-close-requires-5 (
+  is-ascribed-reads.Asked,
+  is-ascribed-reads.Learnt,
+  ty-must-reads.Asked,
+  ty-must-reads.Learnt,
+  close-reads.Asked,
+  close-reads.Learnt,
+  is-handle-reads.Asked,
+  is-handle-reads.Learnt,
+  mat-below t,
+  mat.Post,
+  is-andalso-reads.Asked,
+  is-andalso-reads.Learnt,
+  exp-below t,
+  exp.Post,
+  is-orelse-reads.Asked,
+  is-orelse-reads.Learnt,
+) (rhs-at t) rhs.Post
+rhs-close-requires-5 t c κs =
+    let pre1 = c .before .before .before .before .before .before .before .before .before .before .before .before .before .before .before .before .before .before .before .before .before .before .before .before .before .pre .1 .1 in
+    let exp3 = c .before .before .before .before .before .before .before .exp3 .ensures in
+    let exp3-ok = exp3 .ok in
+    (exp3-ok .logs, pre1)
+
+rhs-same-length-13 : (t : ℕ) → rhs-lts.Need-same-length-13 (
+  is-ascribed-reads.Asked,
+  is-ascribed-reads.Learnt,
+  ty-must-reads.Asked,
+  ty-must-reads.Learnt,
+  close-reads.Asked,
+  close-reads.Learnt,
+  is-handle-reads.Asked,
+  is-handle-reads.Learnt,
+  mat-below t,
+  mat.Post,
+  is-andalso-reads.Asked,
+  is-andalso-reads.Learnt,
+  exp-below t,
+  exp.Post,
+  is-orelse-reads.Asked,
+  is-orelse-reads.Learnt,
+) (rhs-at t) rhs.Post
+rhs-same-length-13 t c =
+    c .before .before .before .before .before .before .before .before .before .before .exp3 .kept .1 .1 .1 .0
+
+rhs-same-length-14 : (t : ℕ) → rhs-lts.Need-same-length-14 (
+  is-ascribed-reads.Asked,
+  is-ascribed-reads.Learnt,
+  ty-must-reads.Asked,
+  ty-must-reads.Learnt,
+  close-reads.Asked,
+  close-reads.Learnt,
+  is-handle-reads.Asked,
+  is-handle-reads.Learnt,
+  mat-below t,
+  mat.Post,
+  is-andalso-reads.Asked,
+  is-andalso-reads.Learnt,
+  exp-below t,
+  exp.Post,
+  is-orelse-reads.Asked,
+  is-orelse-reads.Learnt,
+) (rhs-at t) rhs.Post
+rhs-same-length-14 t c =
+    c .before .before .close5 .kept .0 ∙ c .before .before .before .before .before .before .before .before .before .before .exp3 .kept .1 .1 .1 .1 .0
+
+rhs-same-length-15 : (t : ℕ) → rhs-lts.Need-same-length-15 (
+  is-ascribed-reads.Asked,
+  is-ascribed-reads.Learnt,
+  ty-must-reads.Asked,
+  ty-must-reads.Learnt,
+  close-reads.Asked,
+  close-reads.Learnt,
+  is-handle-reads.Asked,
+  is-handle-reads.Learnt,
+  mat-below t,
+  mat.Post,
+  is-andalso-reads.Asked,
+  is-andalso-reads.Learnt,
+  exp-below t,
+  exp.Post,
+  is-orelse-reads.Asked,
+  is-orelse-reads.Learnt,
+) (rhs-at t) rhs.Post
+rhs-same-length-15 t c =
+    c .before .before .before .before .before .before .before .before .before .before .exp3 .kept .1 .1 .1 .1 .1 .0
+
+rhs-returns-5 : (t : ℕ) → rhs-lts.Need-returns-5 (
+  is-ascribed-reads.Asked,
+  is-ascribed-reads.Learnt,
+  ty-must-reads.Asked,
+  ty-must-reads.Learnt,
+  close-reads.Asked,
+  close-reads.Learnt,
+  is-handle-reads.Asked,
+  is-handle-reads.Learnt,
+  mat-below t,
+  mat.Post,
+  is-andalso-reads.Asked,
+  is-andalso-reads.Learnt,
+  exp-below t,
+  exp.Post,
+  is-orelse-reads.Asked,
+  is-orelse-reads.Learnt,
+) (rhs-at t) rhs.Post
+unfolding expr.rightSide plan choose chosen
+rhs-returns-5 t c =
+    let falls = c .before .before .before .before .before .before .before .before .before .before .before .before .before .before .before .before .before .before .before .before .before .before .before .before .before .before .before .before .pre .0 in
+    let pre0 = c .before .before .before .before .before .before .before .before .before .before .before .before .before .before .before .before .before .before .before .before .before .before .before .before .before .before .before .before .pre .1 .0 in
+    let pre1 = c .before .before .before .before .before .before .before .before .before .before .before .before .before .before .before .before .before .before .before .before .before .before .before .before .before .before .before .before .pre .1 .1 in
+    let is-ascribed = c .before .before .before .before .before .before .before .before .before .before .before .before .before .before .before .before .before .before .before .before .before .is-ascribed .ensures in
+    let if1 = c .before .before .before .before .before .before .before .before .before .before .before .before .before .before .before .before .before .before .before .before .if1 .left in
+    let is-handle = c .before .before .before .before .before .before .before .before .before .before .before .before .before .before .before .before .before .before .before .is-handle .ensures in
+    let if2 = c .before .before .before .before .before .before .before .before .before .before .before .before .before .before .before .before .before .before .if2 .left in
+    let is-andalso = c .before .before .before .before .before .before .before .before .before .before .before .before .before .before .before .before .before .is-andalso .ensures in
+    let if3 = c .before .before .before .before .before .before .before .before .before .before .before .before .before .before .before .before .if3 .left in
+    let is-orelse = c .before .before .before .before .before .before .before .before .before .before .before .before .before .before .before .is-orelse .ensures in
+    let if4 = c .before .before .before .before .before .before .before .before .before .before .before .before .before .before .if4 .left in
+    let exp3 = c .before .before .before .before .before .before .before .before .before .before .exp3 .ensures in
+    let close5 = c .before .before .close5 .ensures in
+    in-steps pre0 (s-false _ _ (test-false is-ascribed if1) (s-false _ _ (test-false is-handle if2) (s-false _ _ (test-false is-andalso if3) (s-false _ _ (test-false is-orelse if4) (s-by _ (runs-in exp3) (s-close close5 s-end))))))
+
+rnd-at-requires : (t : ℕ) → rnd-lts.Need-at-requires (
+  at-reads.Asked,
+  at-reads.Learnt,
+  bump-reads.Asked,
+  bump-reads.Learnt,
+  close-reads.Asked,
+  close-reads.Learnt,
+  refuse-reads.Asked,
+  refuse-reads.Learnt,
+  paren-end-reads.Asked,
+  paren-end-reads.Learnt,
+  mark-reads.Asked,
+  mark-reads.Learnt,
+  exp-below t,
+  exp.Post,
+  peek-reads.Asked,
+  peek-reads.Learnt,
+  sep-below t,
+  sep.Post,
+) (rnd-at t) rnd.Post
+rnd-at-requires t c κs =
+    let pre0 = c .before .before .before .before .before .before .pre .1 .0 in
+    pre0 .reads
+
+rnd-bump-requires : (t : ℕ) → rnd-lts.Need-bump-requires (
+  at-reads.Asked,
+  at-reads.Learnt,
+  bump-reads.Asked,
+  bump-reads.Learnt,
+  close-reads.Asked,
+  close-reads.Learnt,
+  refuse-reads.Asked,
+  refuse-reads.Learnt,
+  paren-end-reads.Asked,
+  paren-end-reads.Learnt,
+  mark-reads.Asked,
+  mark-reads.Learnt,
+  exp-below t,
+  exp.Post,
+  peek-reads.Asked,
+  peek-reads.Learnt,
+  sep-below t,
+  sep.Post,
+) (rnd-at t) rnd.Post
+rnd-bump-requires t c κs =
+    let pre0 = c .before .before .before .before .before .before .before .before .before .pre .1 .0 in
+    (pre0 .reads, pre0 .logs)
+
+rnd-close-requires : (t : ℕ) → rnd-lts.Need-close-requires (
+  at-reads.Asked,
+  at-reads.Learnt,
+  bump-reads.Asked,
+  bump-reads.Learnt,
+  close-reads.Asked,
+  close-reads.Learnt,
+  refuse-reads.Asked,
+  refuse-reads.Learnt,
+  paren-end-reads.Asked,
+  paren-end-reads.Learnt,
+  mark-reads.Asked,
+  mark-reads.Learnt,
+  exp-below t,
+  exp.Post,
+  peek-reads.Asked,
+  peek-reads.Learnt,
+  sep-below t,
+  sep.Post,
+) (rnd-at t) rnd.Post
+rnd-close-requires t c κs =
+    let pre0 = c .before .before .before .before .before .before .before .before .before .before .before .before .before .pre .1 .0 in
+    let pre1 = c .before .before .before .before .before .before .before .before .before .before .before .before .before .pre .1 .1 in
+    let bump = c .before .before .before .bump .ensures in
+    let bump-ok = ok-bumps bump pre0 in
+    (bump-ok .logs, pre1)
+
+rnd-same-length : (t : ℕ) → rnd-lts.Need-same-length (
+  at-reads.Asked,
+  at-reads.Learnt,
+  bump-reads.Asked,
+  bump-reads.Learnt,
+  close-reads.Asked,
+  close-reads.Learnt,
+  refuse-reads.Asked,
+  refuse-reads.Learnt,
+  paren-end-reads.Asked,
+  paren-end-reads.Learnt,
+  mark-reads.Asked,
+  mark-reads.Learnt,
+  exp-below t,
+  exp.Post,
+  peek-reads.Asked,
+  peek-reads.Learnt,
+  sep-below t,
+  sep.Post,
+) (rnd-at t) rnd.Post
+rnd-same-length t c =
+    c .before .before .close .kept .0 ∙ c .before .before .before .before .before .before .bump .kept .1 .0
+
+rnd-returns : (t : ℕ) → rnd-lts.Need-returns (
+  at-reads.Asked,
+  at-reads.Learnt,
+  bump-reads.Asked,
+  bump-reads.Learnt,
+  close-reads.Asked,
+  close-reads.Learnt,
+  refuse-reads.Asked,
+  refuse-reads.Learnt,
+  paren-end-reads.Asked,
+  paren-end-reads.Learnt,
+  mark-reads.Asked,
+  mark-reads.Learnt,
+  exp-below t,
+  exp.Post,
+  peek-reads.Asked,
+  peek-reads.Learnt,
+  sep-below t,
+  sep.Post,
+) (rnd-at t) rnd.Post
+unfolding expr.atExpLRound util.endSep expr.endClosure util.choose plan choose chosen
+rnd-returns t c =
+    let falls = c .before .before .before .before .before .before .before .before .before .before .before .before .before .before .before .before .pre .0 in
+    let pre0 = c .before .before .before .before .before .before .before .before .before .before .before .before .before .before .before .before .pre .1 .0 in
+    let pre1 = c .before .before .before .before .before .before .before .before .before .before .before .before .before .before .before .before .pre .1 .1 in
+    let at = c .before .before .before .before .before .before .before .before .before .at .ensures in
+    let if1 = c .before .before .before .before .before .before .before .before .if1 .taken in
+    let bump = c .before .before .before .before .before .before .bump .ensures in
+    let close = c .before .before .close .ensures in
+    in-steps pre0 (s-kind (s-true _ _ (kind-at _ _ _ _ at if1) (s-bump bump (s-close close s-end))))
+
+rnd-refuse-requires : (t : ℕ) → rnd-lts.Need-refuse-requires (
+  at-reads.Asked,
+  at-reads.Learnt,
+  bump-reads.Asked,
+  bump-reads.Learnt,
+  close-reads.Asked,
+  close-reads.Learnt,
+  refuse-reads.Asked,
+  refuse-reads.Learnt,
+  paren-end-reads.Asked,
+  paren-end-reads.Learnt,
+  mark-reads.Asked,
+  mark-reads.Learnt,
+  exp-below t,
+  exp.Post,
+  peek-reads.Asked,
+  peek-reads.Learnt,
+  sep-below t,
+  sep.Post,
+) (rnd-at t) rnd.Post
+rnd-refuse-requires t c κs =
+    tt
+
+rnd-paren-end-requires : (t : ℕ) → rnd-lts.Need-paren-end-requires (
+  at-reads.Asked,
+  at-reads.Learnt,
+  bump-reads.Asked,
+  bump-reads.Learnt,
+  close-reads.Asked,
+  close-reads.Learnt,
+  refuse-reads.Asked,
+  refuse-reads.Learnt,
+  paren-end-reads.Asked,
+  paren-end-reads.Learnt,
+  mark-reads.Asked,
+  mark-reads.Learnt,
+  exp-below t,
+  exp.Post,
+  peek-reads.Asked,
+  peek-reads.Learnt,
+  sep-below t,
+  sep.Post,
+) (rnd-at t) rnd.Post
+rnd-paren-end-requires t c κs =
+    let pre0 = c .before .before .before .before .before .before .before .before .before .before .before .before .before .pre .1 .0 in
+    let pre1 = c .before .before .before .before .before .before .before .before .before .before .before .before .before .pre .1 .1 in
+    let refuse = c .before .before .before .refuse .ensures in
+    let refuse-ok = ok-refused _ refuse pre0 in
+    (refuse-ok, pre1)
+
+rnd-same-length-2 : (t : ℕ) → rnd-lts.Need-same-length-2 (
+  at-reads.Asked,
+  at-reads.Learnt,
+  bump-reads.Asked,
+  bump-reads.Learnt,
+  close-reads.Asked,
+  close-reads.Learnt,
+  refuse-reads.Asked,
+  refuse-reads.Learnt,
+  paren-end-reads.Asked,
+  paren-end-reads.Learnt,
+  mark-reads.Asked,
+  mark-reads.Learnt,
+  exp-below t,
+  exp.Post,
+  peek-reads.Asked,
+  peek-reads.Learnt,
+  sep-below t,
+  sep.Post,
+) (rnd-at t) rnd.Post
+rnd-same-length-2 t c =
+    refl
+
+rnd-same-length-3 : (t : ℕ) → rnd-lts.Need-same-length-3 (
+  at-reads.Asked,
+  at-reads.Learnt,
+  bump-reads.Asked,
+  bump-reads.Learnt,
+  close-reads.Asked,
+  close-reads.Learnt,
+  refuse-reads.Asked,
+  refuse-reads.Learnt,
+  paren-end-reads.Asked,
+  paren-end-reads.Learnt,
+  mark-reads.Asked,
+  mark-reads.Learnt,
+  exp-below t,
+  exp.Post,
+  peek-reads.Asked,
+  peek-reads.Learnt,
+  sep-below t,
+  sep.Post,
+) (rnd-at t) rnd.Post
+rnd-same-length-3 t c =
+    c .before .before .before .before .paren-end .kept .1 .1 .1 .1 .0
+
+rnd-same-length-4 : (t : ℕ) → rnd-lts.Need-same-length-4 (
+  at-reads.Asked,
+  at-reads.Learnt,
+  bump-reads.Asked,
+  bump-reads.Learnt,
+  close-reads.Asked,
+  close-reads.Learnt,
+  refuse-reads.Asked,
+  refuse-reads.Learnt,
+  paren-end-reads.Asked,
+  paren-end-reads.Learnt,
+  mark-reads.Asked,
+  mark-reads.Learnt,
+  exp-below t,
+  exp.Post,
+  peek-reads.Asked,
+  peek-reads.Learnt,
+  sep-below t,
+  sep.Post,
+) (rnd-at t) rnd.Post
+rnd-same-length-4 t c =
+    c .before .before .before .before .paren-end .kept .1 .1 .1 .1 .1 .0
+
+rnd-returns-2 : (t : ℕ) → rnd-lts.Need-returns-2 (
+  at-reads.Asked,
+  at-reads.Learnt,
+  bump-reads.Asked,
+  bump-reads.Learnt,
+  close-reads.Asked,
+  close-reads.Learnt,
+  refuse-reads.Asked,
+  refuse-reads.Learnt,
+  paren-end-reads.Asked,
+  paren-end-reads.Learnt,
+  mark-reads.Asked,
+  mark-reads.Learnt,
+  exp-below t,
+  exp.Post,
+  peek-reads.Asked,
+  peek-reads.Learnt,
+  sep-below t,
+  sep.Post,
+) (rnd-at t) rnd.Post
+unfolding expr.atExpLRound util.endSep expr.endClosure util.choose plan choose chosen
+rnd-returns-2 t c =
+    let falls = c .before .before .before .before .before .before .before .before .before .before .before .before .before .before .before .before .before .before .pre .0 in
+    let pre0 = c .before .before .before .before .before .before .before .before .before .before .before .before .before .before .before .before .before .before .pre .1 .0 in
+    let pre1 = c .before .before .before .before .before .before .before .before .before .before .before .before .before .before .before .before .before .before .pre .1 .1 in
+    let at = c .before .before .before .before .before .before .before .before .before .before .before .at .ensures in
+    let if1 = c .before .before .before .before .before .before .before .before .before .before .if1 .left in
+    let if2 = c .before .before .before .before .before .before .before .before .before .if2 .taken in
+    let refuse = c .before .before .before .before .before .before .before .before .refuse .ensures in
+    let paren-end = c .before .before .before .before .paren-end .ensures in
+    in-steps pre0 (s-kind (s-false _ _ (kind-off _ _ _ _ at if1) (s-deep if2 refuse (s-by _ paren-end s-end))))
+
+rnd-mark-requires : (t : ℕ) → rnd-lts.Need-mark-requires (
+  at-reads.Asked,
+  at-reads.Learnt,
+  bump-reads.Asked,
+  bump-reads.Learnt,
+  close-reads.Asked,
+  close-reads.Learnt,
+  refuse-reads.Asked,
+  refuse-reads.Learnt,
+  paren-end-reads.Asked,
+  paren-end-reads.Learnt,
+  mark-reads.Asked,
+  mark-reads.Learnt,
+  exp-below t,
+  exp.Post,
+  peek-reads.Asked,
+  peek-reads.Learnt,
+  sep-below t,
+  sep.Post,
+) (rnd-at t) rnd.Post
+rnd-mark-requires t c κs =
+    tt
+
+rnd-sub-exp : (t : ℕ) → rnd-lts.Need-sub-exp (
+  at-reads.Asked,
+  at-reads.Learnt,
+  bump-reads.Asked,
+  bump-reads.Learnt,
+  close-reads.Asked,
+  close-reads.Learnt,
+  refuse-reads.Asked,
+  refuse-reads.Learnt,
+  paren-end-reads.Asked,
+  paren-end-reads.Learnt,
+  mark-reads.Asked,
+  mark-reads.Learnt,
+  exp-below t,
+  exp.Post,
+  peek-reads.Asked,
+  peek-reads.Learnt,
+  sep-below t,
+  sep.Post,
+) (rnd-at t) rnd.Post
+rnd-sub-exp t c =
+    let falls = c .before .before .before .before .before .before .before .before .before .before .before .before .before .pre .0 in
+    let pre0 = c .before .before .before .before .before .before .before .before .before .before .before .before .before .pre .1 .0 in
+    let pre1 = c .before .before .before .before .before .before .before .before .before .before .before .before .before .pre .1 .1 in
+    let if1 = c .before .before .before .before .before .if1 .left in
+    let if2 = c .before .before .before .before .if2 .left in
+    search needs
+
+rnd-exp-requires : (t : ℕ) → rnd-lts.Need-exp-requires (
+  at-reads.Asked,
+  at-reads.Learnt,
+  bump-reads.Asked,
+  bump-reads.Learnt,
+  close-reads.Asked,
+  close-reads.Learnt,
+  refuse-reads.Asked,
+  refuse-reads.Learnt,
+  paren-end-reads.Asked,
+  paren-end-reads.Learnt,
+  mark-reads.Asked,
+  mark-reads.Learnt,
+  exp-below t,
+  exp.Post,
+  peek-reads.Asked,
+  peek-reads.Learnt,
+  sep-below t,
+  sep.Post,
+) (rnd-at t) rnd.Post
+rnd-exp-requires t c κs =
+    let falls = c .before .before .before .before .before .before .before .before .before .before .before .before .before .pre .0 in
+    let pre0 = c .before .before .before .before .before .before .before .before .before .before .before .before .before .pre .1 .0 in
+    let pre1 = c .before .before .before .before .before .before .before .before .before .before .before .before .before .pre .1 .1 in
+    let if1 = c .before .before .before .before .before .if1 .left in
+    let if2 = c .before .before .before .before .if2 .left in
+    let mark = c .before .before .before .mark .ensures in
+    let mark-ok = ok-marks mark pre0 in
+    (omega arith, mark-ok)
+
+rnd-peek-requires : (t : ℕ) → rnd-lts.Need-peek-requires (
+  at-reads.Asked,
+  at-reads.Learnt,
+  bump-reads.Asked,
+  bump-reads.Learnt,
+  close-reads.Asked,
+  close-reads.Learnt,
+  refuse-reads.Asked,
+  refuse-reads.Learnt,
+  paren-end-reads.Asked,
+  paren-end-reads.Learnt,
+  mark-reads.Asked,
+  mark-reads.Learnt,
+  exp-below t,
+  exp.Post,
+  peek-reads.Asked,
+  peek-reads.Learnt,
+  sep-below t,
+  sep.Post,
+) (rnd-at t) rnd.Post
+rnd-peek-requires t c κs =
+    let exp = c .before .before .before .before .before .before .exp .ensures in
+    let exp-ok = exp .ok in
+    exp-ok .reads
+
+rnd-enum-known-k : (t : ℕ) → rnd-lts.Need-enum-known-k (
+  at-reads.Asked,
+  at-reads.Learnt,
+  bump-reads.Asked,
+  bump-reads.Learnt,
+  close-reads.Asked,
+  close-reads.Learnt,
+  refuse-reads.Asked,
+  refuse-reads.Learnt,
+  paren-end-reads.Asked,
+  paren-end-reads.Learnt,
+  mark-reads.Asked,
+  mark-reads.Learnt,
+  exp-below t,
+  exp.Post,
+  peek-reads.Asked,
+  peek-reads.Learnt,
+  sep-below t,
+  sep.Post,
+) (rnd-at t) rnd.Post
+rnd-enum-known-k t c =
+    let falls = c .before .before .before .before .before .before .before .before .before .before .before .before .before .before .before .before .before .before .before .before .before .before .pre .0 in
+    let pre0 = c .before .before .before .before .before .before .before .before .before .before .before .before .before .before .before .before .before .before .before .before .before .before .pre .1 .0 in
+    let pre1 = c .before .before .before .before .before .before .before .before .before .before .before .before .before .before .before .before .before .before .before .before .before .before .pre .1 .1 in
+    let if1 = c .before .before .before .before .before .before .before .before .before .before .before .before .before .before .if1 .left in
+    let if2 = c .before .before .before .before .before .before .before .before .before .before .before .before .before .if2 .left in
+    search needs
+
+rnd-enum-told : (t : ℕ) → rnd-lts.Need-enum-told (
+  at-reads.Asked,
+  at-reads.Learnt,
+  bump-reads.Asked,
+  bump-reads.Learnt,
+  close-reads.Asked,
+  close-reads.Learnt,
+  refuse-reads.Asked,
+  refuse-reads.Learnt,
+  paren-end-reads.Asked,
+  paren-end-reads.Learnt,
+  mark-reads.Asked,
+  mark-reads.Learnt,
+  exp-below t,
+  exp.Post,
+  peek-reads.Asked,
+  peek-reads.Learnt,
+  sep-below t,
+  sep.Post,
+) (rnd-at t) rnd.Post
+rnd-enum-told t c =
+    let falls = c .before .before .before .before .before .before .before .before .before .before .before .before .before .before .before .before .before .before .before .before .before .before .pre .0 in
+    let pre0 = c .before .before .before .before .before .before .before .before .before .before .before .before .before .before .before .before .before .before .before .before .before .before .pre .1 .0 in
+    let pre1 = c .before .before .before .before .before .before .before .before .before .before .before .before .before .before .before .before .before .before .before .before .before .before .pre .1 .1 in
+    let if1 = c .before .before .before .before .before .before .before .before .before .before .before .before .before .before .if1 .left in
+    let if2 = c .before .before .before .before .before .before .before .before .before .before .before .before .before .if2 .left in
+    search needs
+
+rnd-paren-end-requires-2 : (t : ℕ) → rnd-lts.Need-paren-end-requires-2 (
+  at-reads.Asked,
+  at-reads.Learnt,
+  bump-reads.Asked,
+  bump-reads.Learnt,
+  close-reads.Asked,
+  close-reads.Learnt,
+  refuse-reads.Asked,
+  refuse-reads.Learnt,
+  paren-end-reads.Asked,
+  paren-end-reads.Learnt,
+  mark-reads.Asked,
+  mark-reads.Learnt,
+  exp-below t,
+  exp.Post,
+  peek-reads.Asked,
+  peek-reads.Learnt,
+  sep-below t,
+  sep.Post,
+) (rnd-at t) rnd.Post
+rnd-paren-end-requires-2 t c κs =
+    let pre1 = c .before .before .before .before .before .before .before .before .before .before .before .before .before .before .before .before .before .before .before .before .before .before .before .before .before .before .pre .1 .1 in
+    let exp = c .before .before .before .before .before .before .before .before .before .before .before .before .exp .ensures in
+    let exp-ok = exp .ok in
+    (exp-ok, pre1)
+
+rnd-same-length-5 : (t : ℕ) → rnd-lts.Need-same-length-5 (
+  at-reads.Asked,
+  at-reads.Learnt,
+  bump-reads.Asked,
+  bump-reads.Learnt,
+  close-reads.Asked,
+  close-reads.Learnt,
+  refuse-reads.Asked,
+  refuse-reads.Learnt,
+  paren-end-reads.Asked,
+  paren-end-reads.Learnt,
+  mark-reads.Asked,
+  mark-reads.Learnt,
+  exp-below t,
+  exp.Post,
+  peek-reads.Asked,
+  peek-reads.Learnt,
+  sep-below t,
+  sep.Post,
+) (rnd-at t) rnd.Post
+rnd-same-length-5 t c =
+    c .before .before .before .before .before .before .before .before .before .before .before .before .before .before .before .before .before .exp .kept .1 .1 .1 .0
+
+rnd-same-length-6 : (t : ℕ) → rnd-lts.Need-same-length-6 (
+  at-reads.Asked,
+  at-reads.Learnt,
+  bump-reads.Asked,
+  bump-reads.Learnt,
+  close-reads.Asked,
+  close-reads.Learnt,
+  refuse-reads.Asked,
+  refuse-reads.Learnt,
+  paren-end-reads.Asked,
+  paren-end-reads.Learnt,
+  mark-reads.Asked,
+  mark-reads.Learnt,
+  exp-below t,
+  exp.Post,
+  peek-reads.Asked,
+  peek-reads.Learnt,
+  sep-below t,
+  sep.Post,
+) (rnd-at t) rnd.Post
+rnd-same-length-6 t c =
+    c .before .before .before .before .paren-end2 .kept .1 .1 .1 .1 .0 ∙ c .before .before .before .before .before .before .before .before .before .before .before .before .before .before .before .before .before .exp .kept .1 .1 .1 .1 .0
+
+rnd-same-length-7 : (t : ℕ) → rnd-lts.Need-same-length-7 (
+  at-reads.Asked,
+  at-reads.Learnt,
+  bump-reads.Asked,
+  bump-reads.Learnt,
+  close-reads.Asked,
+  close-reads.Learnt,
+  refuse-reads.Asked,
+  refuse-reads.Learnt,
+  paren-end-reads.Asked,
+  paren-end-reads.Learnt,
+  mark-reads.Asked,
+  mark-reads.Learnt,
+  exp-below t,
+  exp.Post,
+  peek-reads.Asked,
+  peek-reads.Learnt,
+  sep-below t,
+  sep.Post,
+) (rnd-at t) rnd.Post
+rnd-same-length-7 t c =
+    c .before .before .before .before .paren-end2 .kept .1 .1 .1 .1 .1 .0 ∙ c .before .before .before .before .before .before .before .before .before .before .before .before .before .before .before .before .before .exp .kept .1 .1 .1 .1 .1 .0
+
+rnd-returns-3 : (t : ℕ) → rnd-lts.Need-returns-3 (
+  at-reads.Asked,
+  at-reads.Learnt,
+  bump-reads.Asked,
+  bump-reads.Learnt,
+  close-reads.Asked,
+  close-reads.Learnt,
+  refuse-reads.Asked,
+  refuse-reads.Learnt,
+  paren-end-reads.Asked,
+  paren-end-reads.Learnt,
+  mark-reads.Asked,
+  mark-reads.Learnt,
+  exp-below t,
+  exp.Post,
+  peek-reads.Asked,
+  peek-reads.Learnt,
+  sep-below t,
+  sep.Post,
+) (rnd-at t) rnd.Post
+unfolding expr.atExpLRound util.endSep expr.endClosure util.choose plan choose chosen
+rnd-returns-3 t c =
+    let falls = c .before .before .before .before .before .before .before .before .before .before .before .before .before .before .before .before .before .before .before .before .before .before .before .before .before .before .before .before .before .before .before .pre .0 in
+    let pre0 = c .before .before .before .before .before .before .before .before .before .before .before .before .before .before .before .before .before .before .before .before .before .before .before .before .before .before .before .before .before .before .before .pre .1 .0 in
+    let pre1 = c .before .before .before .before .before .before .before .before .before .before .before .before .before .before .before .before .before .before .before .before .before .before .before .before .before .before .before .before .before .before .before .pre .1 .1 in
+    let at = c .before .before .before .before .before .before .before .before .before .before .before .before .before .before .before .before .before .before .before .before .before .before .before .before .at .ensures in
+    let if1 = c .before .before .before .before .before .before .before .before .before .before .before .before .before .before .before .before .before .before .before .before .before .before .before .if1 .left in
+    let if2 = c .before .before .before .before .before .before .before .before .before .before .before .before .before .before .before .before .before .before .before .before .before .before .if2 .left in
+    let mark = c .before .before .before .before .before .before .before .before .before .before .before .before .before .before .before .before .before .before .before .before .before .mark .ensures in
+    let exp = c .before .before .before .before .before .before .before .before .before .before .before .before .before .before .before .before .before .exp .ensures in
+    let peek = rw (c .before .before .before .before .before .before .before .before .enum-told .given .1) at (c .before .before .before .before .before .before .before .before .before .before .peek .ensures) in
+    let paren-end2 = c .before .before .before .before .paren-end2 .ensures in
+    in-steps pre0 (s-kind (s-false _ _ (kind-off _ _ _ _ at if1) (s-mark if2 mark (s-by _ (runs-in exp) (s-look peek (s-by _ paren-end2 s-end))))))
+
+rnd-bump-requires-2 : (t : ℕ) → rnd-lts.Need-bump-requires-2 (
+  at-reads.Asked,
+  at-reads.Learnt,
+  bump-reads.Asked,
+  bump-reads.Learnt,
+  close-reads.Asked,
+  close-reads.Learnt,
+  refuse-reads.Asked,
+  refuse-reads.Learnt,
+  paren-end-reads.Asked,
+  paren-end-reads.Learnt,
+  mark-reads.Asked,
+  mark-reads.Learnt,
+  exp-below t,
+  exp.Post,
+  peek-reads.Asked,
+  peek-reads.Learnt,
+  sep-below t,
+  sep.Post,
+) (rnd-at t) rnd.Post
+rnd-bump-requires-2 t c κs =
+    let exp = c .before .before .before .before .before .before .before .before .before .before .before .before .exp .ensures in
+    let exp-ok = exp .ok in
+    (exp-ok .reads, exp-ok .logs)
+
+rnd-close-requires-2 : (t : ℕ) → rnd-lts.Need-close-requires-2 (
+  at-reads.Asked,
+  at-reads.Learnt,
+  bump-reads.Asked,
+  bump-reads.Learnt,
+  close-reads.Asked,
+  close-reads.Learnt,
+  refuse-reads.Asked,
+  refuse-reads.Learnt,
+  paren-end-reads.Asked,
+  paren-end-reads.Learnt,
+  mark-reads.Asked,
+  mark-reads.Learnt,
+  exp-below t,
+  exp.Post,
+  peek-reads.Asked,
+  peek-reads.Learnt,
+  sep-below t,
+  sep.Post,
+) (rnd-at t) rnd.Post
+rnd-close-requires-2 t c κs =
+    let pre0 = c .before .before .before .before .before .before .before .before .before .before .before .before .before .before .before .before .before .before .before .before .before .before .before .before .before .before .before .before .before .before .pre .1 .0 in
+    let mark = c .before .before .before .before .before .before .before .before .before .before .before .before .before .before .before .before .before .before .before .before .mark .ensures in
+    let mark-ok = ok-marks mark pre0 in
+    let exp = c .before .before .before .before .before .before .before .before .before .before .before .before .before .before .before .before .exp .ensures in
+    let exp-ok = exp .ok in
+    let bump2 = c .before .before .before .bump2 .ensures in
+    let bump2-ok = ok-bumps bump2 exp-ok in
+    (bump2-ok .logs, small-len mark-ok)
+
+rnd-sep-requires : (t : ℕ) → rnd-lts.Need-sep-requires (
+  at-reads.Asked,
+  at-reads.Learnt,
+  bump-reads.Asked,
+  bump-reads.Learnt,
+  close-reads.Asked,
+  close-reads.Learnt,
+  refuse-reads.Asked,
+  refuse-reads.Learnt,
+  paren-end-reads.Asked,
+  paren-end-reads.Learnt,
+  mark-reads.Asked,
+  mark-reads.Learnt,
+  exp-below t,
+  exp.Post,
+  peek-reads.Asked,
+  peek-reads.Learnt,
+  sep-below t,
+  sep.Post,
+) (rnd-at t) rnd.Post
+rnd-sep-requires t c κs =
+    let falls = c .before .before .before .before .before .before .before .before .before .before .before .before .before .before .before .before .before .before .before .before .before .before .before .before .before .before .before .before .before .before .before .before .before .before .before .before .pre .0 in
+    let pre1 = c .before .before .before .before .before .before .before .before .before .before .before .before .before .before .before .before .before .before .before .before .before .before .before .before .before .before .before .before .before .before .before .before .before .before .before .before .pre .1 .1 in
+    let if1 = c .before .before .before .before .before .before .before .before .before .before .before .before .before .before .before .before .before .before .before .before .before .before .before .before .before .before .before .before .if1 .left in
+    let if2 = c .before .before .before .before .before .before .before .before .before .before .before .before .before .before .before .before .before .before .before .before .before .before .before .before .before .before .before .if2 .left in
+    let exp = c .before .before .before .before .before .before .before .before .before .before .before .before .before .before .before .before .before .before .before .before .before .before .exp .ensures in
+    let exp-ok = exp .ok in
+    let if3 = c .before .before .before .before .before .before .before .before .before .before .before .if3 .taken in
+    let bump2 = c .before .before .before .before .before .before .before .before .before .bump2 .ensures in
+    let bump2-ok = ok-bumps bump2 exp-ok in
+    let close2 = c .before .before .before .before .before .close2 .ensures in
+    let close2-ok = ok-adds close2 bump2-ok in
+    (omega arith, (close2-ok, omega arith))
+
+rnd-close-requires-3 : (t : ℕ) → rnd-lts.Need-close-requires-3 (
+  at-reads.Asked,
+  at-reads.Learnt,
+  bump-reads.Asked,
+  bump-reads.Learnt,
+  close-reads.Asked,
+  close-reads.Learnt,
+  refuse-reads.Asked,
+  refuse-reads.Learnt,
+  paren-end-reads.Asked,
+  paren-end-reads.Learnt,
+  mark-reads.Asked,
+  mark-reads.Learnt,
+  exp-below t,
+  exp.Post,
+  peek-reads.Asked,
+  peek-reads.Learnt,
+  sep-below t,
+  sep.Post,
+) (rnd-at t) rnd.Post
+rnd-close-requires-3 t c κs =
+    let pre1 = c .before .before .before .before .before .before .before .before .before .before .before .before .before .before .before .before .before .before .before .before .before .before .before .before .before .before .before .before .before .before .before .before .before .before .before .before .before .before .before .before .before .before .before .before .pre .1 .1 in
+    let sep = c .before .before .before .before .before .before .before .sep .ensures in
+    let sep-ok = sep .ok in
+    (sep-ok .logs, pre1)
+
+rnd-same-length-8 : (t : ℕ) → rnd-lts.Need-same-length-8 (
+  at-reads.Asked,
+  at-reads.Learnt,
+  bump-reads.Asked,
+  bump-reads.Learnt,
+  close-reads.Asked,
+  close-reads.Learnt,
+  refuse-reads.Asked,
+  refuse-reads.Learnt,
+  paren-end-reads.Asked,
+  paren-end-reads.Learnt,
+  mark-reads.Asked,
+  mark-reads.Learnt,
+  exp-below t,
+  exp.Post,
+  peek-reads.Asked,
+  peek-reads.Learnt,
+  sep-below t,
+  sep.Post,
+) (rnd-at t) rnd.Post
+rnd-same-length-8 t c =
+    c .before .before .before .before .before .before .before .before .before .before .sep .kept .1 .1 .1 .0 ∙ c .before .before .before .before .before .before .before .before .before .before .before .before .before .before .before .before .before .before .before .before .before .before .before .before .before .before .before .before .before .before .before .before .before .exp .kept .1 .1 .1 .0
+
+rnd-same-length-9 : (t : ℕ) → rnd-lts.Need-same-length-9 (
+  at-reads.Asked,
+  at-reads.Learnt,
+  bump-reads.Asked,
+  bump-reads.Learnt,
+  close-reads.Asked,
+  close-reads.Learnt,
+  refuse-reads.Asked,
+  refuse-reads.Learnt,
+  paren-end-reads.Asked,
+  paren-end-reads.Learnt,
+  mark-reads.Asked,
+  mark-reads.Learnt,
+  exp-below t,
+  exp.Post,
+  peek-reads.Asked,
+  peek-reads.Learnt,
+  sep-below t,
+  sep.Post,
+) (rnd-at t) rnd.Post
+rnd-same-length-9 t c =
+    c .before .before .close3 .kept .0 ∙ c .before .before .before .before .before .before .before .before .before .before .sep .kept .1 .1 .1 .1 .0 ∙ c .before .before .before .before .before .before .before .before .before .before .before .before .before .before .before .before .close2 .kept .0 ∙ c .before .before .before .before .before .before .before .before .before .before .before .before .before .before .before .before .before .before .before .before .bump2 .kept .1 .0 ∙ c .before .before .before .before .before .before .before .before .before .before .before .before .before .before .before .before .before .before .before .before .before .before .before .before .before .before .before .before .before .before .before .before .before .exp .kept .1 .1 .1 .1 .0
+
+rnd-same-length-10 : (t : ℕ) → rnd-lts.Need-same-length-10 (
+  at-reads.Asked,
+  at-reads.Learnt,
+  bump-reads.Asked,
+  bump-reads.Learnt,
+  close-reads.Asked,
+  close-reads.Learnt,
+  refuse-reads.Asked,
+  refuse-reads.Learnt,
+  paren-end-reads.Asked,
+  paren-end-reads.Learnt,
+  mark-reads.Asked,
+  mark-reads.Learnt,
+  exp-below t,
+  exp.Post,
+  peek-reads.Asked,
+  peek-reads.Learnt,
+  sep-below t,
+  sep.Post,
+) (rnd-at t) rnd.Post
+rnd-same-length-10 t c =
+    c .before .before .before .before .before .before .before .before .before .before .sep .kept .1 .1 .1 .1 .1 .0 ∙ c .before .before .before .before .before .before .before .before .before .before .before .before .before .before .before .before .before .before .before .before .before .before .before .before .before .before .before .before .before .before .before .before .before .exp .kept .1 .1 .1 .1 .1 .0
+
+rnd-returns-4 : (t : ℕ) → rnd-lts.Need-returns-4 (
+  at-reads.Asked,
+  at-reads.Learnt,
+  bump-reads.Asked,
+  bump-reads.Learnt,
+  close-reads.Asked,
+  close-reads.Learnt,
+  refuse-reads.Asked,
+  refuse-reads.Learnt,
+  paren-end-reads.Asked,
+  paren-end-reads.Learnt,
+  mark-reads.Asked,
+  mark-reads.Learnt,
+  exp-below t,
+  exp.Post,
+  peek-reads.Asked,
+  peek-reads.Learnt,
+  sep-below t,
+  sep.Post,
+) (rnd-at t) rnd.Post
+unfolding expr.atExpLRound util.endSep expr.endClosure util.choose plan choose chosen
+rnd-returns-4 t c =
+    let falls = c .before .before .before .before .before .before .before .before .before .before .before .before .before .before .before .before .before .before .before .before .before .before .before .before .before .before .before .before .before .before .before .before .before .before .before .before .before .before .before .before .before .before .before .before .before .before .before .pre .0 in
+    let pre0 = c .before .before .before .before .before .before .before .before .before .before .before .before .before .before .before .before .before .before .before .before .before .before .before .before .before .before .before .before .before .before .before .before .before .before .before .before .before .before .before .before .before .before .before .before .before .before .before .pre .1 .0 in
+    let pre1 = c .before .before .before .before .before .before .before .before .before .before .before .before .before .before .before .before .before .before .before .before .before .before .before .before .before .before .before .before .before .before .before .before .before .before .before .before .before .before .before .before .before .before .before .before .before .before .before .pre .1 .1 in
+    let at = c .before .before .before .before .before .before .before .before .before .before .before .before .before .before .before .before .before .before .before .before .before .before .before .before .before .before .before .before .before .before .before .before .before .before .before .before .before .before .before .before .at .ensures in
+    let if1 = c .before .before .before .before .before .before .before .before .before .before .before .before .before .before .before .before .before .before .before .before .before .before .before .before .before .before .before .before .before .before .before .before .before .before .before .before .before .before .before .if1 .left in
+    let if2 = c .before .before .before .before .before .before .before .before .before .before .before .before .before .before .before .before .before .before .before .before .before .before .before .before .before .before .before .before .before .before .before .before .before .before .before .before .before .before .if2 .left in
+    let mark = c .before .before .before .before .before .before .before .before .before .before .before .before .before .before .before .before .before .before .before .before .before .before .before .before .before .before .before .before .before .before .before .before .before .before .before .before .before .mark .ensures in
+    let exp = c .before .before .before .before .before .before .before .before .before .before .before .before .before .before .before .before .before .before .before .before .before .before .before .before .before .before .before .before .before .before .before .before .before .exp .ensures in
+    let peek = rw (c .before .before .before .before .before .before .before .before .before .before .before .before .before .before .before .before .before .before .before .before .before .before .before .before .k .given .1) at (c .before .before .before .before .before .before .before .before .before .before .before .before .before .before .before .before .before .before .before .before .before .before .before .before .before .before .peek .ensures) in
+    let if3 = c .before .before .before .before .before .before .before .before .before .before .before .before .before .before .before .before .before .before .before .before .before .before .if3 .taken in
+    let bump2 = c .before .before .before .before .before .before .before .before .before .before .before .before .before .before .before .before .before .before .before .before .bump2 .ensures in
+    let close2 = c .before .before .before .before .before .before .before .before .before .before .before .before .before .before .before .before .close2 .ensures in
+    let sep = c .before .before .before .before .before .before .before .before .before .before .sep .ensures in
+    let close3 = c .before .before .close3 .ensures in
+    in-steps pre0 (s-kind (s-false _ _ (kind-off _ _ _ _ at if1) (s-mark if2 mark (s-by _ (runs-in exp) (s-look peek (s-true _ _ (kind-is if3) (s-bump bump2 (s-close close2 (s-run sep (s-close close3 s-end))))))))))
+
+rnd-bump-requires-3 : (t : ℕ) → rnd-lts.Need-bump-requires-3 (
+  at-reads.Asked,
+  at-reads.Learnt,
+  bump-reads.Asked,
+  bump-reads.Learnt,
+  close-reads.Asked,
+  close-reads.Learnt,
+  refuse-reads.Asked,
+  refuse-reads.Learnt,
+  paren-end-reads.Asked,
+  paren-end-reads.Learnt,
+  mark-reads.Asked,
+  mark-reads.Learnt,
+  exp-below t,
+  exp.Post,
+  peek-reads.Asked,
+  peek-reads.Learnt,
+  sep-below t,
+  sep.Post,
+) (rnd-at t) rnd.Post
+rnd-bump-requires-3 t c κs =
+    let exp = c .before .before .before .before .before .before .before .before .before .before .before .before .before .exp .ensures in
+    let exp-ok = exp .ok in
+    (exp-ok .reads, exp-ok .logs)
+
+rnd-close-requires-4 : (t : ℕ) → rnd-lts.Need-close-requires-4 (
+  at-reads.Asked,
+  at-reads.Learnt,
+  bump-reads.Asked,
+  bump-reads.Learnt,
+  close-reads.Asked,
+  close-reads.Learnt,
+  refuse-reads.Asked,
+  refuse-reads.Learnt,
+  paren-end-reads.Asked,
+  paren-end-reads.Learnt,
+  mark-reads.Asked,
+  mark-reads.Learnt,
+  exp-below t,
+  exp.Post,
+  peek-reads.Asked,
+  peek-reads.Learnt,
+  sep-below t,
+  sep.Post,
+) (rnd-at t) rnd.Post
+rnd-close-requires-4 t c κs =
+    let pre0 = c .before .before .before .before .before .before .before .before .before .before .before .before .before .before .before .before .before .before .before .before .before .before .before .before .before .before .before .before .before .before .before .pre .1 .0 in
+    let mark = c .before .before .before .before .before .before .before .before .before .before .before .before .before .before .before .before .before .before .before .before .before .mark .ensures in
+    let mark-ok = ok-marks mark pre0 in
+    let exp = c .before .before .before .before .before .before .before .before .before .before .before .before .before .before .before .before .before .exp .ensures in
+    let exp-ok = exp .ok in
+    let bump3 = c .before .before .before .bump3 .ensures in
+    let bump3-ok = ok-bumps bump3 exp-ok in
+    (bump3-ok .logs, small-len mark-ok)
+
+rnd-sep-requires-2 : (t : ℕ) → rnd-lts.Need-sep-requires-2 (
+  at-reads.Asked,
+  at-reads.Learnt,
+  bump-reads.Asked,
+  bump-reads.Learnt,
+  close-reads.Asked,
+  close-reads.Learnt,
+  refuse-reads.Asked,
+  refuse-reads.Learnt,
+  paren-end-reads.Asked,
+  paren-end-reads.Learnt,
+  mark-reads.Asked,
+  mark-reads.Learnt,
+  exp-below t,
+  exp.Post,
+  peek-reads.Asked,
+  peek-reads.Learnt,
+  sep-below t,
+  sep.Post,
+) (rnd-at t) rnd.Post
+rnd-sep-requires-2 t c κs =
+    let falls = c .before .before .before .before .before .before .before .before .before .before .before .before .before .before .before .before .before .before .before .before .before .before .before .before .before .before .before .before .before .before .before .before .before .before .before .before .before .pre .0 in
+    let pre1 = c .before .before .before .before .before .before .before .before .before .before .before .before .before .before .before .before .before .before .before .before .before .before .before .before .before .before .before .before .before .before .before .before .before .before .before .before .before .pre .1 .1 in
+    let if1 = c .before .before .before .before .before .before .before .before .before .before .before .before .before .before .before .before .before .before .before .before .before .before .before .before .before .before .before .before .before .if1 .left in
+    let if2 = c .before .before .before .before .before .before .before .before .before .before .before .before .before .before .before .before .before .before .before .before .before .before .before .before .before .before .before .before .if2 .left in
+    let exp = c .before .before .before .before .before .before .before .before .before .before .before .before .before .before .before .before .before .before .before .before .before .before .before .exp .ensures in
+    let exp-ok = exp .ok in
+    let if3 = c .before .before .before .before .before .before .before .before .before .before .before .before .if3 .left in
+    let if4 = c .before .before .before .before .before .before .before .before .before .before .before .if4 .taken in
+    let bump3 = c .before .before .before .before .before .before .before .before .before .bump3 .ensures in
+    let bump3-ok = ok-bumps bump3 exp-ok in
+    let close4 = c .before .before .before .before .before .close4 .ensures in
+    let close4-ok = ok-adds close4 bump3-ok in
+    (omega arith, (close4-ok, omega arith))
+
+rnd-close-requires-5 : (t : ℕ) → rnd-lts.Need-close-requires-5 (
+  at-reads.Asked,
+  at-reads.Learnt,
+  bump-reads.Asked,
+  bump-reads.Learnt,
+  close-reads.Asked,
+  close-reads.Learnt,
+  refuse-reads.Asked,
+  refuse-reads.Learnt,
+  paren-end-reads.Asked,
+  paren-end-reads.Learnt,
+  mark-reads.Asked,
+  mark-reads.Learnt,
+  exp-below t,
+  exp.Post,
+  peek-reads.Asked,
+  peek-reads.Learnt,
+  sep-below t,
+  sep.Post,
+) (rnd-at t) rnd.Post
+rnd-close-requires-5 t c κs =
+    let pre1 = c .before .before .before .before .before .before .before .before .before .before .before .before .before .before .before .before .before .before .before .before .before .before .before .before .before .before .before .before .before .before .before .before .before .before .before .before .before .before .before .before .before .before .before .before .before .pre .1 .1 in
+    let sep2 = c .before .before .before .before .before .before .before .sep2 .ensures in
+    let sep2-ok = sep2 .ok in
+    (sep2-ok .logs, pre1)
+
+rnd-same-length-11 : (t : ℕ) → rnd-lts.Need-same-length-11 (
+  at-reads.Asked,
+  at-reads.Learnt,
+  bump-reads.Asked,
+  bump-reads.Learnt,
+  close-reads.Asked,
+  close-reads.Learnt,
+  refuse-reads.Asked,
+  refuse-reads.Learnt,
+  paren-end-reads.Asked,
+  paren-end-reads.Learnt,
+  mark-reads.Asked,
+  mark-reads.Learnt,
+  exp-below t,
+  exp.Post,
+  peek-reads.Asked,
+  peek-reads.Learnt,
+  sep-below t,
+  sep.Post,
+) (rnd-at t) rnd.Post
+rnd-same-length-11 t c =
+    c .before .before .before .before .before .before .before .before .before .before .sep2 .kept .1 .1 .1 .0 ∙ c .before .before .before .before .before .before .before .before .before .before .before .before .before .before .before .before .before .before .before .before .before .before .before .before .before .before .before .before .before .before .before .before .before .before .exp .kept .1 .1 .1 .0
+
+rnd-same-length-12 : (t : ℕ) → rnd-lts.Need-same-length-12 (
+  at-reads.Asked,
+  at-reads.Learnt,
+  bump-reads.Asked,
+  bump-reads.Learnt,
+  close-reads.Asked,
+  close-reads.Learnt,
+  refuse-reads.Asked,
+  refuse-reads.Learnt,
+  paren-end-reads.Asked,
+  paren-end-reads.Learnt,
+  mark-reads.Asked,
+  mark-reads.Learnt,
+  exp-below t,
+  exp.Post,
+  peek-reads.Asked,
+  peek-reads.Learnt,
+  sep-below t,
+  sep.Post,
+) (rnd-at t) rnd.Post
+rnd-same-length-12 t c =
+    c .before .before .close5 .kept .0 ∙ c .before .before .before .before .before .before .before .before .before .before .sep2 .kept .1 .1 .1 .1 .0 ∙ c .before .before .before .before .before .before .before .before .before .before .before .before .before .before .before .before .close4 .kept .0 ∙ c .before .before .before .before .before .before .before .before .before .before .before .before .before .before .before .before .before .before .before .before .bump3 .kept .1 .0 ∙ c .before .before .before .before .before .before .before .before .before .before .before .before .before .before .before .before .before .before .before .before .before .before .before .before .before .before .before .before .before .before .before .before .before .before .exp .kept .1 .1 .1 .1 .0
+
+rnd-same-length-13 : (t : ℕ) → rnd-lts.Need-same-length-13 (
+  at-reads.Asked,
+  at-reads.Learnt,
+  bump-reads.Asked,
+  bump-reads.Learnt,
+  close-reads.Asked,
+  close-reads.Learnt,
+  refuse-reads.Asked,
+  refuse-reads.Learnt,
+  paren-end-reads.Asked,
+  paren-end-reads.Learnt,
+  mark-reads.Asked,
+  mark-reads.Learnt,
+  exp-below t,
+  exp.Post,
+  peek-reads.Asked,
+  peek-reads.Learnt,
+  sep-below t,
+  sep.Post,
+) (rnd-at t) rnd.Post
+rnd-same-length-13 t c =
+    c .before .before .before .before .before .before .before .before .before .before .sep2 .kept .1 .1 .1 .1 .1 .0 ∙ c .before .before .before .before .before .before .before .before .before .before .before .before .before .before .before .before .before .before .before .before .before .before .before .before .before .before .before .before .before .before .before .before .before .before .exp .kept .1 .1 .1 .1 .1 .0
+
+rnd-returns-5 : (t : ℕ) → rnd-lts.Need-returns-5 (
+  at-reads.Asked,
+  at-reads.Learnt,
+  bump-reads.Asked,
+  bump-reads.Learnt,
+  close-reads.Asked,
+  close-reads.Learnt,
+  refuse-reads.Asked,
+  refuse-reads.Learnt,
+  paren-end-reads.Asked,
+  paren-end-reads.Learnt,
+  mark-reads.Asked,
+  mark-reads.Learnt,
+  exp-below t,
+  exp.Post,
+  peek-reads.Asked,
+  peek-reads.Learnt,
+  sep-below t,
+  sep.Post,
+) (rnd-at t) rnd.Post
+unfolding expr.atExpLRound util.endSep expr.endClosure util.choose plan choose chosen
+rnd-returns-5 t c =
+    let falls = c .before .before .before .before .before .before .before .before .before .before .before .before .before .before .before .before .before .before .before .before .before .before .before .before .before .before .before .before .before .before .before .before .before .before .before .before .before .before .before .before .before .before .before .before .before .before .before .before .pre .0 in
+    let pre0 = c .before .before .before .before .before .before .before .before .before .before .before .before .before .before .before .before .before .before .before .before .before .before .before .before .before .before .before .before .before .before .before .before .before .before .before .before .before .before .before .before .before .before .before .before .before .before .before .before .pre .1 .0 in
+    let pre1 = c .before .before .before .before .before .before .before .before .before .before .before .before .before .before .before .before .before .before .before .before .before .before .before .before .before .before .before .before .before .before .before .before .before .before .before .before .before .before .before .before .before .before .before .before .before .before .before .before .pre .1 .1 in
+    let at = c .before .before .before .before .before .before .before .before .before .before .before .before .before .before .before .before .before .before .before .before .before .before .before .before .before .before .before .before .before .before .before .before .before .before .before .before .before .before .before .before .before .at .ensures in
+    let if1 = c .before .before .before .before .before .before .before .before .before .before .before .before .before .before .before .before .before .before .before .before .before .before .before .before .before .before .before .before .before .before .before .before .before .before .before .before .before .before .before .before .if1 .left in
+    let if2 = c .before .before .before .before .before .before .before .before .before .before .before .before .before .before .before .before .before .before .before .before .before .before .before .before .before .before .before .before .before .before .before .before .before .before .before .before .before .before .before .if2 .left in
+    let mark = c .before .before .before .before .before .before .before .before .before .before .before .before .before .before .before .before .before .before .before .before .before .before .before .before .before .before .before .before .before .before .before .before .before .before .before .before .before .before .mark .ensures in
+    let exp = c .before .before .before .before .before .before .before .before .before .before .before .before .before .before .before .before .before .before .before .before .before .before .before .before .before .before .before .before .before .before .before .before .before .before .exp .ensures in
+    let peek = rw (c .before .before .before .before .before .before .before .before .before .before .before .before .before .before .before .before .before .before .before .before .before .before .before .before .before .k .given .1) at (c .before .before .before .before .before .before .before .before .before .before .before .before .before .before .before .before .before .before .before .before .before .before .before .before .before .before .before .peek .ensures) in
+    let if3 = c .before .before .before .before .before .before .before .before .before .before .before .before .before .before .before .before .before .before .before .before .before .before .before .if3 .left in
+    let if4 = c .before .before .before .before .before .before .before .before .before .before .before .before .before .before .before .before .before .before .before .before .before .before .if4 .taken in
+    let bump3 = c .before .before .before .before .before .before .before .before .before .before .before .before .before .before .before .before .before .before .before .before .bump3 .ensures in
+    let close4 = c .before .before .before .before .before .before .before .before .before .before .before .before .before .before .before .before .close4 .ensures in
+    let sep2 = c .before .before .before .before .before .before .before .before .before .before .sep2 .ensures in
+    let close5 = c .before .before .close5 .ensures in
+    in-steps pre0 (s-kind (s-false _ _ (kind-off _ _ _ _ at if1) (s-mark if2 mark (s-by _ (runs-in exp) (s-look peek (s-false _ _ (kind-not if3) (s-true _ _ (kind-is if4) (s-bump bump3 (s-close close4 (s-run sep2 (s-close close5 s-end)))))))))))
+
+rnd-paren-end-requires-3 : (t : ℕ) → rnd-lts.Need-paren-end-requires-3 (
+  at-reads.Asked,
+  at-reads.Learnt,
+  bump-reads.Asked,
+  bump-reads.Learnt,
+  close-reads.Asked,
+  close-reads.Learnt,
+  refuse-reads.Asked,
+  refuse-reads.Learnt,
+  paren-end-reads.Asked,
+  paren-end-reads.Learnt,
+  mark-reads.Asked,
+  mark-reads.Learnt,
+  exp-below t,
+  exp.Post,
+  peek-reads.Asked,
+  peek-reads.Learnt,
+  sep-below t,
+  sep.Post,
+) (rnd-at t) rnd.Post
+rnd-paren-end-requires-3 t c κs =
+    let pre1 = c .before .before .before .before .before .before .before .before .before .before .before .before .before .before .before .before .before .before .before .before .before .before .before .before .before .before .before .before .before .pre .1 .1 in
+    let exp = c .before .before .before .before .before .before .before .before .before .before .before .before .before .before .before .exp .ensures in
+    let exp-ok = exp .ok in
+    (exp-ok, pre1)
+
+rnd-same-length-14 : (t : ℕ) → rnd-lts.Need-same-length-14 (
+  at-reads.Asked,
+  at-reads.Learnt,
+  bump-reads.Asked,
+  bump-reads.Learnt,
+  close-reads.Asked,
+  close-reads.Learnt,
+  refuse-reads.Asked,
+  refuse-reads.Learnt,
+  paren-end-reads.Asked,
+  paren-end-reads.Learnt,
+  mark-reads.Asked,
+  mark-reads.Learnt,
+  exp-below t,
+  exp.Post,
+  peek-reads.Asked,
+  peek-reads.Learnt,
+  sep-below t,
+  sep.Post,
+) (rnd-at t) rnd.Post
+rnd-same-length-14 t c =
+    c .before .before .before .before .before .before .before .before .before .before .before .before .before .before .before .before .before .before .before .before .exp .kept .1 .1 .1 .0
+
+rnd-same-length-15 : (t : ℕ) → rnd-lts.Need-same-length-15 (
+  at-reads.Asked,
+  at-reads.Learnt,
+  bump-reads.Asked,
+  bump-reads.Learnt,
+  close-reads.Asked,
+  close-reads.Learnt,
+  refuse-reads.Asked,
+  refuse-reads.Learnt,
+  paren-end-reads.Asked,
+  paren-end-reads.Learnt,
+  mark-reads.Asked,
+  mark-reads.Learnt,
+  exp-below t,
+  exp.Post,
+  peek-reads.Asked,
+  peek-reads.Learnt,
+  sep-below t,
+  sep.Post,
+) (rnd-at t) rnd.Post
+rnd-same-length-15 t c =
+    c .before .before .before .before .paren-end3 .kept .1 .1 .1 .1 .0 ∙ c .before .before .before .before .before .before .before .before .before .before .before .before .before .before .before .before .before .before .before .before .exp .kept .1 .1 .1 .1 .0
+
+rnd-same-length-16 : (t : ℕ) → rnd-lts.Need-same-length-16 (
+  at-reads.Asked,
+  at-reads.Learnt,
+  bump-reads.Asked,
+  bump-reads.Learnt,
+  close-reads.Asked,
+  close-reads.Learnt,
+  refuse-reads.Asked,
+  refuse-reads.Learnt,
+  paren-end-reads.Asked,
+  paren-end-reads.Learnt,
+  mark-reads.Asked,
+  mark-reads.Learnt,
+  exp-below t,
+  exp.Post,
+  peek-reads.Asked,
+  peek-reads.Learnt,
+  sep-below t,
+  sep.Post,
+) (rnd-at t) rnd.Post
+rnd-same-length-16 t c =
+    c .before .before .before .before .paren-end3 .kept .1 .1 .1 .1 .1 .0 ∙ c .before .before .before .before .before .before .before .before .before .before .before .before .before .before .before .before .before .before .before .before .exp .kept .1 .1 .1 .1 .1 .0
+
+rnd-returns-6 : (t : ℕ) → rnd-lts.Need-returns-6 (
+  at-reads.Asked,
+  at-reads.Learnt,
+  bump-reads.Asked,
+  bump-reads.Learnt,
+  close-reads.Asked,
+  close-reads.Learnt,
+  refuse-reads.Asked,
+  refuse-reads.Learnt,
+  paren-end-reads.Asked,
+  paren-end-reads.Learnt,
+  mark-reads.Asked,
+  mark-reads.Learnt,
+  exp-below t,
+  exp.Post,
+  peek-reads.Asked,
+  peek-reads.Learnt,
+  sep-below t,
+  sep.Post,
+) (rnd-at t) rnd.Post
+unfolding expr.atExpLRound util.endSep expr.endClosure util.choose plan choose chosen
+rnd-returns-6 t c =
+    let falls = c .before .before .before .before .before .before .before .before .before .before .before .before .before .before .before .before .before .before .before .before .before .before .before .before .before .before .before .before .before .before .before .before .before .before .pre .0 in
+    let pre0 = c .before .before .before .before .before .before .before .before .before .before .before .before .before .before .before .before .before .before .before .before .before .before .before .before .before .before .before .before .before .before .before .before .before .before .pre .1 .0 in
+    let pre1 = c .before .before .before .before .before .before .before .before .before .before .before .before .before .before .before .before .before .before .before .before .before .before .before .before .before .before .before .before .before .before .before .before .before .before .pre .1 .1 in
+    let at = c .before .before .before .before .before .before .before .before .before .before .before .before .before .before .before .before .before .before .before .before .before .before .before .before .before .before .before .at .ensures in
+    let if1 = c .before .before .before .before .before .before .before .before .before .before .before .before .before .before .before .before .before .before .before .before .before .before .before .before .before .before .if1 .left in
+    let if2 = c .before .before .before .before .before .before .before .before .before .before .before .before .before .before .before .before .before .before .before .before .before .before .before .before .before .if2 .left in
+    let mark = c .before .before .before .before .before .before .before .before .before .before .before .before .before .before .before .before .before .before .before .before .before .before .before .before .mark .ensures in
+    let exp = c .before .before .before .before .before .before .before .before .before .before .before .before .before .before .before .before .before .before .before .before .exp .ensures in
+    let peek = rw (c .before .before .before .before .before .before .before .before .before .before .before .k .given .1) at (c .before .before .before .before .before .before .before .before .before .before .before .before .before .peek .ensures) in
+    let if3 = c .before .before .before .before .before .before .before .before .before .if3 .left in
+    let if4 = c .before .before .before .before .before .before .before .before .if4 .left in
+    let paren-end3 = c .before .before .before .before .paren-end3 .ensures in
+    in-steps pre0 (s-kind (s-false _ _ (kind-off _ _ _ _ at if1) (s-mark if2 mark (s-by _ (runs-in exp) (s-look peek (s-false _ _ (kind-not if3) (s-false _ _ (kind-not if4) (s-by _ paren-end3 s-end))))))))
+
+rst-peek-requires : (t : ℕ) → rst-lts.Need-peek-requires (
+  peek-reads.Asked,
+  peek-reads.Learnt,
+  refuse-reads.Asked,
+  refuse-reads.Learnt,
+  mark-reads.Asked,
+  mark-reads.Learnt,
+  atm-below t,
+  atm.Post,
+  ops-below t,
+  ops.Post,
+) (rst-at t) rst.Post
+rst-peek-requires t c κs =
+    let pre0 = c .before .before .before .before .before .before .pre .1 .0 in
+    pre0 .reads
+
+rst-enum-known-k : (t : ℕ) → rst-lts.Need-enum-known-k (
+  peek-reads.Asked,
+  peek-reads.Learnt,
+  refuse-reads.Asked,
+  refuse-reads.Learnt,
+  mark-reads.Asked,
+  mark-reads.Learnt,
+  atm-below t,
+  atm.Post,
+  ops-below t,
+  ops.Post,
+) (rst-at t) rst.Post
+rst-enum-known-k t c =
+    let falls = c .before .before .before .before .before .before .before .before .pre .0 in
+    let pre0 = c .before .before .before .before .before .before .before .before .pre .1 .0 in
+    let pre1 = c .before .before .before .before .before .before .before .before .pre .1 .1 in
+    search needs
+
+rst-enum-told : (t : ℕ) → rst-lts.Need-enum-told (
+  peek-reads.Asked,
+  peek-reads.Learnt,
+  refuse-reads.Asked,
+  refuse-reads.Learnt,
+  mark-reads.Asked,
+  mark-reads.Learnt,
+  atm-below t,
+  atm.Post,
+  ops-below t,
+  ops.Post,
+) (rst-at t) rst.Post
+rst-enum-told t c =
+    let falls = c .before .before .before .before .before .before .before .before .pre .0 in
+    let pre0 = c .before .before .before .before .before .before .before .before .pre .1 .0 in
+    let pre1 = c .before .before .before .before .before .before .before .before .pre .1 .1 in
+    search needs
+
+rst-returns : (t : ℕ) → rst-lts.Need-returns (
+  peek-reads.Asked,
+  peek-reads.Learnt,
+  refuse-reads.Asked,
+  refuse-reads.Learnt,
+  mark-reads.Asked,
+  mark-reads.Learnt,
+  atm-below t,
+  atm.Post,
+  ops-below t,
+  ops.Post,
+) (rst-at t) rst.Post
+unfolding expr.expRest expr.atExp plan choose chosen
+rst-returns t c =
+    let falls = c .before .before .before .before .before .before .before .before .before .pre .0 in
+    let pre0 = c .before .before .before .before .before .before .before .before .before .pre .1 .0 in
+    let pre1 = c .before .before .before .before .before .before .before .before .before .pre .1 .1 in
+    let peek = rw (c .enum-told .given .1) at (c .before .before .peek .ensures) in
+    in-steps pre0 (s-look peek s-end)
+
+rst-refuse-requires : (t : ℕ) → rst-lts.Need-refuse-requires (
+  peek-reads.Asked,
+  peek-reads.Learnt,
+  refuse-reads.Asked,
+  refuse-reads.Learnt,
+  mark-reads.Asked,
+  mark-reads.Learnt,
+  atm-below t,
+  atm.Post,
+  ops-below t,
+  ops.Post,
+) (rst-at t) rst.Post
+rst-refuse-requires t c κs =
+    tt
+
+rst-returns-2 : (t : ℕ) → rst-lts.Need-returns-2 (
+  peek-reads.Asked,
+  peek-reads.Learnt,
+  refuse-reads.Asked,
+  refuse-reads.Learnt,
+  mark-reads.Asked,
+  mark-reads.Learnt,
+  atm-below t,
+  atm.Post,
+  ops-below t,
+  ops.Post,
+) (rst-at t) rst.Post
+unfolding expr.expRest expr.atExp plan choose chosen
+rst-returns-2 t c =
+    let falls = c .before .before .before .before .before .before .before .before .before .before .before .before .pre .0 in
+    let pre0 = c .before .before .before .before .before .before .before .before .before .before .before .before .pre .1 .0 in
+    let pre1 = c .before .before .before .before .before .before .before .before .before .before .before .before .pre .1 .1 in
+    let peek = rw (c .before .before .before .k .given .1) at (c .before .before .before .before .before .peek .ensures) in
+    let if1 = c .before .if1 .taken in
+    let refuse = c .refuse .ensures in
+    in-steps pre0 (s-look peek (s-deep if1 refuse s-end))
+
+rst-mark-requires : (t : ℕ) → rst-lts.Need-mark-requires (
+  peek-reads.Asked,
+  peek-reads.Learnt,
+  refuse-reads.Asked,
+  refuse-reads.Learnt,
+  mark-reads.Asked,
+  mark-reads.Learnt,
+  atm-below t,
+  atm.Post,
+  ops-below t,
+  ops.Post,
+) (rst-at t) rst.Post
+rst-mark-requires t c κs =
+    tt
+
+rst-sub-atm : (t : ℕ) → rst-lts.Need-sub-atm (
+  peek-reads.Asked,
+  peek-reads.Learnt,
+  refuse-reads.Asked,
+  refuse-reads.Learnt,
+  mark-reads.Asked,
+  mark-reads.Learnt,
+  atm-below t,
+  atm.Post,
+  ops-below t,
+  ops.Post,
+) (rst-at t) rst.Post
+rst-sub-atm t c =
+    let falls = c .before .before .before .before .before .before .before .before .before .before .before .before .before .before .before .pre .0 in
+    let pre0 = c .before .before .before .before .before .before .before .before .before .before .before .before .before .before .before .pre .1 .0 in
+    let pre1 = c .before .before .before .before .before .before .before .before .before .before .before .before .before .before .before .pre .1 .1 in
+    let if1 = c .before .before .before .before .if1 .left in
+    search needs
+
+rst-atm-requires : (t : ℕ) → rst-lts.Need-atm-requires (
+  peek-reads.Asked,
+  peek-reads.Learnt,
+  refuse-reads.Asked,
+  refuse-reads.Learnt,
+  mark-reads.Asked,
+  mark-reads.Learnt,
+  atm-below t,
+  atm.Post,
+  ops-below t,
+  ops.Post,
+) (rst-at t) rst.Post
+rst-atm-requires t c κs =
+    let falls = c .before .before .before .before .before .before .before .before .before .before .before .before .before .before .before .pre .0 in
+    let pre0 = c .before .before .before .before .before .before .before .before .before .before .before .before .before .before .before .pre .1 .0 in
+    let pre1 = c .before .before .before .before .before .before .before .before .before .before .before .before .before .before .before .pre .1 .1 in
+    let if1 = c .before .before .before .before .if1 .left in
+    let mark = c .before .before .before .mark .ensures in
+    let mark-ok = ok-marks mark pre0 in
+    (omega arith, (mark-ok, small-len mark-ok))
+
+rst-enum-known-head : (t : ℕ) → rst-lts.Need-enum-known-head (
+  peek-reads.Asked,
+  peek-reads.Learnt,
+  refuse-reads.Asked,
+  refuse-reads.Learnt,
+  mark-reads.Asked,
+  mark-reads.Learnt,
+  atm-below t,
+  atm.Post,
+  ops-below t,
+  ops.Post,
+) (rst-at t) rst.Post
+rst-enum-known-head t c =
+    let falls = c .before .before .before .before .before .before .before .before .before .before .before .before .before .before .before .before .before .before .before .before .before .before .before .pre .0 in
+    let pre0 = c .before .before .before .before .before .before .before .before .before .before .before .before .before .before .before .before .before .before .before .before .before .before .before .pre .1 .0 in
+    let pre1 = c .before .before .before .before .before .before .before .before .before .before .before .before .before .before .before .before .before .before .before .before .before .before .before .pre .1 .1 in
+    let if1 = c .before .before .before .before .before .before .before .before .before .before .before .before .if1 .left in
+    search needs
+
+rst-enum-known-head-2 : (t : ℕ) → rst-lts.Need-enum-known-head-2 (
+  peek-reads.Asked,
+  peek-reads.Learnt,
+  refuse-reads.Asked,
+  refuse-reads.Learnt,
+  mark-reads.Asked,
+  mark-reads.Learnt,
+  atm-below t,
+  atm.Post,
+  ops-below t,
+  ops.Post,
+) (rst-at t) rst.Post
+rst-enum-known-head-2 t c =
+    let falls = c .before .before .before .before .before .before .before .before .before .before .before .before .before .before .before .before .before .before .before .before .before .before .before .pre .0 in
+    let pre0 = c .before .before .before .before .before .before .before .before .before .before .before .before .before .before .before .before .before .before .before .before .before .before .before .pre .1 .0 in
+    let pre1 = c .before .before .before .before .before .before .before .before .before .before .before .before .before .before .before .before .before .before .before .before .before .before .before .pre .1 .1 in
+    let if1 = c .before .before .before .before .before .before .before .before .before .before .before .before .if1 .left in
+    search needs
+
+rst-ops-requires : (t : ℕ) → rst-lts.Need-ops-requires (
+  peek-reads.Asked,
+  peek-reads.Learnt,
+  refuse-reads.Asked,
+  refuse-reads.Learnt,
+  mark-reads.Asked,
+  mark-reads.Learnt,
+  atm-below t,
+  atm.Post,
+  ops-below t,
+  ops.Post,
+) (rst-at t) rst.Post
+rst-ops-requires t c κs =
+    let falls = c .before .before .before .before .before .before .before .before .before .before .before .before .before .before .before .before .before .before .before .before .before .before .before .before .before .before .before .before .pre .0 in
+    let pre1 = c .before .before .before .before .before .before .before .before .before .before .before .before .before .before .before .before .before .before .before .before .before .before .before .before .before .before .before .before .pre .1 .1 in
+    let if1 = c .before .before .before .before .before .before .before .before .before .before .before .before .before .before .before .before .before .if1 .left in
+    let atm = rw (c .before .before .before .before .head2 .given .1) at (c .before .before .before .before .before .before .before .before .before .before .before .before .atm .ensures) in
+    let atm-ok = atm .ok in
+    (omega arith, (atm-ok, pre1))
+
+rst-same-length : (t : ℕ) → rst-lts.Need-same-length (
+  peek-reads.Asked,
+  peek-reads.Learnt,
+  refuse-reads.Asked,
+  refuse-reads.Learnt,
+  mark-reads.Asked,
+  mark-reads.Learnt,
+  atm-below t,
+  atm.Post,
+  ops-below t,
+  ops.Post,
+) (rst-at t) rst.Post
+rst-same-length t c =
+    c .before .before .before .before .before .before .before .before .before .atm .kept .1 .1 .1 .0
+
+rst-same-length-2 : (t : ℕ) → rst-lts.Need-same-length-2 (
+  peek-reads.Asked,
+  peek-reads.Learnt,
+  refuse-reads.Asked,
+  refuse-reads.Learnt,
+  mark-reads.Asked,
+  mark-reads.Learnt,
+  atm-below t,
+  atm.Post,
+  ops-below t,
+  ops.Post,
+) (rst-at t) rst.Post
+rst-same-length-2 t c =
+    c .before .before .before .before .before .before .before .before .before .atm .kept .1 .1 .1 .1 .0
+
+rst-same-length-3 : (t : ℕ) → rst-lts.Need-same-length-3 (
+  peek-reads.Asked,
+  peek-reads.Learnt,
+  refuse-reads.Asked,
+  refuse-reads.Learnt,
+  mark-reads.Asked,
+  mark-reads.Learnt,
+  atm-below t,
+  atm.Post,
+  ops-below t,
+  ops.Post,
+) (rst-at t) rst.Post
+rst-same-length-3 t c =
+    c .before .before .before .before .before .before .before .before .before .atm .kept .1 .1 .1 .1 .1 .0
+
+rst-returns-3 : (t : ℕ) → rst-lts.Need-returns-3 (
+  peek-reads.Asked,
+  peek-reads.Learnt,
+  refuse-reads.Asked,
+  refuse-reads.Learnt,
+  mark-reads.Asked,
+  mark-reads.Learnt,
+  atm-below t,
+  atm.Post,
+  ops-below t,
+  ops.Post,
+) (rst-at t) rst.Post
+unfolding expr.expRest expr.atExp plan choose chosen
+rst-returns-3 t c =
+    let falls = c .before .before .before .before .before .before .before .before .before .before .before .before .before .before .before .before .before .before .before .before .before .before .before .before .before .pre .0 in
+    let pre0 = c .before .before .before .before .before .before .before .before .before .before .before .before .before .before .before .before .before .before .before .before .before .before .before .before .before .pre .1 .0 in
+    let pre1 = c .before .before .before .before .before .before .before .before .before .before .before .before .before .before .before .before .before .before .before .before .before .before .before .before .before .pre .1 .1 in
+    let peek = rw (c .before .before .before .before .before .before .before .before .before .before .before .before .before .before .before .before .k .given .1) at (c .before .before .before .before .before .before .before .before .before .before .before .before .before .before .before .before .before .before .peek .ensures) in
+    let if1 = c .before .before .before .before .before .before .before .before .before .before .before .before .before .before .if1 .left in
+    let mark = c .before .before .before .before .before .before .before .before .before .before .before .before .before .mark .ensures in
+    let atm = rw (c .before .head .given .1) at (c .before .before .before .before .before .before .before .before .before .atm .ensures) in
+    in-steps pre0 (s-look peek (s-mark if1 mark (s-by _ atm s-end)))
+
+rst-same-length-4 : (t : ℕ) → rst-lts.Need-same-length-4 (
+  peek-reads.Asked,
+  peek-reads.Learnt,
+  refuse-reads.Asked,
+  refuse-reads.Learnt,
+  mark-reads.Asked,
+  mark-reads.Learnt,
+  atm-below t,
+  atm.Post,
+  ops-below t,
+  ops.Post,
+) (rst-at t) rst.Post
+rst-same-length-4 t c =
+    c .before .before .before .before .before .before .ops .kept .1 .1 .1 .0 ∙ c .before .before .before .before .before .before .before .before .before .before .before .before .before .before .before .before .before .before .before .atm .kept .1 .1 .1 .0
+
+rst-same-length-5 : (t : ℕ) → rst-lts.Need-same-length-5 (
+  peek-reads.Asked,
+  peek-reads.Learnt,
+  refuse-reads.Asked,
+  refuse-reads.Learnt,
+  mark-reads.Asked,
+  mark-reads.Learnt,
+  atm-below t,
+  atm.Post,
+  ops-below t,
+  ops.Post,
+) (rst-at t) rst.Post
+rst-same-length-5 t c =
+    c .before .before .before .before .before .before .ops .kept .1 .1 .1 .1 .0 ∙ c .before .before .before .before .before .before .before .before .before .before .before .before .before .before .before .before .before .before .before .atm .kept .1 .1 .1 .1 .0
+
+rst-same-length-6 : (t : ℕ) → rst-lts.Need-same-length-6 (
+  peek-reads.Asked,
+  peek-reads.Learnt,
+  refuse-reads.Asked,
+  refuse-reads.Learnt,
+  mark-reads.Asked,
+  mark-reads.Learnt,
+  atm-below t,
+  atm.Post,
+  ops-below t,
+  ops.Post,
+) (rst-at t) rst.Post
+rst-same-length-6 t c =
+    c .before .before .before .before .before .before .ops .kept .1 .1 .1 .1 .1 .0 ∙ c .before .before .before .before .before .before .before .before .before .before .before .before .before .before .before .before .before .before .before .atm .kept .1 .1 .1 .1 .1 .0
+
+rst-returns-4 : (t : ℕ) → rst-lts.Need-returns-4 (
+  peek-reads.Asked,
+  peek-reads.Learnt,
+  refuse-reads.Asked,
+  refuse-reads.Learnt,
+  mark-reads.Asked,
+  mark-reads.Learnt,
+  atm-below t,
+  atm.Post,
+  ops-below t,
+  ops.Post,
+) (rst-at t) rst.Post
+unfolding expr.expRest expr.atExp plan choose chosen
+rst-returns-4 t c =
+    let falls = c .before .before .before .before .before .before .before .before .before .before .before .before .before .before .before .before .before .before .before .before .before .before .before .before .before .before .before .before .before .before .before .before .before .before .before .pre .0 in
+    let pre0 = c .before .before .before .before .before .before .before .before .before .before .before .before .before .before .before .before .before .before .before .before .before .before .before .before .before .before .before .before .before .before .before .before .before .before .before .pre .1 .0 in
+    let pre1 = c .before .before .before .before .before .before .before .before .before .before .before .before .before .before .before .before .before .before .before .before .before .before .before .before .before .before .before .before .before .before .before .before .before .before .before .pre .1 .1 in
+    let peek = rw (c .before .before .before .before .before .before .before .before .before .before .before .before .before .before .before .before .before .before .before .before .before .before .before .before .before .before .k .given .1) at (c .before .before .before .before .before .before .before .before .before .before .before .before .before .before .before .before .before .before .before .before .before .before .before .before .before .before .before .before .peek .ensures) in
+    let if1 = c .before .before .before .before .before .before .before .before .before .before .before .before .before .before .before .before .before .before .before .before .before .before .before .before .if1 .left in
+    let mark = c .before .before .before .before .before .before .before .before .before .before .before .before .before .before .before .before .before .before .before .before .before .before .before .mark .ensures in
+    let atm = rw (c .before .before .before .before .before .before .before .before .before .before .before .head2 .given .1) at (c .before .before .before .before .before .before .before .before .before .before .before .before .before .before .before .before .before .before .before .atm .ensures) in
+    let ops = c .before .before .before .before .before .before .ops .ensures in
+    in-steps pre0 (s-look peek (s-mark if1 mark (s-by _ atm (s-run ops s-end))))
+
+sem-refuse-requires : (t : ℕ) → sem-lts.Need-refuse-requires (
+  refuse-reads.Asked,
+  refuse-reads.Learnt,
+  mark-reads.Asked,
+  mark-reads.Learnt,
+  prt-below t,
+  prt.Post,
+  bump-if-reads.Asked,
+  bump-if-reads.Learnt,
+  close-reads.Asked,
+  close-reads.Learnt,
+) (sem-at t) sem.Post
+sem-refuse-requires t c κs =
+    tt
+
+sem-returns : (t : ℕ) → sem-lts.Need-returns (
+  refuse-reads.Asked,
+  refuse-reads.Learnt,
+  mark-reads.Asked,
+  mark-reads.Learnt,
+  prt-below t,
+  prt.Post,
+  bump-if-reads.Asked,
+  bump-if-reads.Learnt,
+  close-reads.Asked,
+  close-reads.Learnt,
+) (sem-at t) sem.Post
+unfolding util.semiTurn plan choose chosen
+sem-returns t c =
+    let falls = c .before .before .before .before .before .before .before .before .pre .0 in
+    let pre0 = c .before .before .before .before .before .before .before .before .pre .1 in
+    let if1 = c .before .if1 .taken in
+    let refuse = c .refuse .ensures in
+    λ g. by-steps pre0 (λ b. s-deep if1 refuse s-end)
+
+sem-mark-requires : (t : ℕ) → sem-lts.Need-mark-requires (
+  refuse-reads.Asked,
+  refuse-reads.Learnt,
+  mark-reads.Asked,
+  mark-reads.Learnt,
+  prt-below t,
+  prt.Post,
+  bump-if-reads.Asked,
+  bump-if-reads.Learnt,
+  close-reads.Asked,
+  close-reads.Learnt,
+) (sem-at t) sem.Post
+sem-mark-requires t c κs =
+    tt
+
+sem-sub-prt : (t : ℕ) → sem-lts.Need-sub-prt (
+  refuse-reads.Asked,
+  refuse-reads.Learnt,
+  mark-reads.Asked,
+  mark-reads.Learnt,
+  prt-below t,
+  prt.Post,
+  bump-if-reads.Asked,
+  bump-if-reads.Learnt,
+  close-reads.Asked,
+  close-reads.Learnt,
+) (sem-at t) sem.Post
+sem-sub-prt t c =
+    let falls = c .before .before .before .before .before .before .before .before .before .before .before .pre .0 in
+    let pre0 = c .before .before .before .before .before .before .before .before .before .before .before .pre .1 in
+    let if1 = c .before .before .before .before .if1 .left in
+    search needs
+
+sem-prt-requires : (t : ℕ) → sem-lts.Need-prt-requires (
+  refuse-reads.Asked,
+  refuse-reads.Learnt,
+  mark-reads.Asked,
+  mark-reads.Learnt,
+  prt-below t,
+  prt.Post,
+  bump-if-reads.Asked,
+  bump-if-reads.Learnt,
+  close-reads.Asked,
+  close-reads.Learnt,
+) (sem-at t) sem.Post
+sem-prt-requires t c κs =
+    let falls = c .before .before .before .before .before .before .before .before .before .before .before .pre .0 in
+    let pre0 = c .before .before .before .before .before .before .before .before .before .before .before .pre .1 in
+    let if1 = c .before .before .before .before .if1 .left in
+    let mark = c .before .before .before .mark .ensures in
+    let mark-ok = ok-marks mark pre0 in
+    (omega arith, mark-ok)
+
+sem-enum-known-got : (t : ℕ) → sem-lts.Need-enum-known-got (
+  refuse-reads.Asked,
+  refuse-reads.Learnt,
+  mark-reads.Asked,
+  mark-reads.Learnt,
+  prt-below t,
+  prt.Post,
+  bump-if-reads.Asked,
+  bump-if-reads.Learnt,
+  close-reads.Asked,
+  close-reads.Learnt,
+) (sem-at t) sem.Post
+sem-enum-known-got t c =
+    let falls = c .before .before .before .before .before .before .before .before .before .before .before .before .before .before .before .before .before .before .before .pre .0 in
+    let pre0 = c .before .before .before .before .before .before .before .before .before .before .before .before .before .before .before .before .before .before .before .pre .1 in
+    let if1 = c .before .before .before .before .before .before .before .before .before .before .before .before .if1 .left in
+    search needs
+
+sem-enum-known-got-2 : (t : ℕ) → sem-lts.Need-enum-known-got-2 (
+  refuse-reads.Asked,
+  refuse-reads.Learnt,
+  mark-reads.Asked,
+  mark-reads.Learnt,
+  prt-below t,
+  prt.Post,
+  bump-if-reads.Asked,
+  bump-if-reads.Learnt,
+  close-reads.Asked,
+  close-reads.Learnt,
+) (sem-at t) sem.Post
+sem-enum-known-got-2 t c =
+    let falls = c .before .before .before .before .before .before .before .before .before .before .before .before .before .before .before .before .before .before .before .pre .0 in
+    let pre0 = c .before .before .before .before .before .before .before .before .before .before .before .before .before .before .before .before .before .before .before .pre .1 in
+    let if1 = c .before .before .before .before .before .before .before .before .before .before .before .before .if1 .left in
+    search needs
+
+sem-bump-if-requires : (t : ℕ) → sem-lts.Need-bump-if-requires (
+  refuse-reads.Asked,
+  refuse-reads.Learnt,
+  mark-reads.Asked,
+  mark-reads.Learnt,
+  prt-below t,
+  prt.Post,
+  bump-if-reads.Asked,
+  bump-if-reads.Learnt,
+  close-reads.Asked,
+  close-reads.Learnt,
+) (sem-at t) sem.Post
+sem-bump-if-requires t c κs =
+    let prt = rw (c .before .before .before .before .got2 .given .1) at (c .before .before .before .before .before .before .before .before .before .before .before .before .prt .ensures) in
+    let prt-ok = prt .ok in
+    prt-ok
+
+sem-close-requires : (t : ℕ) → sem-lts.Need-close-requires (
+  refuse-reads.Asked,
+  refuse-reads.Learnt,
+  mark-reads.Asked,
+  mark-reads.Learnt,
+  prt-below t,
+  prt.Post,
+  bump-if-reads.Asked,
+  bump-if-reads.Learnt,
+  close-reads.Asked,
+  close-reads.Learnt,
+) (sem-at t) sem.Post
+sem-close-requires t c κs =
+    let pre0 = c .before .before .before .before .before .before .before .before .before .before .before .before .before .before .before .before .before .before .before .before .before .before .before .before .before .before .before .before .before .before .pre .1 in
+    let mark = c .before .before .before .before .before .before .before .before .before .before .before .before .before .before .before .before .before .before .before .before .before .before .mark .ensures in
+    let mark-ok = ok-marks mark pre0 in
+    let bump-if = c .before .before .before .before .before .bump-if .ensures in
+    let bump-if-ok = bump-if .ok in
+    (bump-if-ok .logs, small-len mark-ok)
+
+sem-same-length : (t : ℕ) → sem-lts.Need-same-length (
+  refuse-reads.Asked,
+  refuse-reads.Learnt,
+  mark-reads.Asked,
+  mark-reads.Learnt,
+  prt-below t,
+  prt.Post,
+  bump-if-reads.Asked,
+  bump-if-reads.Learnt,
+  close-reads.Asked,
+  close-reads.Learnt,
+) (sem-at t) sem.Post
+sem-same-length t c =
+    c .before .before .before .before .before .before .before .before .before .prt .kept .1 .1 .1 .0
+
+sem-same-length-2 : (t : ℕ) → sem-lts.Need-same-length-2 (
+  refuse-reads.Asked,
+  refuse-reads.Learnt,
+  mark-reads.Asked,
+  mark-reads.Learnt,
+  prt-below t,
+  prt.Post,
+  bump-if-reads.Asked,
+  bump-if-reads.Learnt,
+  close-reads.Asked,
+  close-reads.Learnt,
+) (sem-at t) sem.Post
+sem-same-length-2 t c =
+    c .before .before .before .before .before .before .before .before .before .prt .kept .1 .1 .1 .1 .0
+
+sem-same-length-3 : (t : ℕ) → sem-lts.Need-same-length-3 (
+  refuse-reads.Asked,
+  refuse-reads.Learnt,
+  mark-reads.Asked,
+  mark-reads.Learnt,
+  prt-below t,
+  prt.Post,
+  bump-if-reads.Asked,
+  bump-if-reads.Learnt,
+  close-reads.Asked,
+  close-reads.Learnt,
+) (sem-at t) sem.Post
+sem-same-length-3 t c =
+    c .before .before .before .before .before .before .before .before .before .prt .kept .1 .1 .1 .1 .1 .0
+
+sem-returns-2 : (t : ℕ) → sem-lts.Need-returns-2 (
+  refuse-reads.Asked,
+  refuse-reads.Learnt,
+  mark-reads.Asked,
+  mark-reads.Learnt,
+  prt-below t,
+  prt.Post,
+  bump-if-reads.Asked,
+  bump-if-reads.Learnt,
+  close-reads.Asked,
+  close-reads.Learnt,
+) (sem-at t) sem.Post
+unfolding util.semiTurn plan choose chosen
+sem-returns-2 t c =
+    let falls = c .before .before .before .before .before .before .before .before .before .before .before .before .before .before .before .before .before .before .before .before .before .pre .0 in
+    let pre0 = c .before .before .before .before .before .before .before .before .before .before .before .before .before .before .before .before .before .before .before .before .before .pre .1 in
+    let if1 = c .before .before .before .before .before .before .before .before .before .before .before .before .before .before .if1 .left in
+    let mark = c .before .before .before .before .before .before .before .before .before .before .before .before .before .mark .ensures in
+    let prt = rw (c .before .got .given .1) at (c .before .before .before .before .before .before .before .before .before .prt .ensures) in
+    λ g. by-steps pre0 (λ b. s-mark if1 mark (s-by _ (runs-in prt) s-end))
+
+sem-same-length-4 : (t : ℕ) → sem-lts.Need-same-length-4 (
+  refuse-reads.Asked,
+  refuse-reads.Learnt,
+  mark-reads.Asked,
+  mark-reads.Learnt,
+  prt-below t,
+  prt.Post,
+  bump-if-reads.Asked,
+  bump-if-reads.Learnt,
+  close-reads.Asked,
+  close-reads.Learnt,
+) (sem-at t) sem.Post
+sem-same-length-4 t c =
+    c .before .before .before .before .before .before .before .before .before .before .before .before .before .before .before .before .before .before .before .before .before .prt .kept .1 .1 .1 .0
+
+sem-same-length-5 : (t : ℕ) → sem-lts.Need-same-length-5 (
+  refuse-reads.Asked,
+  refuse-reads.Learnt,
+  mark-reads.Asked,
+  mark-reads.Learnt,
+  prt-below t,
+  prt.Post,
+  bump-if-reads.Asked,
+  bump-if-reads.Learnt,
+  close-reads.Asked,
+  close-reads.Learnt,
+) (sem-at t) sem.Post
+sem-same-length-5 t c =
+    c .before .before .close .kept .0 ∙ c .before .before .before .before .before .before .before .before .bump-if .kept .1 .1 .1 .1 .0 ∙ c .before .before .before .before .before .before .before .before .before .before .before .before .before .before .before .before .before .before .before .before .before .prt .kept .1 .1 .1 .1 .0
+
+sem-same-length-6 : (t : ℕ) → sem-lts.Need-same-length-6 (
+  refuse-reads.Asked,
+  refuse-reads.Learnt,
+  mark-reads.Asked,
+  mark-reads.Learnt,
+  prt-below t,
+  prt.Post,
+  bump-if-reads.Asked,
+  bump-if-reads.Learnt,
+  close-reads.Asked,
+  close-reads.Learnt,
+) (sem-at t) sem.Post
+sem-same-length-6 t c =
+    c .before .before .before .before .before .before .before .before .bump-if .kept .1 .1 .1 .1 .1 .0 ∙ c .before .before .before .before .before .before .before .before .before .before .before .before .before .before .before .before .before .before .before .before .before .prt .kept .1 .1 .1 .1 .1 .0
+
+sem-returns-3 : (t : ℕ) → sem-lts.Need-returns-3 (
+  refuse-reads.Asked,
+  refuse-reads.Learnt,
+  mark-reads.Asked,
+  mark-reads.Learnt,
+  prt-below t,
+  prt.Post,
+  bump-if-reads.Asked,
+  bump-if-reads.Learnt,
+  close-reads.Asked,
+  close-reads.Learnt,
+) (sem-at t) sem.Post
+unfolding util.semiTurn plan choose chosen
+sem-returns-3 t c =
+    let falls = c .before .before .before .before .before .before .before .before .before .before .before .before .before .before .before .before .before .before .before .before .before .before .before .before .before .before .before .before .before .before .before .before .before .pre .0 in
+    let pre0 = c .before .before .before .before .before .before .before .before .before .before .before .before .before .before .before .before .before .before .before .before .before .before .before .before .before .before .before .before .before .before .before .before .before .pre .1 in
+    let if1 = c .before .before .before .before .before .before .before .before .before .before .before .before .before .before .before .before .before .before .before .before .before .before .before .before .before .before .if1 .left in
+    let mark = c .before .before .before .before .before .before .before .before .before .before .before .before .before .before .before .before .before .before .before .before .before .before .before .before .before .mark .ensures in
+    let prt = rw (c .before .before .before .before .before .before .before .before .before .before .before .before .before .got2 .given .1) at (c .before .before .before .before .before .before .before .before .before .before .before .before .before .before .before .before .before .before .before .before .before .prt .ensures) in
+    let bump-if = c .before .before .before .before .before .before .before .before .bump-if .ensures in
+    let close = c .before .before .close .ensures in
+    λ g. by-steps pre0 (λ b. s-mark if1 mark (s-by _ (runs-in prt) (s-by _ (runs-always bump-if) (s-close close s-end))))
+
+abbrev sep-Inv-loop : sep-lts.InvT-loop
+sep-Inv-loop text toks env table₀ scratch₀ finds₀ left q b s1₀ table scratch finds s1 =
+    Loops left b (util.endTurn {g = true} (q .wrap) (q .sep) (q .end) (expr.endClosure (q .wrap))) (mem text toks env table₀ scratch₀ finds₀ s1₀) (mem text toks env table scratch finds s1) × (length table ≡ length table₀) × (length scratch ≡ length scratch₀) × (length finds ≡ length finds₀)
+
+abbrev sep-μ-loop : sep-lts.MeasureT-loop
+sep-μ-loop text toks env table₀ scratch₀ finds₀ left q b s1₀ table scratch finds s1 = turns (mem text toks env table scratch finds s1)
+
+sep-loop-holds : (t : ℕ) → sep-lts.Need-loop-holds (
+  at-reads.Asked,
+  at-reads.Learnt,
+  bump-reads.Asked,
+  bump-reads.Learnt,
+  refuse-reads.Asked,
+  refuse-reads.Learnt,
+  eat-reads.Asked,
+  eat-reads.Learnt,
+  state-reads.Asked,
+  state-reads.Learnt,
+  mark-reads.Asked,
+  mark-reads.Learnt,
+  cel-below t,
+  cel.Post,
+  close-reads.Asked,
+  close-reads.Learnt,
+) (sep-at t) sep.Post sep-Inv-loop sep-μ-loop
+sep-loop-holds t c =
+    let falls = c .before .before .before .before .before .before .pre .0 in
+    let pre0 = c .before .before .before .before .before .before .pre .1 .0 in
+    let pre1 = c .before .before .before .before .before .before .pre .1 .1 in
+    (loop-starts pre0, refl, refl, refl)
+
+sep-at-requires : (t : ℕ) → sep-lts.Need-at-requires (
+  at-reads.Asked,
+  at-reads.Learnt,
+  bump-reads.Asked,
+  bump-reads.Learnt,
+  refuse-reads.Asked,
+  refuse-reads.Learnt,
+  eat-reads.Asked,
+  eat-reads.Learnt,
+  state-reads.Asked,
+  state-reads.Learnt,
+  mark-reads.Asked,
+  mark-reads.Learnt,
+  cel-below t,
+  cel.Post,
+  close-reads.Asked,
+  close-reads.Learnt,
+) (sep-at t) sep.Post sep-Inv-loop sep-μ-loop
+sep-at-requires t c κs =
+    let inv = c .loop .inv .0 .ok in
+    inv .reads
+
+sep-bump-requires : (t : ℕ) → sep-lts.Need-bump-requires (
+  at-reads.Asked,
+  at-reads.Learnt,
+  bump-reads.Asked,
+  bump-reads.Learnt,
+  refuse-reads.Asked,
+  refuse-reads.Learnt,
+  eat-reads.Asked,
+  eat-reads.Learnt,
+  state-reads.Asked,
+  state-reads.Learnt,
+  mark-reads.Asked,
+  mark-reads.Learnt,
+  cel-below t,
+  cel.Post,
+  close-reads.Asked,
+  close-reads.Learnt,
+) (sep-at t) sep.Post sep-Inv-loop sep-μ-loop
+sep-bump-requires t c κs =
+    let inv = c .before .before .before .loop .inv .0 .ok in
+    (inv .reads, inv .logs)
+
+sep-same-length : (t : ℕ) → sep-lts.Need-same-length (
+  at-reads.Asked,
+  at-reads.Learnt,
+  bump-reads.Asked,
+  bump-reads.Learnt,
+  refuse-reads.Asked,
+  refuse-reads.Learnt,
+  eat-reads.Asked,
+  eat-reads.Learnt,
+  state-reads.Asked,
+  state-reads.Learnt,
+  mark-reads.Asked,
+  mark-reads.Learnt,
+  cel-below t,
+  cel.Post,
+  close-reads.Asked,
+  close-reads.Learnt,
+) (sep-at t) sep.Post sep-Inv-loop sep-μ-loop
+sep-same-length t c =
+    c .before .before .before .before .before .before .loop .inv .1
+
+sep-same-length-2 : (t : ℕ) → sep-lts.Need-same-length-2 (
+  at-reads.Asked,
+  at-reads.Learnt,
+  bump-reads.Asked,
+  bump-reads.Learnt,
+  refuse-reads.Asked,
+  refuse-reads.Learnt,
+  eat-reads.Asked,
+  eat-reads.Learnt,
+  state-reads.Asked,
+  state-reads.Learnt,
+  mark-reads.Asked,
+  mark-reads.Learnt,
+  cel-below t,
+  cel.Post,
+  close-reads.Asked,
+  close-reads.Learnt,
+) (sep-at t) sep.Post sep-Inv-loop sep-μ-loop
+sep-same-length-2 t c =
+    c .before .before .bump .kept .1 .0 ∙ c .before .before .before .before .before .before .loop .inv .2
+
+sep-same-length-3 : (t : ℕ) → sep-lts.Need-same-length-3 (
+  at-reads.Asked,
+  at-reads.Learnt,
+  bump-reads.Asked,
+  bump-reads.Learnt,
+  refuse-reads.Asked,
+  refuse-reads.Learnt,
+  eat-reads.Asked,
+  eat-reads.Learnt,
+  state-reads.Asked,
+  state-reads.Learnt,
+  mark-reads.Asked,
+  mark-reads.Learnt,
+  cel-below t,
+  cel.Post,
+  close-reads.Asked,
+  close-reads.Learnt,
+) (sep-at t) sep.Post sep-Inv-loop sep-μ-loop
+sep-same-length-3 t c =
+    c .before .before .before .before .before .before .loop .inv .3
+
+sep-returns : (t : ℕ) → sep-lts.Need-returns (
+  at-reads.Asked,
+  at-reads.Learnt,
+  bump-reads.Asked,
+  bump-reads.Learnt,
+  refuse-reads.Asked,
+  refuse-reads.Learnt,
+  eat-reads.Asked,
+  eat-reads.Learnt,
+  state-reads.Asked,
+  state-reads.Learnt,
+  mark-reads.Asked,
+  mark-reads.Learnt,
+  cel-below t,
+  cel.Post,
+  close-reads.Asked,
+  close-reads.Learnt,
+) (sep-at t) sep.Post sep-Inv-loop sep-μ-loop
+unfolding util.endTurn util.endItem plan choose chosen
+sep-returns t c =
+    let inv = c .before .before .before .before .before .before .loop .inv .0 in
+    let at = c .before .before .before .before .before .at .ensures in
+    let if1 = c .before .before .before .before .if1 .taken in
+    let bump = c .before .before .bump .ensures in
+    loop-ends (end-turn-advances true _ _ _ _ _ _) inv (in-steps (inv .ok) {n = (c .before .before .before .before .before .before .before .before .before .before .before .before .before .args .left)} {b = (c .before .before .before .before .before .before .before .before .before .before .before .before .before .args .b)} (s-kind (s-true _ _ (kind-at _ _ _ _ at if1) (s-bump bump s-end))))
+
+sep-refuse-requires : (t : ℕ) → sep-lts.Need-refuse-requires (
+  at-reads.Asked,
+  at-reads.Learnt,
+  bump-reads.Asked,
+  bump-reads.Learnt,
+  refuse-reads.Asked,
+  refuse-reads.Learnt,
+  eat-reads.Asked,
+  eat-reads.Learnt,
+  state-reads.Asked,
+  state-reads.Learnt,
+  mark-reads.Asked,
+  mark-reads.Learnt,
+  cel-below t,
+  cel.Post,
+  close-reads.Asked,
+  close-reads.Learnt,
+) (sep-at t) sep.Post sep-Inv-loop sep-μ-loop
+sep-refuse-requires t c κs =
+    tt
+
+sep-eat-requires : (t : ℕ) → sep-lts.Need-eat-requires (
+  at-reads.Asked,
+  at-reads.Learnt,
+  bump-reads.Asked,
+  bump-reads.Learnt,
+  refuse-reads.Asked,
+  refuse-reads.Learnt,
+  eat-reads.Asked,
+  eat-reads.Learnt,
+  state-reads.Asked,
+  state-reads.Learnt,
+  mark-reads.Asked,
+  mark-reads.Learnt,
+  cel-below t,
+  cel.Post,
+  close-reads.Asked,
+  close-reads.Learnt,
+) (sep-at t) sep.Post sep-Inv-loop sep-μ-loop
+sep-eat-requires t c κs =
+    let falls = c .before .before .before .before .before .before .before .before .before .before .before .before .before .before .pre .0 in
+    let pre1 = c .before .before .before .before .before .before .before .before .before .before .before .before .before .before .pre .1 .1 in
+    let inv = c .before .before .before .before .before .before .before .loop .inv .0 .ok in
+    let if1 = c .before .before .before .before .before .if1 .left in
+    let if2 = c .before .before .before .before .if2 .taken in
+    let refuse = c .before .before .before .refuse .ensures in
+    let refuse-ok = ok-refused _ refuse inv in
+    (refuse-ok, omega arith)
+
+sep-state-requires : (t : ℕ) → sep-lts.Need-state-requires (
+  at-reads.Asked,
+  at-reads.Learnt,
+  bump-reads.Asked,
+  bump-reads.Learnt,
+  refuse-reads.Asked,
+  refuse-reads.Learnt,
+  eat-reads.Asked,
+  eat-reads.Learnt,
+  state-reads.Asked,
+  state-reads.Learnt,
+  mark-reads.Asked,
+  mark-reads.Learnt,
+  cel-below t,
+  cel.Post,
+  close-reads.Asked,
+  close-reads.Learnt,
+) (sep-at t) sep.Post sep-Inv-loop sep-μ-loop
+sep-state-requires t c κs =
+    tt
+
+sep-same-length-4 : (t : ℕ) → sep-lts.Need-same-length-4 (
+  at-reads.Asked,
+  at-reads.Learnt,
+  bump-reads.Asked,
+  bump-reads.Learnt,
+  refuse-reads.Asked,
+  refuse-reads.Learnt,
+  eat-reads.Asked,
+  eat-reads.Learnt,
+  state-reads.Asked,
+  state-reads.Learnt,
+  mark-reads.Asked,
+  mark-reads.Learnt,
+  cel-below t,
+  cel.Post,
+  close-reads.Asked,
+  close-reads.Learnt,
+) (sep-at t) sep.Post sep-Inv-loop sep-μ-loop
+sep-same-length-4 t c =
+    c .before .before .before .before .before .before .before .before .before .before .before .before .before .loop .inv .1
+
+sep-same-length-5 : (t : ℕ) → sep-lts.Need-same-length-5 (
+  at-reads.Asked,
+  at-reads.Learnt,
+  bump-reads.Asked,
+  bump-reads.Learnt,
+  refuse-reads.Asked,
+  refuse-reads.Learnt,
+  eat-reads.Asked,
+  eat-reads.Learnt,
+  state-reads.Asked,
+  state-reads.Learnt,
+  mark-reads.Asked,
+  mark-reads.Learnt,
+  cel-below t,
+  cel.Post,
+  close-reads.Asked,
+  close-reads.Learnt,
+) (sep-at t) sep.Post sep-Inv-loop sep-μ-loop
+sep-same-length-5 t c =
+    c .before .before .before .before .before .eat .kept .1 .1 .1 .1 .0 ∙ c .before .before .before .before .before .before .before .before .before .before .before .before .before .loop .inv .2
+
+sep-same-length-6 : (t : ℕ) → sep-lts.Need-same-length-6 (
+  at-reads.Asked,
+  at-reads.Learnt,
+  bump-reads.Asked,
+  bump-reads.Learnt,
+  refuse-reads.Asked,
+  refuse-reads.Learnt,
+  eat-reads.Asked,
+  eat-reads.Learnt,
+  state-reads.Asked,
+  state-reads.Learnt,
+  mark-reads.Asked,
+  mark-reads.Learnt,
+  cel-below t,
+  cel.Post,
+  close-reads.Asked,
+  close-reads.Learnt,
+) (sep-at t) sep.Post sep-Inv-loop sep-μ-loop
+sep-same-length-6 t c =
+    c .before .before .before .before .before .eat .kept .1 .1 .1 .1 .1 .0 ∙ c .before .before .before .before .before .before .before .before .before .before .before .before .before .loop .inv .3
+
+sep-returns-2 : (t : ℕ) → sep-lts.Need-returns-2 (
+  at-reads.Asked,
+  at-reads.Learnt,
+  bump-reads.Asked,
+  bump-reads.Learnt,
+  refuse-reads.Asked,
+  refuse-reads.Learnt,
+  eat-reads.Asked,
+  eat-reads.Learnt,
+  state-reads.Asked,
+  state-reads.Learnt,
+  mark-reads.Asked,
+  mark-reads.Learnt,
+  cel-below t,
+  cel.Post,
+  close-reads.Asked,
+  close-reads.Learnt,
+) (sep-at t) sep.Post sep-Inv-loop sep-μ-loop
+unfolding util.endTurn util.endItem plan choose chosen
+sep-returns-2 t c =
+    let inv = c .before .before .before .before .before .before .before .before .before .before .before .before .before .loop .inv .0 in
+    let at = c .before .before .before .before .before .before .before .before .before .before .before .before .at .ensures in
+    let if1 = c .before .before .before .before .before .before .before .before .before .before .before .if1 .left in
+    let if2 = c .before .before .before .before .before .before .before .before .before .before .if2 .taken in
+    let refuse = c .before .before .before .before .before .before .before .before .before .refuse .ensures in
+    let eat = c .before .before .before .before .before .eat .ensures in
+    let state = c .state .ensures in
+    loop-ends (end-turn-advances true _ _ _ _ _ _) inv (in-steps (inv .ok) {n = (c .before .before .before .before .before .before .before .before .before .before .before .before .before .before .before .before .before .before .before .before .args .left)} {b = (c .before .before .before .before .before .before .before .before .before .before .before .before .before .before .before .before .before .before .before .before .args .b)} (s-kind (s-false _ _ (kind-off _ _ _ _ at if1) (s-deep if2 refuse (s-by _ (settled state (runs-always eat)) s-end)))))
+
+sep-mark-requires : (t : ℕ) → sep-lts.Need-mark-requires (
+  at-reads.Asked,
+  at-reads.Learnt,
+  bump-reads.Asked,
+  bump-reads.Learnt,
+  refuse-reads.Asked,
+  refuse-reads.Learnt,
+  eat-reads.Asked,
+  eat-reads.Learnt,
+  state-reads.Asked,
+  state-reads.Learnt,
+  mark-reads.Asked,
+  mark-reads.Learnt,
+  cel-below t,
+  cel.Post,
+  close-reads.Asked,
+  close-reads.Learnt,
+) (sep-at t) sep.Post sep-Inv-loop sep-μ-loop
+sep-mark-requires t c κs =
+    tt
+
+sep-sub-cel : (t : ℕ) → sep-lts.Need-sub-cel (
+  at-reads.Asked,
+  at-reads.Learnt,
+  bump-reads.Asked,
+  bump-reads.Learnt,
+  refuse-reads.Asked,
+  refuse-reads.Learnt,
+  eat-reads.Asked,
+  eat-reads.Learnt,
+  state-reads.Asked,
+  state-reads.Learnt,
+  mark-reads.Asked,
+  mark-reads.Learnt,
+  cel-below t,
+  cel.Post,
+  close-reads.Asked,
+  close-reads.Learnt,
+) (sep-at t) sep.Post sep-Inv-loop sep-μ-loop
+sep-sub-cel t c =
+    let falls = c .before .before .before .before .before .before .before .before .before .before .before .before .before .before .pre .0 in
+    let pre0 = c .before .before .before .before .before .before .before .before .before .before .before .before .before .before .pre .1 .0 in
+    let pre1 = c .before .before .before .before .before .before .before .before .before .before .before .before .before .before .pre .1 .1 in
+    let if1 = c .before .before .before .before .before .if1 .left in
+    let if2 = c .before .before .before .before .if2 .left in
+    search needs
+
+sep-cel-requires : (t : ℕ) → sep-lts.Need-cel-requires (
+  at-reads.Asked,
+  at-reads.Learnt,
+  bump-reads.Asked,
+  bump-reads.Learnt,
+  refuse-reads.Asked,
+  refuse-reads.Learnt,
+  eat-reads.Asked,
+  eat-reads.Learnt,
+  state-reads.Asked,
+  state-reads.Learnt,
+  mark-reads.Asked,
+  mark-reads.Learnt,
+  cel-below t,
+  cel.Post,
+  close-reads.Asked,
+  close-reads.Learnt,
+) (sep-at t) sep.Post sep-Inv-loop sep-μ-loop
+sep-cel-requires t c κs =
+    let falls = c .before .before .before .before .before .before .before .before .before .before .before .before .before .before .pre .0 in
+    let pre1 = c .before .before .before .before .before .before .before .before .before .before .before .before .before .before .pre .1 .1 in
+    let inv = c .before .before .before .before .before .before .before .loop .inv .0 .ok in
+    let if1 = c .before .before .before .before .before .if1 .left in
+    let if2 = c .before .before .before .before .if2 .left in
+    let mark = c .before .before .before .mark .ensures in
+    let mark-ok = ok-marks mark inv in
+    (omega arith, mark-ok)
+
+sep-at-requires-2 : (t : ℕ) → sep-lts.Need-at-requires-2 (
+  at-reads.Asked,
+  at-reads.Learnt,
+  bump-reads.Asked,
+  bump-reads.Learnt,
+  refuse-reads.Asked,
+  refuse-reads.Learnt,
+  eat-reads.Asked,
+  eat-reads.Learnt,
+  state-reads.Asked,
+  state-reads.Learnt,
+  mark-reads.Asked,
+  mark-reads.Learnt,
+  cel-below t,
+  cel.Post,
+  close-reads.Asked,
+  close-reads.Learnt,
+) (sep-at t) sep.Post sep-Inv-loop sep-μ-loop
+sep-at-requires-2 t c κs =
+    let cel = c .before .before .before .before .before .before .cel .ensures in
+    let cel-ok = cel .ok in
+    cel-ok .reads
+
+sep-bump-requires-2 : (t : ℕ) → sep-lts.Need-bump-requires-2 (
+  at-reads.Asked,
+  at-reads.Learnt,
+  bump-reads.Asked,
+  bump-reads.Learnt,
+  refuse-reads.Asked,
+  refuse-reads.Learnt,
+  eat-reads.Asked,
+  eat-reads.Learnt,
+  state-reads.Asked,
+  state-reads.Learnt,
+  mark-reads.Asked,
+  mark-reads.Learnt,
+  cel-below t,
+  cel.Post,
+  close-reads.Asked,
+  close-reads.Learnt,
+) (sep-at t) sep.Post sep-Inv-loop sep-μ-loop
+sep-bump-requires-2 t c κs =
+    let cel = c .before .before .before .before .before .before .before .before .before .cel .ensures in
+    let cel-ok = cel .ok in
+    (cel-ok .reads, cel-ok .logs)
+
+sep-close-requires : (t : ℕ) → sep-lts.Need-close-requires (
+  at-reads.Asked,
+  at-reads.Learnt,
+  bump-reads.Asked,
+  bump-reads.Learnt,
+  refuse-reads.Asked,
+  refuse-reads.Learnt,
+  eat-reads.Asked,
+  eat-reads.Learnt,
+  state-reads.Asked,
+  state-reads.Learnt,
+  mark-reads.Asked,
+  mark-reads.Learnt,
+  cel-below t,
+  cel.Post,
+  close-reads.Asked,
+  close-reads.Learnt,
+) (sep-at t) sep.Post sep-Inv-loop sep-μ-loop
+sep-close-requires t c κs =
+    let inv = c .before .before .before .before .before .before .before .before .before .before .before .before .before .before .before .before .before .before .before .before .before .loop .inv .0 .ok in
+    let mark = c .before .before .before .before .before .before .before .before .before .before .before .before .before .before .before .before .before .mark .ensures in
+    let mark-ok = ok-marks mark inv in
+    let cel = c .before .before .before .before .before .before .before .before .before .before .before .before .before .cel .ensures in
+    let cel-ok = cel .ok in
+    let bump2 = c .before .before .before .bump2 .ensures in
+    let bump2-ok = ok-bumps bump2 cel-ok in
+    (bump2-ok .logs, small-len mark-ok)
+
+sep-loop-less : (t : ℕ) → sep-lts.Need-loop-less (
+  at-reads.Asked,
+  at-reads.Learnt,
+  bump-reads.Asked,
+  bump-reads.Learnt,
+  refuse-reads.Asked,
+  refuse-reads.Learnt,
+  eat-reads.Asked,
+  eat-reads.Learnt,
+  state-reads.Asked,
+  state-reads.Learnt,
+  mark-reads.Asked,
+  mark-reads.Learnt,
+  cel-below t,
+  cel.Post,
+  close-reads.Asked,
+  close-reads.Learnt,
+) (sep-at t) sep.Post sep-Inv-loop sep-μ-loop
+unfolding util.endTurn util.endItem plan choose chosen
+sep-loop-less t c =
+    let inv = c .before .before .before .before .before .before .before .before .before .before .before .before .before .before .before .before .before .before .before .before .before .before .before .before .loop .inv .0 in
+    let at = c .before .before .before .before .before .before .before .before .before .before .before .before .before .before .before .before .before .before .before .before .before .before .before .at .ensures in
+    let if1 = c .before .before .before .before .before .before .before .before .before .before .before .before .before .before .before .before .before .before .before .before .before .before .if1 .left in
+    let if2 = c .before .before .before .before .before .before .before .before .before .before .before .before .before .before .before .before .before .before .before .before .before .if2 .left in
+    let mark = c .before .before .before .before .before .before .before .before .before .before .before .before .before .before .before .before .before .before .before .before .mark .ensures in
+    let cel = c .before .before .before .before .before .before .before .before .before .before .before .before .before .before .before .before .cel .ensures in
+    let at2 = c .before .before .before .before .before .before .before .before .before .at2 .ensures in
+    let if3 = c .before .before .before .before .before .before .before .before .if3 .taken in
+    let bump2 = c .before .before .before .before .before .before .bump2 .ensures in
+    let close = c .before .before .close .ensures in
+    loop-falls {p = (util.endTurn {g = true} ((c .before .before .before .before .before .before .before .before .before .before .before .before .before .before .before .before .before .before .before .before .before .before .before .before .before .before .before .before .before .before .before .args .q) .wrap) ((c .before .before .before .before .before .before .before .before .before .before .before .before .before .before .before .before .before .before .before .before .before .before .before .before .before .before .before .before .before .before .before .args .q) .sep) ((c .before .before .before .before .before .before .before .before .before .before .before .before .before .before .before .before .before .before .before .before .before .before .before .before .before .before .before .before .before .before .before .args .q) .end) (expr.endClosure ((c .before .before .before .before .before .before .before .before .before .before .before .before .before .before .before .before .before .before .before .before .before .before .before .before .before .before .before .before .before .before .before .args .q) .wrap)))} (end-turn-advances true _ _ _ _ _ _) (in-steps (inv .ok) {n = (c .before .before .before .before .before .before .before .before .before .before .before .before .before .before .before .before .before .before .before .before .before .before .before .before .before .before .before .before .before .before .before .args .left)} {b = (c .before .before .before .before .before .before .before .before .before .before .before .before .before .before .before .before .before .before .before .before .before .before .before .before .before .before .before .before .before .before .before .args .b)} (s-kind (s-false _ _ (kind-off _ _ _ _ at if1) (s-mark if2 mark (s-by _ (runs-in cel) (s-kind (s-true _ _ (kind-at _ _ _ _ at2 if3) (s-bump bump2 (s-close close s-end)))))))))
+
+sep-loop-again : (t : ℕ) → sep-lts.Need-loop-again (
+  at-reads.Asked,
+  at-reads.Learnt,
+  bump-reads.Asked,
+  bump-reads.Learnt,
+  refuse-reads.Asked,
+  refuse-reads.Learnt,
+  eat-reads.Asked,
+  eat-reads.Learnt,
+  state-reads.Asked,
+  state-reads.Learnt,
+  mark-reads.Asked,
+  mark-reads.Learnt,
+  cel-below t,
+  cel.Post,
+  close-reads.Asked,
+  close-reads.Learnt,
+) (sep-at t) sep.Post sep-Inv-loop sep-μ-loop
+unfolding util.endTurn util.endItem plan choose chosen
+sep-loop-again t c =
+    let inv = c .before .before .before .before .before .before .before .before .before .before .before .before .before .before .before .before .before .before .before .before .before .before .before .before .loop .inv .0 in
+    let at = c .before .before .before .before .before .before .before .before .before .before .before .before .before .before .before .before .before .before .before .before .before .before .before .at .ensures in
+    let if1 = c .before .before .before .before .before .before .before .before .before .before .before .before .before .before .before .before .before .before .before .before .before .before .if1 .left in
+    let if2 = c .before .before .before .before .before .before .before .before .before .before .before .before .before .before .before .before .before .before .before .before .before .if2 .left in
+    let mark = c .before .before .before .before .before .before .before .before .before .before .before .before .before .before .before .before .before .before .before .before .mark .ensures in
+    let cel = c .before .before .before .before .before .before .before .before .before .before .before .before .before .before .before .before .cel .ensures in
+    let at2 = c .before .before .before .before .before .before .before .before .before .at2 .ensures in
+    let if3 = c .before .before .before .before .before .before .before .before .if3 .taken in
+    let bump2 = c .before .before .before .before .before .before .bump2 .ensures in
+    let close = c .before .before .close .ensures in
+    (loop-goes (end-turn-advances true _ _ _ _ _ _) inv (in-steps (inv .ok) {n = (c .before .before .before .before .before .before .before .before .before .before .before .before .before .before .before .before .before .before .before .before .before .before .before .before .before .before .before .before .before .before .before .args .left)} {b = (c .before .before .before .before .before .before .before .before .before .before .before .before .before .before .before .before .before .before .before .before .before .before .before .before .before .before .before .before .before .before .before .args .b)} (s-kind (s-false _ _ (kind-off _ _ _ _ at if1) (s-mark if2 mark (s-by _ (runs-in cel) (s-kind (s-true _ _ (kind-at _ _ _ _ at2 if3) (s-bump bump2 (s-close close s-end))))))))), c .before .before .before .before .before .before .before .before .before .before .before .before .before .before .before .before .cel .kept .1 .1 .1 .0 ∙ c .before .before .before .before .before .before .before .before .before .before .before .before .before .before .before .before .before .before .before .before .before .before .before .before .loop .inv .1, c .before .before .close .kept .0 ∙ c .before .before .before .before .before .before .bump2 .kept .1 .0 ∙ c .before .before .before .before .before .before .before .before .before .before .before .before .before .before .before .before .cel .kept .1 .1 .1 .1 .0 ∙ c .before .before .before .before .before .before .before .before .before .before .before .before .before .before .before .before .before .before .before .before .before .before .before .before .loop .inv .2, c .before .before .before .before .before .before .before .before .before .before .before .before .before .before .before .before .cel .kept .1 .1 .1 .1 .1 .0 ∙ c .before .before .before .before .before .before .before .before .before .before .before .before .before .before .before .before .before .before .before .before .before .before .before .before .loop .inv .3)
+
+sep-close-requires-2 : (t : ℕ) → sep-lts.Need-close-requires-2 (
+  at-reads.Asked,
+  at-reads.Learnt,
+  bump-reads.Asked,
+  bump-reads.Learnt,
+  refuse-reads.Asked,
+  refuse-reads.Learnt,
+  eat-reads.Asked,
+  eat-reads.Learnt,
+  state-reads.Asked,
+  state-reads.Learnt,
+  mark-reads.Asked,
+  mark-reads.Learnt,
+  cel-below t,
+  cel.Post,
+  close-reads.Asked,
+  close-reads.Learnt,
+) (sep-at t) sep.Post sep-Inv-loop sep-μ-loop
+sep-close-requires-2 t c κs =
+    let inv = c .before .before .before .before .before .before .before .before .before .before .before .before .before .before .before .before .before .loop .inv .0 .ok in
+    let mark = c .before .before .before .before .before .before .before .before .before .before .before .before .before .mark .ensures in
+    let mark-ok = ok-marks mark inv in
+    let cel = c .before .before .before .before .before .before .before .before .before .cel .ensures in
+    let cel-ok = cel .ok in
+    (cel-ok .logs, small-len mark-ok)
+
+sep-eat-requires-2 : (t : ℕ) → sep-lts.Need-eat-requires-2 (
+  at-reads.Asked,
+  at-reads.Learnt,
+  bump-reads.Asked,
+  bump-reads.Learnt,
+  refuse-reads.Asked,
+  refuse-reads.Learnt,
+  eat-reads.Asked,
+  eat-reads.Learnt,
+  state-reads.Asked,
+  state-reads.Learnt,
+  mark-reads.Asked,
+  mark-reads.Learnt,
+  cel-below t,
+  cel.Post,
+  close-reads.Asked,
+  close-reads.Learnt,
+) (sep-at t) sep.Post sep-Inv-loop sep-μ-loop
+sep-eat-requires-2 t c κs =
+    let falls = c .before .before .before .before .before .before .before .before .before .before .before .before .before .before .before .before .before .before .before .before .before .before .before .before .before .before .before .before .before .before .pre .0 in
+    let pre1 = c .before .before .before .before .before .before .before .before .before .before .before .before .before .before .before .before .before .before .before .before .before .before .before .before .before .before .before .before .before .before .pre .1 .1 in
+    let if1 = c .before .before .before .before .before .before .before .before .before .before .before .before .before .before .before .before .before .before .before .before .before .if1 .left in
+    let if2 = c .before .before .before .before .before .before .before .before .before .before .before .before .before .before .before .before .before .before .before .before .if2 .left in
+    let cel = c .before .before .before .before .before .before .before .before .before .before .before .before .before .before .before .cel .ensures in
+    let cel-ok = cel .ok in
+    let if3 = c .before .before .before .before .before .before .before .if3 .left in
+    let close2 = c .before .before .before .before .before .close2 .ensures in
+    let close2-ok = ok-adds close2 cel-ok in
+    (close2-ok, omega arith)
+
+sep-state-requires-2 : (t : ℕ) → sep-lts.Need-state-requires-2 (
+  at-reads.Asked,
+  at-reads.Learnt,
+  bump-reads.Asked,
+  bump-reads.Learnt,
+  refuse-reads.Asked,
+  refuse-reads.Learnt,
+  eat-reads.Asked,
+  eat-reads.Learnt,
+  state-reads.Asked,
+  state-reads.Learnt,
+  mark-reads.Asked,
+  mark-reads.Learnt,
+  cel-below t,
+  cel.Post,
+  close-reads.Asked,
+  close-reads.Learnt,
+) (sep-at t) sep.Post sep-Inv-loop sep-μ-loop
+sep-state-requires-2 t c κs =
+    tt
+
+sep-same-length-7 : (t : ℕ) → sep-lts.Need-same-length-7 (
+  at-reads.Asked,
+  at-reads.Learnt,
+  bump-reads.Asked,
+  bump-reads.Learnt,
+  refuse-reads.Asked,
+  refuse-reads.Learnt,
+  eat-reads.Asked,
+  eat-reads.Learnt,
+  state-reads.Asked,
+  state-reads.Learnt,
+  mark-reads.Asked,
+  mark-reads.Learnt,
+  cel-below t,
+  cel.Post,
+  close-reads.Asked,
+  close-reads.Learnt,
+) (sep-at t) sep.Post sep-Inv-loop sep-μ-loop
+sep-same-length-7 t c =
+    c .before .before .before .before .before .before .before .before .before .before .before .before .before .before .before .before .before .before .before .before .before .cel .kept .1 .1 .1 .0 ∙ c .before .before .before .before .before .before .before .before .before .before .before .before .before .before .before .before .before .before .before .before .before .before .before .before .before .before .before .before .before .loop .inv .1
+
+sep-same-length-8 : (t : ℕ) → sep-lts.Need-same-length-8 (
+  at-reads.Asked,
+  at-reads.Learnt,
+  bump-reads.Asked,
+  bump-reads.Learnt,
+  refuse-reads.Asked,
+  refuse-reads.Learnt,
+  eat-reads.Asked,
+  eat-reads.Learnt,
+  state-reads.Asked,
+  state-reads.Learnt,
+  mark-reads.Asked,
+  mark-reads.Learnt,
+  cel-below t,
+  cel.Post,
+  close-reads.Asked,
+  close-reads.Learnt,
+) (sep-at t) sep.Post sep-Inv-loop sep-μ-loop
+sep-same-length-8 t c =
+    c .before .before .before .before .before .eat2 .kept .1 .1 .1 .1 .0 ∙ c .before .before .before .before .before .before .before .before .before .before .before .close2 .kept .0 ∙ c .before .before .before .before .before .before .before .before .before .before .before .before .before .before .before .before .before .before .before .before .before .cel .kept .1 .1 .1 .1 .0 ∙ c .before .before .before .before .before .before .before .before .before .before .before .before .before .before .before .before .before .before .before .before .before .before .before .before .before .before .before .before .before .loop .inv .2
+
+sep-same-length-9 : (t : ℕ) → sep-lts.Need-same-length-9 (
+  at-reads.Asked,
+  at-reads.Learnt,
+  bump-reads.Asked,
+  bump-reads.Learnt,
+  refuse-reads.Asked,
+  refuse-reads.Learnt,
+  eat-reads.Asked,
+  eat-reads.Learnt,
+  state-reads.Asked,
+  state-reads.Learnt,
+  mark-reads.Asked,
+  mark-reads.Learnt,
+  cel-below t,
+  cel.Post,
+  close-reads.Asked,
+  close-reads.Learnt,
+) (sep-at t) sep.Post sep-Inv-loop sep-μ-loop
+sep-same-length-9 t c =
+    c .before .before .before .before .before .eat2 .kept .1 .1 .1 .1 .1 .0 ∙ c .before .before .before .before .before .before .before .before .before .before .before .before .before .before .before .before .before .before .before .before .before .cel .kept .1 .1 .1 .1 .1 .0 ∙ c .before .before .before .before .before .before .before .before .before .before .before .before .before .before .before .before .before .before .before .before .before .before .before .before .before .before .before .before .before .loop .inv .3
+
+sep-returns-3 : (t : ℕ) → sep-lts.Need-returns-3 (
+  at-reads.Asked,
+  at-reads.Learnt,
+  bump-reads.Asked,
+  bump-reads.Learnt,
+  refuse-reads.Asked,
+  refuse-reads.Learnt,
+  eat-reads.Asked,
+  eat-reads.Learnt,
+  state-reads.Asked,
+  state-reads.Learnt,
+  mark-reads.Asked,
+  mark-reads.Learnt,
+  cel-below t,
+  cel.Post,
+  close-reads.Asked,
+  close-reads.Learnt,
+) (sep-at t) sep.Post sep-Inv-loop sep-μ-loop
+unfolding util.endTurn util.endItem plan choose chosen
+sep-returns-3 t c =
+    let inv = c .before .before .before .before .before .before .before .before .before .before .before .before .before .before .before .before .before .before .before .before .before .before .before .before .before .before .before .before .before .loop .inv .0 in
+    let at = c .before .before .before .before .before .before .before .before .before .before .before .before .before .before .before .before .before .before .before .before .before .before .before .before .before .before .before .before .at .ensures in
+    let if1 = c .before .before .before .before .before .before .before .before .before .before .before .before .before .before .before .before .before .before .before .before .before .before .before .before .before .before .before .if1 .left in
+    let if2 = c .before .before .before .before .before .before .before .before .before .before .before .before .before .before .before .before .before .before .before .before .before .before .before .before .before .before .if2 .left in
+    let mark = c .before .before .before .before .before .before .before .before .before .before .before .before .before .before .before .before .before .before .before .before .before .before .before .before .before .mark .ensures in
+    let cel = c .before .before .before .before .before .before .before .before .before .before .before .before .before .before .before .before .before .before .before .before .before .cel .ensures in
+    let at2 = c .before .before .before .before .before .before .before .before .before .before .before .before .before .before .at2 .ensures in
+    let if3 = c .before .before .before .before .before .before .before .before .before .before .before .before .before .if3 .left in
+    let close2 = c .before .before .before .before .before .before .before .before .before .before .before .close2 .ensures in
+    let eat2 = c .before .before .before .before .before .eat2 .ensures in
+    let state2 = c .state2 .ensures in
+    loop-ends (end-turn-advances true _ _ _ _ _ _) inv (in-steps (inv .ok) {n = (c .before .before .before .before .before .before .before .before .before .before .before .before .before .before .before .before .before .before .before .before .before .before .before .before .before .before .before .before .before .before .before .before .before .before .before .before .args .left)} {b = (c .before .before .before .before .before .before .before .before .before .before .before .before .before .before .before .before .before .before .before .before .before .before .before .before .before .before .before .before .before .before .before .before .before .before .before .before .args .b)} (s-kind (s-false _ _ (kind-off _ _ _ _ at if1) (s-mark if2 mark (s-by _ (runs-in cel) (s-kind (s-false _ _ (kind-off _ _ _ _ at2 if3) (s-close close2 (s-by _ (settled state2 (runs-always eat2)) s-end)))))))))
+
+abbrev seq-Inv-loop : seq-lts.InvT-loop
+seq-Inv-loop text toks env table₀ scratch₀ finds₀ left w e b s1₀ table scratch finds s1 =
+    ((g : Bool) → Loops left b (util.semiTurn {g = g} w (decl.semiClosure w (errOf e))) (mem text toks env table₀ scratch₀ finds₀ s1₀) (mem text toks env table scratch finds s1)) × (length table ≡ length table₀) × (length scratch ≡ length scratch₀) × (length finds ≡ length finds₀)
+
+abbrev seq-μ-loop : seq-lts.MeasureT-loop
+seq-μ-loop text toks env table₀ scratch₀ finds₀ left w e b s1₀ table scratch finds s1 = turns (mem text toks env table scratch finds s1)
+
+seq-loop-holds :
+    (t : ℕ) →
+    seq-lts.Need-loop-holds (sem-below t, sem.Post) (seq-at t) seq.Post seq-Inv-loop seq-μ-loop
+seq-loop-holds t c =
+    let falls = c .before .before .before .before .before .before .pre .0 in
+    let pre0 = c .before .before .before .before .before .before .pre .1 in
+    (λ g. loop-starts pre0, refl, refl, refl)
+
+seq-sem-requires :
+    (t : ℕ) →
+    seq-lts.Need-sem-requires (sem-below t, sem.Post) (seq-at t) seq.Post seq-Inv-loop seq-μ-loop
+seq-sem-requires t c κs =
+    let falls = c .before .before .before .before .before .before .before .before .before .before .pre .0 in
+    let inv = c .before .before .before .loop .inv .0 true .ok in
+    (omega arith, inv)
+
+seq-enum-known-turn :
+    (t : ℕ) →
+    seq-lts.Need-enum-known-turn
+    (sem-below t, sem.Post)
+    (seq-at t)
+    seq.Post
+    seq-Inv-loop
+    seq-μ-loop
+seq-enum-known-turn t c =
+    let falls = c .before .before .before .before .before .before .before .before .before .before .before .before .before .before .before .before .before .before .pre .0 in
+    let pre0 = c .before .before .before .before .before .before .before .before .before .before .before .before .before .before .before .before .before .before .pre .1 in
+    search needs
+
+seq-loop-less :
+    (t : ℕ) →
+    seq-lts.Need-loop-less (sem-below t, sem.Post) (seq-at t) seq.Post seq-Inv-loop seq-μ-loop
+seq-loop-less t c =
+    let sem = rw (c .before .turn .given .1) at (c .before .before .before .before .before .before .before .before .before .sem .ensures) in
+    loop-falls (semi-turn-advances true _ _ _ _) (runs-in {b = 0} (sem true))
+
+seq-loop-again :
+    (t : ℕ) →
+    seq-lts.Need-loop-again (sem-below t, sem.Post) (seq-at t) seq.Post seq-Inv-loop seq-μ-loop
+seq-loop-again t c =
+    let inv = c .before .before .before .before .before .before .before .before .before .before .before .before .before .loop .inv .0 in
+    let sem = rw (c .before .turn .given .1) at (c .before .before .before .before .before .before .before .before .before .sem .ensures) in
+    (λ g. loop-goes (semi-turn-advances g _ _ _ _) (inv g) (runs-in (sem g)), c .before .before .before .before .before .before .before .before .before .sem .kept .1 .1 .1 .0 ∙ c .before .before .before .before .before .before .before .before .before .before .before .before .before .loop .inv .1, c .before .before .before .before .before .before .before .before .before .sem .kept .1 .1 .1 .1 .0 ∙ c .before .before .before .before .before .before .before .before .before .before .before .before .before .loop .inv .2, c .before .before .before .before .before .before .before .before .before .sem .kept .1 .1 .1 .1 .1 .0 ∙ c .before .before .before .before .before .before .before .before .before .before .before .before .before .loop .inv .3)
+
+seq-enum-known-turn-2 :
+    (t : ℕ) →
+    seq-lts.Need-enum-known-turn-2
+    (sem-below t, sem.Post)
+    (seq-at t)
+    seq.Post
+    seq-Inv-loop
+    seq-μ-loop
+seq-enum-known-turn-2 t c =
+    let falls = c .before .before .before .before .before .before .before .before .before .before .before .before .before .before .before .before .before .before .pre .0 in
+    let pre0 = c .before .before .before .before .before .before .before .before .before .before .before .before .before .before .before .before .before .before .pre .1 in
+    search needs
+
+seq-same-length :
+    (t : ℕ) →
+    seq-lts.Need-same-length (sem-below t, sem.Post) (seq-at t) seq.Post seq-Inv-loop seq-μ-loop
+seq-same-length t c =
+    c .before .before .before .before .before .before .before .before .before .sem .kept .1 .1 .1 .0 ∙ c .before .before .before .before .before .before .before .before .before .before .before .before .before .loop .inv .1
+
+seq-same-length-2 :
+    (t : ℕ) →
+    seq-lts.Need-same-length-2 (sem-below t, sem.Post) (seq-at t) seq.Post seq-Inv-loop seq-μ-loop
+seq-same-length-2 t c =
+    c .before .before .before .before .before .before .before .before .before .sem .kept .1 .1 .1 .1 .0 ∙ c .before .before .before .before .before .before .before .before .before .before .before .before .before .loop .inv .2
+
+seq-same-length-3 :
+    (t : ℕ) →
+    seq-lts.Need-same-length-3 (sem-below t, sem.Post) (seq-at t) seq.Post seq-Inv-loop seq-μ-loop
+seq-same-length-3 t c =
+    c .before .before .before .before .before .before .before .before .before .sem .kept .1 .1 .1 .1 .1 .0 ∙ c .before .before .before .before .before .before .before .before .before .before .before .before .before .loop .inv .3
+
+seq-returns :
+    (t : ℕ) →
+    seq-lts.Need-returns (sem-below t, sem.Post) (seq-at t) seq.Post seq-Inv-loop seq-μ-loop
+seq-returns t c =
+    let inv = c .before .before .before .before .before .before .before .before .before .before .before .before .before .loop .inv .0 in
+    let sem = rw (c .before .turn2 .given .1) at (c .before .before .before .before .before .before .before .before .before .sem .ensures) in
+    λ g. loop-ends (semi-turn-advances g _ _ _ _) (inv g) (runs-in (sem g))
+
+sgb-eat-requires : (t : ℕ) → sgb-lts.Need-eat-requires (
+  eat-reads.Asked,
+  eat-reads.Learnt,
+  want-reads.Asked,
+  want-reads.Learnt,
+  sgm-below t,
+  sgm.Post,
+) (sgb-at t) sgb.Post
+sgb-eat-requires t c κs =
+    let falls = c .before .before .before .before .before .before .before .before .before .pre .0 in
+    let pre0 = c .before .before .before .before .before .before .before .before .before .pre .1 in
+    (pre0, omega arith)
+
+sgb-enum-known-name : (t : ℕ) → sgb-lts.Need-enum-known-name (
+  eat-reads.Asked,
+  eat-reads.Learnt,
+  want-reads.Asked,
+  want-reads.Learnt,
+  sgm-below t,
+  sgm.Post,
+) (sgb-at t) sgb.Post
+sgb-enum-known-name t c =
+    let falls = c .before .before .before .before .before .before .before .before .before .before .before .before .before .before .before .pre .0 in
+    let pre0 = c .before .before .before .before .before .before .before .before .before .before .before .before .before .before .before .pre .1 in
+    search needs
+
+sgb-enum-known-name-2 : (t : ℕ) → sgb-lts.Need-enum-known-name-2 (
+  eat-reads.Asked,
+  eat-reads.Learnt,
+  want-reads.Asked,
+  want-reads.Learnt,
+  sgm-below t,
+  sgm.Post,
+) (sgb-at t) sgb.Post
+sgb-enum-known-name-2 t c =
+    let falls = c .before .before .before .before .before .before .before .before .before .before .before .before .before .before .before .pre .0 in
+    let pre0 = c .before .before .before .before .before .before .before .before .before .before .before .before .before .before .before .pre .1 in
+    search needs
+
+sgb-want-requires : (t : ℕ) → sgb-lts.Need-want-requires (
+  eat-reads.Asked,
+  eat-reads.Learnt,
+  want-reads.Asked,
+  want-reads.Learnt,
+  sgm-below t,
+  sgm.Post,
+) (sgb-at t) sgb.Post
+sgb-want-requires t c κs =
+    let falls = c .before .before .before .before .before .before .before .before .before .before .before .before .before .before .before .before .before .before .before .before .pre .0 in
+    let eat = rw (c .before .before .before .before .name2 .given .1) at (c .before .before .before .before .before .before .before .before .before .before .eat .ensures) in
+    let eat-ok = eat .ok in
+    (eat-ok, omega arith)
+
+sgb-sgm-requires : (t : ℕ) → sgb-lts.Need-sgm-requires (
+  eat-reads.Asked,
+  eat-reads.Learnt,
+  want-reads.Asked,
+  want-reads.Learnt,
+  sgm-below t,
+  sgm.Post,
+) (sgb-at t) sgb.Post
+sgb-sgm-requires t c κs =
+    let falls = c .before .before .before .before .before .before .before .before .before .before .before .before .before .before .before .before .before .before .before .before .before .before .before .before .before .before .before .before .pre .0 in
+    let want = c .before .before .before .before .before .before .before .want .ensures in
+    let want-ok = want .ok in
+    (omega arith, want-ok)
+
+sgb-same-length : (t : ℕ) → sgb-lts.Need-same-length (
+  eat-reads.Asked,
+  eat-reads.Learnt,
+  want-reads.Asked,
+  want-reads.Learnt,
+  sgm-below t,
+  sgm.Post,
+) (sgb-at t) sgb.Post
+sgb-same-length t c =
+    refl
+
+sgb-same-length-2 : (t : ℕ) → sgb-lts.Need-same-length-2 (
+  eat-reads.Asked,
+  eat-reads.Learnt,
+  want-reads.Asked,
+  want-reads.Learnt,
+  sgm-below t,
+  sgm.Post,
+) (sgb-at t) sgb.Post
+sgb-same-length-2 t c =
+    c .before .before .before .before .before .before .before .eat .kept .1 .1 .1 .1 .0
+
+sgb-same-length-3 : (t : ℕ) → sgb-lts.Need-same-length-3 (
+  eat-reads.Asked,
+  eat-reads.Learnt,
+  want-reads.Asked,
+  want-reads.Learnt,
+  sgm-below t,
+  sgm.Post,
+) (sgb-at t) sgb.Post
+sgb-same-length-3 t c =
+    c .before .before .before .before .before .before .before .eat .kept .1 .1 .1 .1 .1 .0
+
+sgb-returns : (t : ℕ) → sgb-lts.Need-returns (
+  eat-reads.Asked,
+  eat-reads.Learnt,
+  want-reads.Asked,
+  want-reads.Learnt,
+  sgm-below t,
+  sgm.Post,
+) (sgb-at t) sgb.Post
+unfolding decl.sigBind plan choose chosen
+sgb-returns t c =
+    let falls = c .before .before .before .before .before .before .before .before .before .before .before .before .before .before .before .before .before .pre .0 in
+    let pre0 = c .before .before .before .before .before .before .before .before .before .before .before .before .before .before .before .before .before .pre .1 in
+    let eat = rw (c .before .name .given .1) at (c .before .before .before .before .before .before .before .eat .ensures) in
+    by-steps pre0 (λ b. s-by _ (runs-always eat) s-end)
+
+sgb-same-length-4 : (t : ℕ) → sgb-lts.Need-same-length-4 (
+  eat-reads.Asked,
+  eat-reads.Learnt,
+  want-reads.Asked,
+  want-reads.Learnt,
+  sgm-below t,
+  sgm.Post,
+) (sgb-at t) sgb.Post
+sgb-same-length-4 t c =
+    c .before .before .before .before .before .before .sgm .kept .1 .1 .1 .0
+
+sgb-same-length-5 : (t : ℕ) → sgb-lts.Need-same-length-5 (
+  eat-reads.Asked,
+  eat-reads.Learnt,
+  want-reads.Asked,
+  want-reads.Learnt,
+  sgm-below t,
+  sgm.Post,
+) (sgb-at t) sgb.Post
+sgb-same-length-5 t c =
+    c .before .before .before .before .before .before .sgm .kept .1 .1 .1 .1 .0 ∙ c .before .before .before .before .before .before .before .before .before .before .before .before .before .before .want .kept .1 .1 .1 .1 .0 ∙ c .before .before .before .before .before .before .before .before .before .before .before .before .before .before .before .before .before .before .before .before .before .before .before .before .before .eat .kept .1 .1 .1 .1 .0
+
+sgb-same-length-6 : (t : ℕ) → sgb-lts.Need-same-length-6 (
+  eat-reads.Asked,
+  eat-reads.Learnt,
+  want-reads.Asked,
+  want-reads.Learnt,
+  sgm-below t,
+  sgm.Post,
+) (sgb-at t) sgb.Post
+sgb-same-length-6 t c =
+    c .before .before .before .before .before .before .sgm .kept .1 .1 .1 .1 .1 .0 ∙ c .before .before .before .before .before .before .before .before .before .before .before .before .before .before .want .kept .1 .1 .1 .1 .1 .0 ∙ c .before .before .before .before .before .before .before .before .before .before .before .before .before .before .before .before .before .before .before .before .before .before .before .before .before .eat .kept .1 .1 .1 .1 .1 .0
+
+sgb-returns-2 : (t : ℕ) → sgb-lts.Need-returns-2 (
+  eat-reads.Asked,
+  eat-reads.Learnt,
+  want-reads.Asked,
+  want-reads.Learnt,
+  sgm-below t,
+  sgm.Post,
+) (sgb-at t) sgb.Post
+unfolding decl.sigBind plan choose chosen
+sgb-returns-2 t c =
+    let falls = c .before .before .before .before .before .before .before .before .before .before .before .before .before .before .before .before .before .before .before .before .before .before .before .before .before .before .before .before .before .before .before .before .before .before .before .pre .0 in
+    let pre0 = c .before .before .before .before .before .before .before .before .before .before .before .before .before .before .before .before .before .before .before .before .before .before .before .before .before .before .before .before .before .before .before .before .before .before .before .pre .1 in
+    let eat = rw (c .before .before .before .before .before .before .before .before .before .before .before .before .before .before .before .before .before .before .before .name2 .given .1) at (c .before .before .before .before .before .before .before .before .before .before .before .before .before .before .before .before .before .before .before .before .before .before .before .before .before .eat .ensures) in
+    let want = c .before .before .before .before .before .before .before .before .before .before .before .before .before .before .want .ensures in
+    let sgm = c .before .before .before .before .before .before .sgm .ensures in
+    by-steps pre0 (λ b. s-by _ (runs-always eat) (s-by _ (runs-always want) (s-by _ (runs-in sgm) s-end)))
+
+sgm-sgx-requires : (t : ℕ) → sgm-lts.Need-sgx-requires (
+  sgx-below t,
+  sgx.Post,
+  report-reads.Asked,
+  report-reads.Learnt,
+) (sgm-at t) sgm.Post
+sgm-sgx-requires t c κs =
+    let falls = c .before .before .before .before .before .before .before .before .before .pre .0 in
+    let pre0 = c .before .before .before .before .before .before .before .before .before .pre .1 in
+    (omega arith, pre0)
+
+sgm-enum-known-got : (t : ℕ) → sgm-lts.Need-enum-known-got (
+  sgx-below t,
+  sgx.Post,
+  report-reads.Asked,
+  report-reads.Learnt,
+) (sgm-at t) sgm.Post
+sgm-enum-known-got t c =
+    let falls = c .before .before .before .before .before .before .before .before .before .before .before .before .before .before .before .before .before .pre .0 in
+    let pre0 = c .before .before .before .before .before .before .before .before .before .before .before .before .before .before .before .before .before .pre .1 in
+    search needs
+
+sgm-enum-known-got-2 : (t : ℕ) → sgm-lts.Need-enum-known-got-2 (
+  sgx-below t,
+  sgx.Post,
+  report-reads.Asked,
+  report-reads.Learnt,
+) (sgm-at t) sgm.Post
+sgm-enum-known-got-2 t c =
+    let falls = c .before .before .before .before .before .before .before .before .before .before .before .before .before .before .before .before .before .pre .0 in
+    let pre0 = c .before .before .before .before .before .before .before .before .before .before .before .before .before .before .before .before .before .pre .1 in
+    search needs
+
+sgm-report-requires : (t : ℕ) → sgm-lts.Need-report-requires (
+  sgx-below t,
+  sgx.Post,
+  report-reads.Asked,
+  report-reads.Learnt,
+) (sgm-at t) sgm.Post
+sgm-report-requires t c κs =
+    let falls = c .before .before .before .before .before .before .before .before .before .before .before .before .before .before .before .before .before .before .before .before .pre .0 in
+    let sgx = rw (c .before .before .got2 .given .1) at (c .before .before .before .before .before .before .before .before .before .before .sgx .ensures) in
+    let sgx-ok = sgx .ok in
+    (sgx-ok .holds, (let few = sgx-ok .reads .few in let inside = sgx-ok .reads .inside in omega arith), omega arith)
+
+sgm-same-length : (t : ℕ) → sgm-lts.Need-same-length (
+  sgx-below t,
+  sgx.Post,
+  report-reads.Asked,
+  report-reads.Learnt,
+) (sgm-at t) sgm.Post
+sgm-same-length t c =
+    c .before .before .before .before .before .before .before .before .before .sgx .kept .1 .1 .1 .0
+
+sgm-same-length-2 : (t : ℕ) → sgm-lts.Need-same-length-2 (
+  sgx-below t,
+  sgx.Post,
+  report-reads.Asked,
+  report-reads.Learnt,
+) (sgm-at t) sgm.Post
+sgm-same-length-2 t c =
+    c .before .before .before .before .before .before .before .before .before .sgx .kept .1 .1 .1 .1 .0
+
+sgm-same-length-3 : (t : ℕ) → sgm-lts.Need-same-length-3 (
+  sgx-below t,
+  sgx.Post,
+  report-reads.Asked,
+  report-reads.Learnt,
+) (sgm-at t) sgm.Post
+sgm-same-length-3 t c =
+    c .before .before .before .before .before .before .before .before .before .sgx .kept .1 .1 .1 .1 .1 .0
+
+sgm-returns : (t : ℕ) → sgm-lts.Need-returns (
+  sgx-below t,
+  sgx.Post,
+  report-reads.Asked,
+  report-reads.Learnt,
+) (sgm-at t) sgm.Post
+unfolding decl.sigMust plan choose chosen
+sgm-returns t c =
+    let falls = c .before .before .before .before .before .before .before .before .before .before .before .before .before .before .before .before .before .before .before .pre .0 in
+    let pre0 = c .before .before .before .before .before .before .before .before .before .before .before .before .before .before .before .before .before .before .before .pre .1 in
+    let sgx = rw (c .before .got .given .1) at (c .before .before .before .before .before .before .before .before .before .sgx .ensures) in
+    by-steps pre0 (λ b. s-run (runs-in sgx) s-end)
+
+sgm-same-length-4 : (t : ℕ) → sgm-lts.Need-same-length-4 (
+  sgx-below t,
+  sgx.Post,
+  report-reads.Asked,
+  report-reads.Learnt,
+) (sgm-at t) sgm.Post
+sgm-same-length-4 t c =
+    c .before .before .before .before .before .before .before .before .before .before .before .before .before .sgx .kept .1 .1 .1 .0
+
+sgm-same-length-5 : (t : ℕ) → sgm-lts.Need-same-length-5 (
+  sgx-below t,
+  sgx.Post,
+  report-reads.Asked,
+  report-reads.Learnt,
+) (sgm-at t) sgm.Post
+sgm-same-length-5 t c =
+    c .before .before .before .before .before .before .before .before .before .before .before .before .before .sgx .kept .1 .1 .1 .1 .0
+
+sgm-same-length-6 : (t : ℕ) → sgm-lts.Need-same-length-6 (
+  sgx-below t,
+  sgx.Post,
+  report-reads.Asked,
+  report-reads.Learnt,
+) (sgm-at t) sgm.Post
+sgm-same-length-6 t c =
+    c .before .before .report .kept .0 ∙ c .before .before .before .before .before .before .before .before .before .before .before .before .before .sgx .kept .1 .1 .1 .1 .1 .0
+
+sgm-returns-2 : (t : ℕ) → sgm-lts.Need-returns-2 (
+  sgx-below t,
+  sgx.Post,
+  report-reads.Asked,
+  report-reads.Learnt,
+) (sgm-at t) sgm.Post
+unfolding decl.sigMust plan choose chosen
+sgm-returns-2 t c =
+    let falls = c .before .before .before .before .before .before .before .before .before .before .before .before .before .before .before .before .before .before .before .before .before .before .before .pre .0 in
+    let pre0 = c .before .before .before .before .before .before .before .before .before .before .before .before .before .before .before .before .before .before .before .before .before .before .before .pre .1 in
+    let sgx = rw (c .before .before .before .before .before .got2 .given .1) at (c .before .before .before .before .before .before .before .before .before .before .before .before .before .sgx .ensures) in
+    let report = c .before .before .report .ensures in
+    by-steps pre0 (λ b. s-run (runs-in sgx) (s-report report s-end))
+
+sgx-peek-requires : (t : ℕ) → sgx-lts.Need-peek-requires (
+  peek-reads.Asked,
+  peek-reads.Learnt,
+  refuse-reads.Asked,
+  refuse-reads.Learnt,
+  mark-reads.Asked,
+  mark-reads.Learnt,
+  bump-reads.Asked,
+  bump-reads.Learnt,
+  dec-below t,
+  dec.Post,
+  state-reads.Asked,
+  state-reads.Learnt,
+  give-back-reads.Asked,
+  give-back-reads.Learnt,
+  want-reads.Asked,
+  want-reads.Learnt,
+  close-reads.Asked,
+  close-reads.Learnt,
+  wheres-reads.Asked,
+  wheres-reads.Learnt,
+) (sgx-at t) sgx.Post
+sgx-peek-requires t c κs =
+    let pre0 = c .before .before .before .before .before .before .pre .1 in
+    pre0 .reads
+
+sgx-enum-known-k : (t : ℕ) → sgx-lts.Need-enum-known-k (
+  peek-reads.Asked,
+  peek-reads.Learnt,
+  refuse-reads.Asked,
+  refuse-reads.Learnt,
+  mark-reads.Asked,
+  mark-reads.Learnt,
+  bump-reads.Asked,
+  bump-reads.Learnt,
+  dec-below t,
+  dec.Post,
+  state-reads.Asked,
+  state-reads.Learnt,
+  give-back-reads.Asked,
+  give-back-reads.Learnt,
+  want-reads.Asked,
+  want-reads.Learnt,
+  close-reads.Asked,
+  close-reads.Learnt,
+  wheres-reads.Asked,
+  wheres-reads.Learnt,
+) (sgx-at t) sgx.Post
+sgx-enum-known-k t c =
+    let falls = c .before .before .before .before .before .before .before .before .pre .0 in
+    let pre0 = c .before .before .before .before .before .before .before .before .pre .1 in
+    search needs
+
+sgx-enum-told : (t : ℕ) → sgx-lts.Need-enum-told (
+  peek-reads.Asked,
+  peek-reads.Learnt,
+  refuse-reads.Asked,
+  refuse-reads.Learnt,
+  mark-reads.Asked,
+  mark-reads.Learnt,
+  bump-reads.Asked,
+  bump-reads.Learnt,
+  dec-below t,
+  dec.Post,
+  state-reads.Asked,
+  state-reads.Learnt,
+  give-back-reads.Asked,
+  give-back-reads.Learnt,
+  want-reads.Asked,
+  want-reads.Learnt,
+  close-reads.Asked,
+  close-reads.Learnt,
+  wheres-reads.Asked,
+  wheres-reads.Learnt,
+) (sgx-at t) sgx.Post
+sgx-enum-told t c =
+    let falls = c .before .before .before .before .before .before .before .before .pre .0 in
+    let pre0 = c .before .before .before .before .before .before .before .before .pre .1 in
+    search needs
+
+sgx-returns : (t : ℕ) → sgx-lts.Need-returns (
+  peek-reads.Asked,
+  peek-reads.Learnt,
+  refuse-reads.Asked,
+  refuse-reads.Learnt,
+  mark-reads.Asked,
+  mark-reads.Learnt,
+  bump-reads.Asked,
+  bump-reads.Learnt,
+  dec-below t,
+  dec.Post,
+  state-reads.Asked,
+  state-reads.Learnt,
+  give-back-reads.Asked,
+  give-back-reads.Learnt,
+  want-reads.Asked,
+  want-reads.Learnt,
+  close-reads.Asked,
+  close-reads.Learnt,
+  wheres-reads.Asked,
+  wheres-reads.Learnt,
+) (sgx-at t) sgx.Post
+unfolding root.body decl.sigScope decl.sigHead plan choose chosen
+sgx-returns t c =
+    let falls = c .before .before .before .before .before .before .before .before .before .pre .0 in
+    let pre0 = c .before .before .before .before .before .before .before .before .before .pre .1 in
+    let peek = rw (c .enum-told .given .1) at (c .before .before .peek .ensures) in
+    by-steps pre0 (λ b. s-rule (s-look peek s-end))
+
+sgx-refuse-requires : (t : ℕ) → sgx-lts.Need-refuse-requires (
+  peek-reads.Asked,
+  peek-reads.Learnt,
+  refuse-reads.Asked,
+  refuse-reads.Learnt,
+  mark-reads.Asked,
+  mark-reads.Learnt,
+  bump-reads.Asked,
+  bump-reads.Learnt,
+  dec-below t,
+  dec.Post,
+  state-reads.Asked,
+  state-reads.Learnt,
+  give-back-reads.Asked,
+  give-back-reads.Learnt,
+  want-reads.Asked,
+  want-reads.Learnt,
+  close-reads.Asked,
+  close-reads.Learnt,
+  wheres-reads.Asked,
+  wheres-reads.Learnt,
+) (sgx-at t) sgx.Post
+sgx-refuse-requires t c κs =
+    tt
+
+sgx-returns-2 : (t : ℕ) → sgx-lts.Need-returns-2 (
+  peek-reads.Asked,
+  peek-reads.Learnt,
+  refuse-reads.Asked,
+  refuse-reads.Learnt,
+  mark-reads.Asked,
+  mark-reads.Learnt,
+  bump-reads.Asked,
+  bump-reads.Learnt,
+  dec-below t,
+  dec.Post,
+  state-reads.Asked,
+  state-reads.Learnt,
+  give-back-reads.Asked,
+  give-back-reads.Learnt,
+  want-reads.Asked,
+  want-reads.Learnt,
+  close-reads.Asked,
+  close-reads.Learnt,
+  wheres-reads.Asked,
+  wheres-reads.Learnt,
+) (sgx-at t) sgx.Post
+unfolding root.body decl.sigScope decl.sigHead plan choose chosen
+sgx-returns-2 t c =
+    let falls = c .before .before .before .before .before .before .before .before .before .before .before .before .pre .0 in
+    let pre0 = c .before .before .before .before .before .before .before .before .before .before .before .before .pre .1 in
+    let peek = rw (c .before .before .before .k .given .1) at (c .before .before .before .before .before .peek .ensures) in
+    let if1 = c .before .if1 .taken in
+    let refuse = c .refuse .ensures in
+    by-steps pre0 (λ b. s-rule (s-look peek (s-deep if1 refuse s-end)))
+
+sgx-mark-requires : (t : ℕ) → sgx-lts.Need-mark-requires (
+  peek-reads.Asked,
+  peek-reads.Learnt,
+  refuse-reads.Asked,
+  refuse-reads.Learnt,
+  mark-reads.Asked,
+  mark-reads.Learnt,
+  bump-reads.Asked,
+  bump-reads.Learnt,
+  dec-below t,
+  dec.Post,
+  state-reads.Asked,
+  state-reads.Learnt,
+  give-back-reads.Asked,
+  give-back-reads.Learnt,
+  want-reads.Asked,
+  want-reads.Learnt,
+  close-reads.Asked,
+  close-reads.Learnt,
+  wheres-reads.Asked,
+  wheres-reads.Learnt,
+) (sgx-at t) sgx.Post
+sgx-mark-requires t c κs =
+    tt
+
+sgx-bump-requires : (t : ℕ) → sgx-lts.Need-bump-requires (
+  peek-reads.Asked,
+  peek-reads.Learnt,
+  refuse-reads.Asked,
+  refuse-reads.Learnt,
+  mark-reads.Asked,
+  mark-reads.Learnt,
+  bump-reads.Asked,
+  bump-reads.Learnt,
+  dec-below t,
+  dec.Post,
+  state-reads.Asked,
+  state-reads.Learnt,
+  give-back-reads.Asked,
+  give-back-reads.Learnt,
+  want-reads.Asked,
+  want-reads.Learnt,
+  close-reads.Asked,
+  close-reads.Learnt,
+  wheres-reads.Asked,
+  wheres-reads.Learnt,
+) (sgx-at t) sgx.Post
+sgx-bump-requires t c κs =
+    let pre0 = c .before .before .before .before .before .before .before .before .before .before .before .before .before .before .pre .1 in
+    let mark = c .before .before .mark .ensures in
+    let mark-ok = ok-marks mark pre0 in
+    (mark-ok .reads, mark-ok .logs)
+
+sgx-sub-dec : (t : ℕ) → sgx-lts.Need-sub-dec (
+  peek-reads.Asked,
+  peek-reads.Learnt,
+  refuse-reads.Asked,
+  refuse-reads.Learnt,
+  mark-reads.Asked,
+  mark-reads.Learnt,
+  bump-reads.Asked,
+  bump-reads.Learnt,
+  dec-below t,
+  dec.Post,
+  state-reads.Asked,
+  state-reads.Learnt,
+  give-back-reads.Asked,
+  give-back-reads.Learnt,
+  want-reads.Asked,
+  want-reads.Learnt,
+  close-reads.Asked,
+  close-reads.Learnt,
+  wheres-reads.Asked,
+  wheres-reads.Learnt,
+) (sgx-at t) sgx.Post
+sgx-sub-dec t c =
+    let falls = c .before .before .before .before .before .before .before .before .before .before .before .before .before .before .before .before .before .before .before .before .pre .0 in
+    let pre0 = c .before .before .before .before .before .before .before .before .before .before .before .before .before .before .before .before .before .before .before .before .pre .1 in
+    let if1 = c .before .before .before .before .before .before .before .before .before .if1 .left in
+    let if2 = c .before .before .before .before .before .before .before .if2 .taken in
+    search needs
+
+sgx-dec-requires : (t : ℕ) → sgx-lts.Need-dec-requires (
+  peek-reads.Asked,
+  peek-reads.Learnt,
+  refuse-reads.Asked,
+  refuse-reads.Learnt,
+  mark-reads.Asked,
+  mark-reads.Learnt,
+  bump-reads.Asked,
+  bump-reads.Learnt,
+  dec-below t,
+  dec.Post,
+  state-reads.Asked,
+  state-reads.Learnt,
+  give-back-reads.Asked,
+  give-back-reads.Learnt,
+  want-reads.Asked,
+  want-reads.Learnt,
+  close-reads.Asked,
+  close-reads.Learnt,
+  wheres-reads.Asked,
+  wheres-reads.Learnt,
+) (sgx-at t) sgx.Post
+sgx-dec-requires t c κs =
+    let falls = c .before .before .before .before .before .before .before .before .before .before .before .before .before .before .before .before .before .before .before .before .pre .0 in
+    let pre0 = c .before .before .before .before .before .before .before .before .before .before .before .before .before .before .before .before .before .before .before .before .pre .1 in
+    let if1 = c .before .before .before .before .before .before .before .before .before .if1 .left in
+    let mark = c .before .before .before .before .before .before .before .before .mark .ensures in
+    let mark-ok = ok-marks mark pre0 in
+    let if2 = c .before .before .before .before .before .before .before .if2 .taken in
+    let bump = c .before .before .before .before .before .bump .ensures in
+    let bump-ok = ok-bumps bump mark-ok in
+    (omega arith, bump-ok)
+
+sgx-state-requires : (t : ℕ) → sgx-lts.Need-state-requires (
+  peek-reads.Asked,
+  peek-reads.Learnt,
+  refuse-reads.Asked,
+  refuse-reads.Learnt,
+  mark-reads.Asked,
+  mark-reads.Learnt,
+  bump-reads.Asked,
+  bump-reads.Learnt,
+  dec-below t,
+  dec.Post,
+  state-reads.Asked,
+  state-reads.Learnt,
+  give-back-reads.Asked,
+  give-back-reads.Learnt,
+  want-reads.Asked,
+  want-reads.Learnt,
+  close-reads.Asked,
+  close-reads.Learnt,
+  wheres-reads.Asked,
+  wheres-reads.Learnt,
+) (sgx-at t) sgx.Post
+sgx-state-requires t c κs =
+    tt
+
+sgx-give-back-requires : (t : ℕ) → sgx-lts.Need-give-back-requires (
+  peek-reads.Asked,
+  peek-reads.Learnt,
+  refuse-reads.Asked,
+  refuse-reads.Learnt,
+  mark-reads.Asked,
+  mark-reads.Learnt,
+  bump-reads.Asked,
+  bump-reads.Learnt,
+  dec-below t,
+  dec.Post,
+  state-reads.Asked,
+  state-reads.Learnt,
+  give-back-reads.Asked,
+  give-back-reads.Learnt,
+  want-reads.Asked,
+  want-reads.Learnt,
+  close-reads.Asked,
+  close-reads.Learnt,
+  wheres-reads.Asked,
+  wheres-reads.Learnt,
+) (sgx-at t) sgx.Post
+sgx-give-back-requires t c κs =
+    tt
+
+sgx-want-requires : (t : ℕ) → sgx-lts.Need-want-requires (
+  peek-reads.Asked,
+  peek-reads.Learnt,
+  refuse-reads.Asked,
+  refuse-reads.Learnt,
+  mark-reads.Asked,
+  mark-reads.Learnt,
+  bump-reads.Asked,
+  bump-reads.Learnt,
+  dec-below t,
+  dec.Post,
+  state-reads.Asked,
+  state-reads.Learnt,
+  give-back-reads.Asked,
+  give-back-reads.Learnt,
+  want-reads.Asked,
+  want-reads.Learnt,
+  close-reads.Asked,
+  close-reads.Learnt,
+  wheres-reads.Asked,
+  wheres-reads.Learnt,
+) (sgx-at t) sgx.Post
+sgx-want-requires t c κs =
+    let falls = c .before .before .before .before .before .before .before .before .before .before .before .before .before .before .before .before .before .before .before .before .before .before .before .before .before .before .before .before .before .before .before .before .pre .0 in
+    let pre0 = c .before .before .before .before .before .before .before .before .before .before .before .before .before .before .before .before .before .before .before .before .before .before .before .before .before .before .before .before .before .before .before .before .pre .1 in
+    let if1 = c .before .before .before .before .before .before .before .before .before .before .before .before .before .before .before .before .before .before .before .before .before .if1 .left in
+    let mark = c .before .before .before .before .before .before .before .before .before .before .before .before .before .before .before .before .before .before .before .before .mark .ensures in
+    let mark-ok = ok-marks mark pre0 in
+    let if2 = c .before .before .before .before .before .before .before .before .before .before .before .before .before .before .before .before .before .before .before .if2 .taken in
+    let bump = c .before .before .before .before .before .before .before .before .before .before .before .before .before .before .before .before .before .bump .ensures in
+    let bump-ok = ok-bumps bump mark-ok in
+    let dec = c .before .before .before .before .before .before .before .before .before .before .before .dec .ensures in
+    let state = c .before .before .before .before .state .ensures in
+    let give-back = c .before .before .before .give-back .ensures in
+    let give-back-ok = ok-back (settled state (runs-in {b = 0} dec)) give-back bump-ok in
+    (give-back-ok, omega arith)
+
+sgx-close-requires : (t : ℕ) → sgx-lts.Need-close-requires (
+  peek-reads.Asked,
+  peek-reads.Learnt,
+  refuse-reads.Asked,
+  refuse-reads.Learnt,
+  mark-reads.Asked,
+  mark-reads.Learnt,
+  bump-reads.Asked,
+  bump-reads.Learnt,
+  dec-below t,
+  dec.Post,
+  state-reads.Asked,
+  state-reads.Learnt,
+  give-back-reads.Asked,
+  give-back-reads.Learnt,
+  want-reads.Asked,
+  want-reads.Learnt,
+  close-reads.Asked,
+  close-reads.Learnt,
+  wheres-reads.Asked,
+  wheres-reads.Learnt,
+) (sgx-at t) sgx.Post
+sgx-close-requires t c κs =
+    let pre0 = c .before .before .before .before .before .before .before .before .before .before .before .before .before .before .before .before .before .before .before .before .before .before .before .before .before .before .before .before .before .before .before .before .before .before .before .before .before .before .pre .1 in
+    let want = c .before .before .before .before .before .want .ensures in
+    let want-ok = want .ok in
+    (want-ok .logs, small-len pre0)
+
+sgx-wheres-requires : (t : ℕ) → sgx-lts.Need-wheres-requires (
+  peek-reads.Asked,
+  peek-reads.Learnt,
+  refuse-reads.Asked,
+  refuse-reads.Learnt,
+  mark-reads.Asked,
+  mark-reads.Learnt,
+  bump-reads.Asked,
+  bump-reads.Learnt,
+  dec-below t,
+  dec.Post,
+  state-reads.Asked,
+  state-reads.Learnt,
+  give-back-reads.Asked,
+  give-back-reads.Learnt,
+  want-reads.Asked,
+  want-reads.Learnt,
+  close-reads.Asked,
+  close-reads.Learnt,
+  wheres-reads.Asked,
+  wheres-reads.Learnt,
+) (sgx-at t) sgx.Post
+sgx-wheres-requires t c κs =
+    let pre0 = c .before .before .before .before .before .before .before .before .before .before .before .before .before .before .before .before .before .before .before .before .before .before .before .before .before .before .before .before .before .before .before .before .before .before .before .before .before .before .before .before .before .before .before .before .pre .1 in
+    let want = c .before .before .before .before .before .before .before .before .before .before .before .want .ensures in
+    let want-ok = want .ok in
+    let close = c .before .before .before .before .before .close .ensures in
+    let close-ok = ok-adds close want-ok in
+    (close-ok, small-len pre0)
+
+sgx-same-length : (t : ℕ) → sgx-lts.Need-same-length (
+  peek-reads.Asked,
+  peek-reads.Learnt,
+  refuse-reads.Asked,
+  refuse-reads.Learnt,
+  mark-reads.Asked,
+  mark-reads.Learnt,
+  bump-reads.Asked,
+  bump-reads.Learnt,
+  dec-below t,
+  dec.Post,
+  state-reads.Asked,
+  state-reads.Learnt,
+  give-back-reads.Asked,
+  give-back-reads.Learnt,
+  want-reads.Asked,
+  want-reads.Learnt,
+  close-reads.Asked,
+  close-reads.Learnt,
+  wheres-reads.Asked,
+  wheres-reads.Learnt,
+) (sgx-at t) sgx.Post
+sgx-same-length t c =
+    c .before .before .before .before .before .before .before .before .before .before .before .before .before .before .before .before .before .before .before .before .before .before .before .before .before .before .before .before .dec .kept .1 .1 .1 .0
+
+sgx-same-length-2 : (t : ℕ) → sgx-lts.Need-same-length-2 (
+  peek-reads.Asked,
+  peek-reads.Learnt,
+  refuse-reads.Asked,
+  refuse-reads.Learnt,
+  mark-reads.Asked,
+  mark-reads.Learnt,
+  bump-reads.Asked,
+  bump-reads.Learnt,
+  dec-below t,
+  dec.Post,
+  state-reads.Asked,
+  state-reads.Learnt,
+  give-back-reads.Asked,
+  give-back-reads.Learnt,
+  want-reads.Asked,
+  want-reads.Learnt,
+  close-reads.Asked,
+  close-reads.Learnt,
+  wheres-reads.Asked,
+  wheres-reads.Learnt,
+) (sgx-at t) sgx.Post
+sgx-same-length-2 t c =
+    c .before .before .before .before .wheres .kept .1 .1 .1 .1 .0 ∙ c .before .before .before .before .before .before .before .before .before .before .close .kept .0 ∙ c .before .before .before .before .before .before .before .before .before .before .before .before .before .before .before .before .want .kept .1 .1 .1 .1 .0 ∙ c .before .before .before .before .before .before .before .before .before .before .before .before .before .before .before .before .before .before .before .before .before .before .before .before .before .before .before .before .dec .kept .1 .1 .1 .1 .0 ∙ c .before .before .before .before .before .before .before .before .before .before .before .before .before .before .before .before .before .before .before .before .before .before .before .before .before .before .before .before .before .before .before .before .before .before .bump .kept .1 .0
+
+sgx-same-length-3 : (t : ℕ) → sgx-lts.Need-same-length-3 (
+  peek-reads.Asked,
+  peek-reads.Learnt,
+  refuse-reads.Asked,
+  refuse-reads.Learnt,
+  mark-reads.Asked,
+  mark-reads.Learnt,
+  bump-reads.Asked,
+  bump-reads.Learnt,
+  dec-below t,
+  dec.Post,
+  state-reads.Asked,
+  state-reads.Learnt,
+  give-back-reads.Asked,
+  give-back-reads.Learnt,
+  want-reads.Asked,
+  want-reads.Learnt,
+  close-reads.Asked,
+  close-reads.Learnt,
+  wheres-reads.Asked,
+  wheres-reads.Learnt,
+) (sgx-at t) sgx.Post
+sgx-same-length-3 t c =
+    c .before .before .before .before .wheres .kept .1 .1 .1 .1 .1 .0 ∙ c .before .before .before .before .before .before .before .before .before .before .before .before .before .before .before .before .want .kept .1 .1 .1 .1 .1 .0 ∙ c .before .before .before .before .before .before .before .before .before .before .before .before .before .before .before .before .before .before .before .before .before .before .before .before .before .before .before .before .dec .kept .1 .1 .1 .1 .1 .0
+
+sgx-returns-3 : (t : ℕ) → sgx-lts.Need-returns-3 (
+  peek-reads.Asked,
+  peek-reads.Learnt,
+  refuse-reads.Asked,
+  refuse-reads.Learnt,
+  mark-reads.Asked,
+  mark-reads.Learnt,
+  bump-reads.Asked,
+  bump-reads.Learnt,
+  dec-below t,
+  dec.Post,
+  state-reads.Asked,
+  state-reads.Learnt,
+  give-back-reads.Asked,
+  give-back-reads.Learnt,
+  want-reads.Asked,
+  want-reads.Learnt,
+  close-reads.Asked,
+  close-reads.Learnt,
+  wheres-reads.Asked,
+  wheres-reads.Learnt,
+) (sgx-at t) sgx.Post
+unfolding root.body decl.sigScope decl.sigHead plan choose chosen
+sgx-returns-3 t c =
+    let falls = c .before .before .before .before .before .before .before .before .before .before .before .before .before .before .before .before .before .before .before .before .before .before .before .before .before .before .before .before .before .before .before .before .before .before .before .before .before .before .before .before .before .before .before .before .before .before .before .before .before .pre .0 in
+    let pre0 = c .before .before .before .before .before .before .before .before .before .before .before .before .before .before .before .before .before .before .before .before .before .before .before .before .before .before .before .before .before .before .before .before .before .before .before .before .before .before .before .before .before .before .before .before .before .before .before .before .before .pre .1 in
+    let peek = rw (c .before .before .before .before .before .before .before .before .before .before .before .before .before .before .before .before .before .before .before .before .before .before .before .before .before .before .before .before .before .before .before .before .before .before .before .before .before .before .before .before .k .given .1) at (c .before .before .before .before .before .before .before .before .before .before .before .before .before .before .before .before .before .before .before .before .before .before .before .before .before .before .before .before .before .before .before .before .before .before .before .before .before .before .before .before .before .before .peek .ensures) in
+    let if1 = c .before .before .before .before .before .before .before .before .before .before .before .before .before .before .before .before .before .before .before .before .before .before .before .before .before .before .before .before .before .before .before .before .before .before .before .before .before .before .if1 .left in
+    let mark = c .before .before .before .before .before .before .before .before .before .before .before .before .before .before .before .before .before .before .before .before .before .before .before .before .before .before .before .before .before .before .before .before .before .before .before .before .before .mark .ensures in
+    let if2 = c .before .before .before .before .before .before .before .before .before .before .before .before .before .before .before .before .before .before .before .before .before .before .before .before .before .before .before .before .before .before .before .before .before .before .before .before .if2 .taken in
+    let bump = c .before .before .before .before .before .before .before .before .before .before .before .before .before .before .before .before .before .before .before .before .before .before .before .before .before .before .before .before .before .before .before .before .before .before .bump .ensures in
+    let dec = c .before .before .before .before .before .before .before .before .before .before .before .before .before .before .before .before .before .before .before .before .before .before .before .before .before .before .before .before .dec .ensures in
+    let state = c .before .before .before .before .before .before .before .before .before .before .before .before .before .before .before .before .before .before .before .before .before .state .ensures in
+    let give-back = c .before .before .before .before .before .before .before .before .before .before .before .before .before .before .before .before .before .before .before .before .give-back .ensures in
+    let want = c .before .before .before .before .before .before .before .before .before .before .before .before .before .before .before .before .want .ensures in
+    let close = c .before .before .before .before .before .before .before .before .before .before .close .ensures in
+    let wheres = c .before .before .before .before .wheres .ensures in
+    by-steps pre0 (λ b. s-rule (s-look peek (s-mark if1 mark (s-true _ _ (kind-is if2) (s-bump bump (s-scoped (settled state (runs-in dec)) give-back (s-by _ (runs-always want) (s-close close (s-by _ wheres s-end)))))))))
+
+sgx-bump-requires-2 : (t : ℕ) → sgx-lts.Need-bump-requires-2 (
+  peek-reads.Asked,
+  peek-reads.Learnt,
+  refuse-reads.Asked,
+  refuse-reads.Learnt,
+  mark-reads.Asked,
+  mark-reads.Learnt,
+  bump-reads.Asked,
+  bump-reads.Learnt,
+  dec-below t,
+  dec.Post,
+  state-reads.Asked,
+  state-reads.Learnt,
+  give-back-reads.Asked,
+  give-back-reads.Learnt,
+  want-reads.Asked,
+  want-reads.Learnt,
+  close-reads.Asked,
+  close-reads.Learnt,
+  wheres-reads.Asked,
+  wheres-reads.Learnt,
+) (sgx-at t) sgx.Post
+sgx-bump-requires-2 t c κs =
+    let pre0 = c .before .before .before .before .before .before .before .before .before .before .before .before .before .before .before .pre .1 in
+    let mark = c .before .before .before .mark .ensures in
+    let mark-ok = ok-marks mark pre0 in
+    (mark-ok .reads, mark-ok .logs)
+
+sgx-close-requires-2 : (t : ℕ) → sgx-lts.Need-close-requires-2 (
+  peek-reads.Asked,
+  peek-reads.Learnt,
+  refuse-reads.Asked,
+  refuse-reads.Learnt,
+  mark-reads.Asked,
+  mark-reads.Learnt,
+  bump-reads.Asked,
+  bump-reads.Learnt,
+  dec-below t,
+  dec.Post,
+  state-reads.Asked,
+  state-reads.Learnt,
+  give-back-reads.Asked,
+  give-back-reads.Learnt,
+  want-reads.Asked,
+  want-reads.Learnt,
+  close-reads.Asked,
+  close-reads.Learnt,
+  wheres-reads.Asked,
+  wheres-reads.Learnt,
+) (sgx-at t) sgx.Post
+sgx-close-requires-2 t c κs =
+    let pre0 = c .before .before .before .before .before .before .before .before .before .before .before .before .before .before .before .before .before .before .before .pre .1 in
+    let mark = c .before .before .before .before .before .before .before .mark .ensures in
+    let mark-ok = ok-marks mark pre0 in
+    let bump2 = c .before .before .before .bump2 .ensures in
+    let bump2-ok = ok-bumps bump2 mark-ok in
+    (bump2-ok .logs, small-len pre0)
+
+sgx-wheres-requires-2 : (t : ℕ) → sgx-lts.Need-wheres-requires-2 (
+  peek-reads.Asked,
+  peek-reads.Learnt,
+  refuse-reads.Asked,
+  refuse-reads.Learnt,
+  mark-reads.Asked,
+  mark-reads.Learnt,
+  bump-reads.Asked,
+  bump-reads.Learnt,
+  dec-below t,
+  dec.Post,
+  state-reads.Asked,
+  state-reads.Learnt,
+  give-back-reads.Asked,
+  give-back-reads.Learnt,
+  want-reads.Asked,
+  want-reads.Learnt,
+  close-reads.Asked,
+  close-reads.Learnt,
+  wheres-reads.Asked,
+  wheres-reads.Learnt,
+) (sgx-at t) sgx.Post
+sgx-wheres-requires-2 t c κs =
+    let pre0 = c .before .before .before .before .before .before .before .before .before .before .before .before .before .before .before .before .before .before .before .before .before .before .before .before .before .pre .1 in
+    let mark = c .before .before .before .before .before .before .before .before .before .before .before .before .before .mark .ensures in
+    let mark-ok = ok-marks mark pre0 in
+    let bump2 = c .before .before .before .before .before .before .before .before .before .bump2 .ensures in
+    let bump2-ok = ok-bumps bump2 mark-ok in
+    let close2 = c .before .before .before .before .before .close2 .ensures in
+    let close2-ok = ok-adds close2 bump2-ok in
+    (close2-ok, small-len pre0)
+
+sgx-same-length-4 : (t : ℕ) → sgx-lts.Need-same-length-4 (
+  peek-reads.Asked,
+  peek-reads.Learnt,
+  refuse-reads.Asked,
+  refuse-reads.Learnt,
+  mark-reads.Asked,
+  mark-reads.Learnt,
+  bump-reads.Asked,
+  bump-reads.Learnt,
+  dec-below t,
+  dec.Post,
+  state-reads.Asked,
+  state-reads.Learnt,
+  give-back-reads.Asked,
+  give-back-reads.Learnt,
+  want-reads.Asked,
+  want-reads.Learnt,
+  close-reads.Asked,
+  close-reads.Learnt,
+  wheres-reads.Asked,
+  wheres-reads.Learnt,
+) (sgx-at t) sgx.Post
+sgx-same-length-4 t c =
+    refl
+
+sgx-same-length-5 : (t : ℕ) → sgx-lts.Need-same-length-5 (
+  peek-reads.Asked,
+  peek-reads.Learnt,
+  refuse-reads.Asked,
+  refuse-reads.Learnt,
+  mark-reads.Asked,
+  mark-reads.Learnt,
+  bump-reads.Asked,
+  bump-reads.Learnt,
+  dec-below t,
+  dec.Post,
+  state-reads.Asked,
+  state-reads.Learnt,
+  give-back-reads.Asked,
+  give-back-reads.Learnt,
+  want-reads.Asked,
+  want-reads.Learnt,
+  close-reads.Asked,
+  close-reads.Learnt,
+  wheres-reads.Asked,
+  wheres-reads.Learnt,
+) (sgx-at t) sgx.Post
+sgx-same-length-5 t c =
+    c .before .before .before .before .wheres2 .kept .1 .1 .1 .1 .0 ∙ c .before .before .before .before .before .before .before .before .before .before .close2 .kept .0 ∙ c .before .before .before .before .before .before .before .before .before .before .before .before .before .before .bump2 .kept .1 .0
+
+sgx-same-length-6 : (t : ℕ) → sgx-lts.Need-same-length-6 (
+  peek-reads.Asked,
+  peek-reads.Learnt,
+  refuse-reads.Asked,
+  refuse-reads.Learnt,
+  mark-reads.Asked,
+  mark-reads.Learnt,
+  bump-reads.Asked,
+  bump-reads.Learnt,
+  dec-below t,
+  dec.Post,
+  state-reads.Asked,
+  state-reads.Learnt,
+  give-back-reads.Asked,
+  give-back-reads.Learnt,
+  want-reads.Asked,
+  want-reads.Learnt,
+  close-reads.Asked,
+  close-reads.Learnt,
+  wheres-reads.Asked,
+  wheres-reads.Learnt,
+) (sgx-at t) sgx.Post
+sgx-same-length-6 t c =
+    c .before .before .before .before .wheres2 .kept .1 .1 .1 .1 .1 .0
+
+sgx-returns-4 : (t : ℕ) → sgx-lts.Need-returns-4 (
+  peek-reads.Asked,
+  peek-reads.Learnt,
+  refuse-reads.Asked,
+  refuse-reads.Learnt,
+  mark-reads.Asked,
+  mark-reads.Learnt,
+  bump-reads.Asked,
+  bump-reads.Learnt,
+  dec-below t,
+  dec.Post,
+  state-reads.Asked,
+  state-reads.Learnt,
+  give-back-reads.Asked,
+  give-back-reads.Learnt,
+  want-reads.Asked,
+  want-reads.Learnt,
+  close-reads.Asked,
+  close-reads.Learnt,
+  wheres-reads.Asked,
+  wheres-reads.Learnt,
+) (sgx-at t) sgx.Post
+unfolding root.body decl.sigScope decl.sigHead plan choose chosen
+sgx-returns-4 t c =
+    let falls = c .before .before .before .before .before .before .before .before .before .before .before .before .before .before .before .before .before .before .before .before .before .before .before .before .before .before .before .before .before .before .pre .0 in
+    let pre0 = c .before .before .before .before .before .before .before .before .before .before .before .before .before .before .before .before .before .before .before .before .before .before .before .before .before .before .before .before .before .before .pre .1 in
+    let peek = rw (c .before .before .before .before .before .before .before .before .before .before .before .before .before .before .before .before .before .before .before .before .before .k .given .1) at (c .before .before .before .before .before .before .before .before .before .before .before .before .before .before .before .before .before .before .before .before .before .before .before .peek .ensures) in
+    let if1 = c .before .before .before .before .before .before .before .before .before .before .before .before .before .before .before .before .before .before .before .if1 .left in
+    let mark = c .before .before .before .before .before .before .before .before .before .before .before .before .before .before .before .before .before .before .mark .ensures in
+    let if2 = c .before .before .before .before .before .before .before .before .before .before .before .before .before .before .before .before .before .if2 .left in
+    let if3 = c .before .before .before .before .before .before .before .before .before .before .before .before .before .before .before .before .if3 .taken in
+    let bump2 = c .before .before .before .before .before .before .before .before .before .before .before .before .before .before .bump2 .ensures in
+    let close2 = c .before .before .before .before .before .before .before .before .before .before .close2 .ensures in
+    let wheres2 = c .before .before .before .before .wheres2 .ensures in
+    by-steps pre0 (λ b. s-rule (s-look peek (s-mark if1 mark (s-false _ _ (kind-not if2) (s-true _ _ (kind-is if3) (s-bump bump2 (s-close close2 (s-by _ wheres2 s-end))))))))
+
+sgx-returns-5 : (t : ℕ) → sgx-lts.Need-returns-5 (
+  peek-reads.Asked,
+  peek-reads.Learnt,
+  refuse-reads.Asked,
+  refuse-reads.Learnt,
+  mark-reads.Asked,
+  mark-reads.Learnt,
+  bump-reads.Asked,
+  bump-reads.Learnt,
+  dec-below t,
+  dec.Post,
+  state-reads.Asked,
+  state-reads.Learnt,
+  give-back-reads.Asked,
+  give-back-reads.Learnt,
+  want-reads.Asked,
+  want-reads.Learnt,
+  close-reads.Asked,
+  close-reads.Learnt,
+  wheres-reads.Asked,
+  wheres-reads.Learnt,
+) (sgx-at t) sgx.Post
+unfolding root.body decl.sigScope decl.sigHead plan choose chosen
+sgx-returns-5 t c =
+    let falls = c .before .before .before .before .before .before .before .before .before .before .before .before .before .before .pre .0 in
+    let pre0 = c .before .before .before .before .before .before .before .before .before .before .before .before .before .before .pre .1 in
+    let peek = rw (c .before .before .before .before .before .k .given .1) at (c .before .before .before .before .before .before .before .peek .ensures) in
+    let if1 = c .before .before .before .if1 .left in
+    let mark = c .before .before .mark .ensures in
+    let if2 = c .before .if2 .left in
+    let if3 = c .if3 .left in
+    by-steps pre0 (λ b. s-rule (s-look peek (s-mark if1 mark (s-false _ _ (kind-not if2) (s-false _ _ (kind-not if3) s-end)))))
+
+slt-dec-requires : (t : ℕ) → slt-lts.Need-dec-requires (
+  dec-below t,
+  dec.Post,
+  state-reads.Asked,
+  state-reads.Learnt,
+  want-reads.Asked,
+  want-reads.Learnt,
+  stm-below t,
+  stm.Post,
+) (slt-at t) slt.Post
+slt-dec-requires t c κs =
+    let falls = c .before .before .before .before .before .before .before .before .before .pre .0 in
+    let pre0 = c .before .before .before .before .before .before .before .before .before .pre .1 in
+    (omega arith, pre0)
+
+slt-state-requires : (t : ℕ) → slt-lts.Need-state-requires (
+  dec-below t,
+  dec.Post,
+  state-reads.Asked,
+  state-reads.Learnt,
+  want-reads.Asked,
+  want-reads.Learnt,
+  stm-below t,
+  stm.Post,
+) (slt-at t) slt.Post
+slt-state-requires t c κs =
+    tt
+
+slt-want-requires : (t : ℕ) → slt-lts.Need-want-requires (
+  dec-below t,
+  dec.Post,
+  state-reads.Asked,
+  state-reads.Learnt,
+  want-reads.Asked,
+  want-reads.Learnt,
+  stm-below t,
+  stm.Post,
+) (slt-at t) slt.Post
+slt-want-requires t c κs =
+    let falls = c .before .before .before .before .before .before .before .before .before .before .before .before .before .before .before .before .before .before .before .before .pre .0 in
+    let dec = c .before .before .before .before .before .before .before .before .before .before .dec .ensures in
+    let dec-ok = dec .ok in
+    let state = c .before .before .before .state .ensures in
+    let state-ok = ok-state state dec-ok in
+    (state-ok, omega arith)
+
+slt-stm-requires : (t : ℕ) → slt-lts.Need-stm-requires (
+  dec-below t,
+  dec.Post,
+  state-reads.Asked,
+  state-reads.Learnt,
+  want-reads.Asked,
+  want-reads.Learnt,
+  stm-below t,
+  stm.Post,
+) (slt-at t) slt.Post
+slt-stm-requires t c κs =
+    let falls = c .before .before .before .before .before .before .before .before .before .before .before .before .before .before .before .before .before .before .before .before .before .before .before .before .before .before .before .before .pre .0 in
+    let want = c .before .before .before .before .before .before .before .want .ensures in
+    let want-ok = want .ok in
+    (omega arith, want-ok)
+
+slt-same-length : (t : ℕ) → slt-lts.Need-same-length (
+  dec-below t,
+  dec.Post,
+  state-reads.Asked,
+  state-reads.Learnt,
+  want-reads.Asked,
+  want-reads.Learnt,
+  stm-below t,
+  stm.Post,
+) (slt-at t) slt.Post
+slt-same-length t c =
+    c .before .before .before .before .before .before .stm .kept .1 .1 .1 .0 ∙ c .before .before .before .before .before .before .before .before .before .before .before .before .before .before .before .before .before .before .before .before .before .before .before .before .before .dec .kept .1 .1 .1 .0
+
+slt-same-length-2 : (t : ℕ) → slt-lts.Need-same-length-2 (
+  dec-below t,
+  dec.Post,
+  state-reads.Asked,
+  state-reads.Learnt,
+  want-reads.Asked,
+  want-reads.Learnt,
+  stm-below t,
+  stm.Post,
+) (slt-at t) slt.Post
+slt-same-length-2 t c =
+    c .before .before .before .before .before .before .stm .kept .1 .1 .1 .1 .0 ∙ c .before .before .before .before .before .before .before .before .before .before .before .before .before .before .want .kept .1 .1 .1 .1 .0 ∙ c .before .before .before .before .before .before .before .before .before .before .before .before .before .before .before .before .before .before .before .before .before .before .before .before .before .dec .kept .1 .1 .1 .1 .0
+
+slt-same-length-3 : (t : ℕ) → slt-lts.Need-same-length-3 (
+  dec-below t,
+  dec.Post,
+  state-reads.Asked,
+  state-reads.Learnt,
+  want-reads.Asked,
+  want-reads.Learnt,
+  stm-below t,
+  stm.Post,
+) (slt-at t) slt.Post
+slt-same-length-3 t c =
+    c .before .before .before .before .before .before .stm .kept .1 .1 .1 .1 .1 .0 ∙ c .before .before .before .before .before .before .before .before .before .before .before .before .before .before .want .kept .1 .1 .1 .1 .1 .0 ∙ c .before .before .before .before .before .before .before .before .before .before .before .before .before .before .before .before .before .before .before .before .before .before .before .before .before .dec .kept .1 .1 .1 .1 .1 .0
+
+slt-returns : (t : ℕ) → slt-lts.Need-returns (
+  dec-below t,
+  dec.Post,
+  state-reads.Asked,
+  state-reads.Learnt,
+  want-reads.Asked,
+  want-reads.Learnt,
+  stm-below t,
+  stm.Post,
+) (slt-at t) slt.Post
+unfolding decl.strLet plan choose chosen
+slt-returns t c =
+    let falls = c .before .before .before .before .before .before .before .before .before .before .before .before .before .before .before .before .before .before .before .before .before .before .before .before .before .before .before .before .before .before .before .before .before .before .before .pre .0 in
+    let pre0 = c .before .before .before .before .before .before .before .before .before .before .before .before .before .before .before .before .before .before .before .before .before .before .before .before .before .before .before .before .before .before .before .before .before .before .before .pre .1 in
+    let dec = c .before .before .before .before .before .before .before .before .before .before .before .before .before .before .before .before .before .before .before .before .before .before .before .before .before .dec .ensures in
+    let state = c .before .before .before .before .before .before .before .before .before .before .before .before .before .before .before .before .before .before .state .ensures in
+    let want = c .before .before .before .before .before .before .before .before .before .before .before .before .before .before .want .ensures in
+    let stm = c .before .before .before .before .before .before .stm .ensures in
+    by-steps pre0 (λ b. s-run (settled state (runs-in dec)) (s-by _ (runs-always want) (s-by _ (runs-in stm) s-end)))
+
+stb-eat-requires : (t : ℕ) → stb-lts.Need-eat-requires (
+  eat-reads.Asked,
+  eat-reads.Learnt,
+  aso-below t,
+  aso.Post,
+  at-reads.Asked,
+  at-reads.Learnt,
+  refuse-reads.Asked,
+  refuse-reads.Learnt,
+  mark-reads.Asked,
+  mark-reads.Learnt,
+  bump-reads.Asked,
+  bump-reads.Learnt,
+  stm-below t,
+  stm.Post,
+  close-reads.Asked,
+  close-reads.Learnt,
+) (stb-at t) stb.Post
+stb-eat-requires t c κs =
+    let falls = c .before .before .before .before .before .before .before .before .before .pre .0 in
+    let pre0 = c .before .before .before .before .before .before .before .before .before .pre .1 in
+    (pre0, omega arith)
+
+stb-enum-known-name : (t : ℕ) → stb-lts.Need-enum-known-name (
+  eat-reads.Asked,
+  eat-reads.Learnt,
+  aso-below t,
+  aso.Post,
+  at-reads.Asked,
+  at-reads.Learnt,
+  refuse-reads.Asked,
+  refuse-reads.Learnt,
+  mark-reads.Asked,
+  mark-reads.Learnt,
+  bump-reads.Asked,
+  bump-reads.Learnt,
+  stm-below t,
+  stm.Post,
+  close-reads.Asked,
+  close-reads.Learnt,
+) (stb-at t) stb.Post
+stb-enum-known-name t c =
+    let falls = c .before .before .before .before .before .before .before .before .before .before .before .before .before .before .before .pre .0 in
+    let pre0 = c .before .before .before .before .before .before .before .before .before .before .before .before .before .before .before .pre .1 in
+    search needs
+
+stb-enum-known-name-2 : (t : ℕ) → stb-lts.Need-enum-known-name-2 (
+  eat-reads.Asked,
+  eat-reads.Learnt,
+  aso-below t,
+  aso.Post,
+  at-reads.Asked,
+  at-reads.Learnt,
+  refuse-reads.Asked,
+  refuse-reads.Learnt,
+  mark-reads.Asked,
+  mark-reads.Learnt,
+  bump-reads.Asked,
+  bump-reads.Learnt,
+  stm-below t,
+  stm.Post,
+  close-reads.Asked,
+  close-reads.Learnt,
+) (stb-at t) stb.Post
+stb-enum-known-name-2 t c =
+    let falls = c .before .before .before .before .before .before .before .before .before .before .before .before .before .before .before .pre .0 in
+    let pre0 = c .before .before .before .before .before .before .before .before .before .before .before .before .before .before .before .pre .1 in
+    search needs
+
+stb-aso-requires : (t : ℕ) → stb-lts.Need-aso-requires (
+  eat-reads.Asked,
+  eat-reads.Learnt,
+  aso-below t,
+  aso.Post,
+  at-reads.Asked,
+  at-reads.Learnt,
+  refuse-reads.Asked,
+  refuse-reads.Learnt,
+  mark-reads.Asked,
+  mark-reads.Learnt,
+  bump-reads.Asked,
+  bump-reads.Learnt,
+  stm-below t,
+  stm.Post,
+  close-reads.Asked,
+  close-reads.Learnt,
+) (stb-at t) stb.Post
+stb-aso-requires t c κs =
+    let falls = c .before .before .before .before .before .before .before .before .before .before .before .before .before .before .before .before .before .before .before .before .pre .0 in
+    let eat = rw (c .before .before .before .before .name2 .given .1) at (c .before .before .before .before .before .before .before .before .before .before .eat .ensures) in
+    let eat-ok = eat .ok in
+    (omega arith, eat-ok)
+
+stb-at-requires : (t : ℕ) → stb-lts.Need-at-requires (
+  eat-reads.Asked,
+  eat-reads.Learnt,
+  aso-below t,
+  aso.Post,
+  at-reads.Asked,
+  at-reads.Learnt,
+  refuse-reads.Asked,
+  refuse-reads.Learnt,
+  mark-reads.Asked,
+  mark-reads.Learnt,
+  bump-reads.Asked,
+  bump-reads.Learnt,
+  stm-below t,
+  stm.Post,
+  close-reads.Asked,
+  close-reads.Learnt,
+) (stb-at t) stb.Post
+stb-at-requires t c κs =
+    let aso = c .before .before .before .before .before .before .aso .ensures in
+    let aso-ok = aso .ok in
+    aso-ok .reads
+
+stb-refuse-requires : (t : ℕ) → stb-lts.Need-refuse-requires (
+  eat-reads.Asked,
+  eat-reads.Learnt,
+  aso-below t,
+  aso.Post,
+  at-reads.Asked,
+  at-reads.Learnt,
+  refuse-reads.Asked,
+  refuse-reads.Learnt,
+  mark-reads.Asked,
+  mark-reads.Learnt,
+  bump-reads.Asked,
+  bump-reads.Learnt,
+  stm-below t,
+  stm.Post,
+  close-reads.Asked,
+  close-reads.Learnt,
+) (stb-at t) stb.Post
+stb-refuse-requires t c κs =
+    tt
+
+stb-same-length : (t : ℕ) → stb-lts.Need-same-length (
+  eat-reads.Asked,
+  eat-reads.Learnt,
+  aso-below t,
+  aso.Post,
+  at-reads.Asked,
+  at-reads.Learnt,
+  refuse-reads.Asked,
+  refuse-reads.Learnt,
+  mark-reads.Asked,
+  mark-reads.Learnt,
+  bump-reads.Asked,
+  bump-reads.Learnt,
+  stm-below t,
+  stm.Post,
+  close-reads.Asked,
+  close-reads.Learnt,
+) (stb-at t) stb.Post
+stb-same-length t c =
+    c .before .before .before .before .before .before .before .before .before .before .aso .kept .1 .1 .1 .0
+
+stb-same-length-2 : (t : ℕ) → stb-lts.Need-same-length-2 (
+  eat-reads.Asked,
+  eat-reads.Learnt,
+  aso-below t,
+  aso.Post,
+  at-reads.Asked,
+  at-reads.Learnt,
+  refuse-reads.Asked,
+  refuse-reads.Learnt,
+  mark-reads.Asked,
+  mark-reads.Learnt,
+  bump-reads.Asked,
+  bump-reads.Learnt,
+  stm-below t,
+  stm.Post,
+  close-reads.Asked,
+  close-reads.Learnt,
+) (stb-at t) stb.Post
+stb-same-length-2 t c =
+    c .before .before .before .before .before .before .before .before .before .before .aso .kept .1 .1 .1 .1 .0 ∙ c .before .before .before .before .before .before .before .before .before .before .before .before .before .before .before .before .before .before .before .before .before .eat .kept .1 .1 .1 .1 .0
+
+stb-same-length-3 : (t : ℕ) → stb-lts.Need-same-length-3 (
+  eat-reads.Asked,
+  eat-reads.Learnt,
+  aso-below t,
+  aso.Post,
+  at-reads.Asked,
+  at-reads.Learnt,
+  refuse-reads.Asked,
+  refuse-reads.Learnt,
+  mark-reads.Asked,
+  mark-reads.Learnt,
+  bump-reads.Asked,
+  bump-reads.Learnt,
+  stm-below t,
+  stm.Post,
+  close-reads.Asked,
+  close-reads.Learnt,
+) (stb-at t) stb.Post
+stb-same-length-3 t c =
+    c .before .before .before .before .before .before .before .before .before .before .aso .kept .1 .1 .1 .1 .1 .0 ∙ c .before .before .before .before .before .before .before .before .before .before .before .before .before .before .before .before .before .before .before .before .before .eat .kept .1 .1 .1 .1 .1 .0
+
+stb-returns : (t : ℕ) → stb-lts.Need-returns (
+  eat-reads.Asked,
+  eat-reads.Learnt,
+  aso-below t,
+  aso.Post,
+  at-reads.Asked,
+  at-reads.Learnt,
+  refuse-reads.Asked,
+  refuse-reads.Learnt,
+  mark-reads.Asked,
+  mark-reads.Learnt,
+  bump-reads.Asked,
+  bump-reads.Learnt,
+  stm-below t,
+  stm.Post,
+  close-reads.Asked,
+  close-reads.Learnt,
+) (stb-at t) stb.Post
+unfolding decl.strBind plan choose chosen
+stb-returns t c =
+    let falls = c .before .before .before .before .before .before .before .before .before .before .before .before .before .before .before .before .before .before .before .before .before .before .before .before .before .before .before .before .before .before .before .pre .0 in
+    let pre0 = c .before .before .before .before .before .before .before .before .before .before .before .before .before .before .before .before .before .before .before .before .before .before .before .before .before .before .before .before .before .before .before .pre .1 in
+    let eat = rw (c .before .before .before .before .before .before .before .before .before .before .before .before .before .before .before .name2 .given .1) at (c .before .before .before .before .before .before .before .before .before .before .before .before .before .before .before .before .before .before .before .before .before .eat .ensures) in
+    let aso = c .before .before .before .before .before .before .before .before .before .before .aso .ensures in
+    let at = c .before .before .before .at .ensures in
+    let if1 = c .before .before .if1 .taken in
+    let if2 = c .before .if2 .taken in
+    let refuse = c .refuse .ensures in
+    by-steps pre0 (λ b. s-by _ (runs-always eat) (s-by _ (runs-in aso) (s-kind (s-true _ _ (kind-at _ _ _ _ at if1) (s-deep if2 refuse s-end)))))
+
+stb-mark-requires : (t : ℕ) → stb-lts.Need-mark-requires (
+  eat-reads.Asked,
+  eat-reads.Learnt,
+  aso-below t,
+  aso.Post,
+  at-reads.Asked,
+  at-reads.Learnt,
+  refuse-reads.Asked,
+  refuse-reads.Learnt,
+  mark-reads.Asked,
+  mark-reads.Learnt,
+  bump-reads.Asked,
+  bump-reads.Learnt,
+  stm-below t,
+  stm.Post,
+  close-reads.Asked,
+  close-reads.Learnt,
+) (stb-at t) stb.Post
+stb-mark-requires t c κs =
+    tt
+
+stb-bump-requires : (t : ℕ) → stb-lts.Need-bump-requires (
+  eat-reads.Asked,
+  eat-reads.Learnt,
+  aso-below t,
+  aso.Post,
+  at-reads.Asked,
+  at-reads.Learnt,
+  refuse-reads.Asked,
+  refuse-reads.Learnt,
+  mark-reads.Asked,
+  mark-reads.Learnt,
+  bump-reads.Asked,
+  bump-reads.Learnt,
+  stm-below t,
+  stm.Post,
+  close-reads.Asked,
+  close-reads.Learnt,
+) (stb-at t) stb.Post
+stb-bump-requires t c κs =
+    let aso = c .before .before .before .before .before .before .before .before .before .before .before .aso .ensures in
+    let aso-ok = aso .ok in
+    let mark = c .before .mark .ensures in
+    let mark-ok = ok-marks mark aso-ok in
+    (mark-ok .reads, mark-ok .logs)
+
+stb-sub-stm : (t : ℕ) → stb-lts.Need-sub-stm (
+  eat-reads.Asked,
+  eat-reads.Learnt,
+  aso-below t,
+  aso.Post,
+  at-reads.Asked,
+  at-reads.Learnt,
+  refuse-reads.Asked,
+  refuse-reads.Learnt,
+  mark-reads.Asked,
+  mark-reads.Learnt,
+  bump-reads.Asked,
+  bump-reads.Learnt,
+  stm-below t,
+  stm.Post,
+  close-reads.Asked,
+  close-reads.Learnt,
+) (stb-at t) stb.Post
+stb-sub-stm t c =
+    let falls = c .before .before .before .before .before .before .before .before .before .before .before .before .before .before .before .before .before .before .before .before .before .before .before .before .before .before .before .before .before .before .before .before .before .before .before .before .before .before .pre .0 in
+    let pre0 = c .before .before .before .before .before .before .before .before .before .before .before .before .before .before .before .before .before .before .before .before .before .before .before .before .before .before .before .before .before .before .before .before .before .before .before .before .before .before .pre .1 in
+    let if1 = c .before .before .before .before .before .before .before .before .before .if1 .taken in
+    let if2 = c .before .before .before .before .before .before .before .before .if2 .left in
+    search needs
+
+stb-stm-requires : (t : ℕ) → stb-lts.Need-stm-requires (
+  eat-reads.Asked,
+  eat-reads.Learnt,
+  aso-below t,
+  aso.Post,
+  at-reads.Asked,
+  at-reads.Learnt,
+  refuse-reads.Asked,
+  refuse-reads.Learnt,
+  mark-reads.Asked,
+  mark-reads.Learnt,
+  bump-reads.Asked,
+  bump-reads.Learnt,
+  stm-below t,
+  stm.Post,
+  close-reads.Asked,
+  close-reads.Learnt,
+) (stb-at t) stb.Post
+stb-stm-requires t c κs =
+    let falls = c .before .before .before .before .before .before .before .before .before .before .before .before .before .before .before .before .before .before .before .before .before .before .before .before .before .before .before .before .before .before .before .before .before .before .before .before .before .before .pre .0 in
+    let aso = c .before .before .before .before .before .before .before .before .before .before .before .before .before .before .before .before .before .aso .ensures in
+    let aso-ok = aso .ok in
+    let if1 = c .before .before .before .before .before .before .before .before .before .if1 .taken in
+    let if2 = c .before .before .before .before .before .before .before .before .if2 .left in
+    let mark = c .before .before .before .before .before .before .before .mark .ensures in
+    let mark-ok = ok-marks mark aso-ok in
+    let bump = c .before .before .before .before .before .bump .ensures in
+    let bump-ok = ok-bumps bump mark-ok in
+    (omega arith, bump-ok)
+
+stb-close-requires : (t : ℕ) → stb-lts.Need-close-requires (
+  eat-reads.Asked,
+  eat-reads.Learnt,
+  aso-below t,
+  aso.Post,
+  at-reads.Asked,
+  at-reads.Learnt,
+  refuse-reads.Asked,
+  refuse-reads.Learnt,
+  mark-reads.Asked,
+  mark-reads.Learnt,
+  bump-reads.Asked,
+  bump-reads.Learnt,
+  stm-below t,
+  stm.Post,
+  close-reads.Asked,
+  close-reads.Learnt,
+) (stb-at t) stb.Post
+stb-close-requires t c κs =
+    let aso = c .before .before .before .before .before .before .before .before .before .before .before .before .before .before .before .before .before .before .before .before .before .before .before .before .before .aso .ensures in
+    let aso-ok = aso .ok in
+    let mark = c .before .before .before .before .before .before .before .before .before .before .before .before .before .before .before .mark .ensures in
+    let mark-ok = ok-marks mark aso-ok in
+    let stm = c .before .before .before .before .before .before .before .stm .ensures in
+    let stm-ok = stm .ok in
+    (stm-ok .logs, small-len mark-ok)
+
+stb-same-length-4 : (t : ℕ) → stb-lts.Need-same-length-4 (
+  eat-reads.Asked,
+  eat-reads.Learnt,
+  aso-below t,
+  aso.Post,
+  at-reads.Asked,
+  at-reads.Learnt,
+  refuse-reads.Asked,
+  refuse-reads.Learnt,
+  mark-reads.Asked,
+  mark-reads.Learnt,
+  bump-reads.Asked,
+  bump-reads.Learnt,
+  stm-below t,
+  stm.Post,
+  close-reads.Asked,
+  close-reads.Learnt,
+) (stb-at t) stb.Post
+stb-same-length-4 t c =
+    c .before .before .before .before .before .before .before .before .before .before .stm .kept .1 .1 .1 .0 ∙ c .before .before .before .before .before .before .before .before .before .before .before .before .before .before .before .before .before .before .before .before .before .before .before .before .before .before .before .before .aso .kept .1 .1 .1 .0
+
+stb-same-length-5 : (t : ℕ) → stb-lts.Need-same-length-5 (
+  eat-reads.Asked,
+  eat-reads.Learnt,
+  aso-below t,
+  aso.Post,
+  at-reads.Asked,
+  at-reads.Learnt,
+  refuse-reads.Asked,
+  refuse-reads.Learnt,
+  mark-reads.Asked,
+  mark-reads.Learnt,
+  bump-reads.Asked,
+  bump-reads.Learnt,
+  stm-below t,
+  stm.Post,
+  close-reads.Asked,
+  close-reads.Learnt,
+) (stb-at t) stb.Post
+stb-same-length-5 t c =
+    c .before .before .close .kept .0 ∙ c .before .before .before .before .before .before .before .before .before .before .stm .kept .1 .1 .1 .1 .0 ∙ c .before .before .before .before .before .before .before .before .before .before .before .before .before .before .before .before .bump .kept .1 .0 ∙ c .before .before .before .before .before .before .before .before .before .before .before .before .before .before .before .before .before .before .before .before .before .before .before .before .before .before .before .before .aso .kept .1 .1 .1 .1 .0 ∙ c .before .before .before .before .before .before .before .before .before .before .before .before .before .before .before .before .before .before .before .before .before .before .before .before .before .before .before .before .before .before .before .before .before .before .before .before .before .before .before .eat .kept .1 .1 .1 .1 .0
+
+stb-same-length-6 : (t : ℕ) → stb-lts.Need-same-length-6 (
+  eat-reads.Asked,
+  eat-reads.Learnt,
+  aso-below t,
+  aso.Post,
+  at-reads.Asked,
+  at-reads.Learnt,
+  refuse-reads.Asked,
+  refuse-reads.Learnt,
+  mark-reads.Asked,
+  mark-reads.Learnt,
+  bump-reads.Asked,
+  bump-reads.Learnt,
+  stm-below t,
+  stm.Post,
+  close-reads.Asked,
+  close-reads.Learnt,
+) (stb-at t) stb.Post
+stb-same-length-6 t c =
+    c .before .before .before .before .before .before .before .before .before .before .stm .kept .1 .1 .1 .1 .1 .0 ∙ c .before .before .before .before .before .before .before .before .before .before .before .before .before .before .before .before .before .before .before .before .before .before .before .before .before .before .before .before .aso .kept .1 .1 .1 .1 .1 .0 ∙ c .before .before .before .before .before .before .before .before .before .before .before .before .before .before .before .before .before .before .before .before .before .before .before .before .before .before .before .before .before .before .before .before .before .before .before .before .before .before .before .eat .kept .1 .1 .1 .1 .1 .0
+
+stb-returns-2 : (t : ℕ) → stb-lts.Need-returns-2 (
+  eat-reads.Asked,
+  eat-reads.Learnt,
+  aso-below t,
+  aso.Post,
+  at-reads.Asked,
+  at-reads.Learnt,
+  refuse-reads.Asked,
+  refuse-reads.Learnt,
+  mark-reads.Asked,
+  mark-reads.Learnt,
+  bump-reads.Asked,
+  bump-reads.Learnt,
+  stm-below t,
+  stm.Post,
+  close-reads.Asked,
+  close-reads.Learnt,
+) (stb-at t) stb.Post
+unfolding decl.strBind plan choose chosen
+stb-returns-2 t c =
+    let falls = c .before .before .before .before .before .before .before .before .before .before .before .before .before .before .before .before .before .before .before .before .before .before .before .before .before .before .before .before .before .before .before .before .before .before .before .before .before .before .before .before .before .before .before .before .before .before .before .before .before .pre .0 in
+    let pre0 = c .before .before .before .before .before .before .before .before .before .before .before .before .before .before .before .before .before .before .before .before .before .before .before .before .before .before .before .before .before .before .before .before .before .before .before .before .before .before .before .before .before .before .before .before .before .before .before .before .before .pre .1 in
+    let eat = rw (c .before .before .before .before .before .before .before .before .before .before .before .before .before .before .before .before .before .before .before .before .before .before .before .before .before .before .before .before .before .before .before .before .before .name2 .given .1) at (c .before .before .before .before .before .before .before .before .before .before .before .before .before .before .before .before .before .before .before .before .before .before .before .before .before .before .before .before .before .before .before .before .before .before .before .before .before .before .before .eat .ensures) in
+    let aso = c .before .before .before .before .before .before .before .before .before .before .before .before .before .before .before .before .before .before .before .before .before .before .before .before .before .before .before .before .aso .ensures in
+    let at = c .before .before .before .before .before .before .before .before .before .before .before .before .before .before .before .before .before .before .before .before .before .at .ensures in
+    let if1 = c .before .before .before .before .before .before .before .before .before .before .before .before .before .before .before .before .before .before .before .before .if1 .taken in
+    let if2 = c .before .before .before .before .before .before .before .before .before .before .before .before .before .before .before .before .before .before .before .if2 .left in
+    let mark = c .before .before .before .before .before .before .before .before .before .before .before .before .before .before .before .before .before .before .mark .ensures in
+    let bump = c .before .before .before .before .before .before .before .before .before .before .before .before .before .before .before .before .bump .ensures in
+    let stm = c .before .before .before .before .before .before .before .before .before .before .stm .ensures in
+    let close = c .before .before .close .ensures in
+    by-steps pre0 (λ b. s-by _ (runs-always eat) (s-by _ (runs-in aso) (s-kind (s-true _ _ (kind-at _ _ _ _ at if1) (s-mark if2 mark (s-bump bump (s-by _ (runs-in stm) (s-close close s-end))))))))
+
+stb-same-length-7 : (t : ℕ) → stb-lts.Need-same-length-7 (
+  eat-reads.Asked,
+  eat-reads.Learnt,
+  aso-below t,
+  aso.Post,
+  at-reads.Asked,
+  at-reads.Learnt,
+  refuse-reads.Asked,
+  refuse-reads.Learnt,
+  mark-reads.Asked,
+  mark-reads.Learnt,
+  bump-reads.Asked,
+  bump-reads.Learnt,
+  stm-below t,
+  stm.Post,
+  close-reads.Asked,
+  close-reads.Learnt,
+) (stb-at t) stb.Post
+stb-same-length-7 t c =
+    refl
+
+stb-same-length-8 : (t : ℕ) → stb-lts.Need-same-length-8 (
+  eat-reads.Asked,
+  eat-reads.Learnt,
+  aso-below t,
+  aso.Post,
+  at-reads.Asked,
+  at-reads.Learnt,
+  refuse-reads.Asked,
+  refuse-reads.Learnt,
+  mark-reads.Asked,
+  mark-reads.Learnt,
+  bump-reads.Asked,
+  bump-reads.Learnt,
+  stm-below t,
+  stm.Post,
+  close-reads.Asked,
+  close-reads.Learnt,
+) (stb-at t) stb.Post
+stb-same-length-8 t c =
+    c .before .before .before .before .before .before .before .eat .kept .1 .1 .1 .1 .0
+
+stb-same-length-9 : (t : ℕ) → stb-lts.Need-same-length-9 (
+  eat-reads.Asked,
+  eat-reads.Learnt,
+  aso-below t,
+  aso.Post,
+  at-reads.Asked,
+  at-reads.Learnt,
+  refuse-reads.Asked,
+  refuse-reads.Learnt,
+  mark-reads.Asked,
+  mark-reads.Learnt,
+  bump-reads.Asked,
+  bump-reads.Learnt,
+  stm-below t,
+  stm.Post,
+  close-reads.Asked,
+  close-reads.Learnt,
+) (stb-at t) stb.Post
+stb-same-length-9 t c =
+    c .before .before .before .before .before .before .before .eat .kept .1 .1 .1 .1 .1 .0
+
+stb-returns-3 : (t : ℕ) → stb-lts.Need-returns-3 (
+  eat-reads.Asked,
+  eat-reads.Learnt,
+  aso-below t,
+  aso.Post,
+  at-reads.Asked,
+  at-reads.Learnt,
+  refuse-reads.Asked,
+  refuse-reads.Learnt,
+  mark-reads.Asked,
+  mark-reads.Learnt,
+  bump-reads.Asked,
+  bump-reads.Learnt,
+  stm-below t,
+  stm.Post,
+  close-reads.Asked,
+  close-reads.Learnt,
+) (stb-at t) stb.Post
+unfolding decl.strBind plan choose chosen
+stb-returns-3 t c =
+    let falls = c .before .before .before .before .before .before .before .before .before .before .before .before .before .before .before .before .before .pre .0 in
+    let pre0 = c .before .before .before .before .before .before .before .before .before .before .before .before .before .before .before .before .before .pre .1 in
+    let eat = rw (c .before .name .given .1) at (c .before .before .before .before .before .before .before .eat .ensures) in
+    by-steps pre0 (λ b. s-by _ (runs-always eat) s-end)
+
+stb-same-length-10 : (t : ℕ) → stb-lts.Need-same-length-10 (
+  eat-reads.Asked,
+  eat-reads.Learnt,
+  aso-below t,
+  aso.Post,
+  at-reads.Asked,
+  at-reads.Learnt,
+  refuse-reads.Asked,
+  refuse-reads.Learnt,
+  mark-reads.Asked,
+  mark-reads.Learnt,
+  bump-reads.Asked,
+  bump-reads.Learnt,
+  stm-below t,
+  stm.Post,
+  close-reads.Asked,
+  close-reads.Learnt,
+) (stb-at t) stb.Post
+stb-same-length-10 t c =
+    c .before .before .before .before .before .before .before .before .aso .kept .1 .1 .1 .0
+
+stb-same-length-11 : (t : ℕ) → stb-lts.Need-same-length-11 (
+  eat-reads.Asked,
+  eat-reads.Learnt,
+  aso-below t,
+  aso.Post,
+  at-reads.Asked,
+  at-reads.Learnt,
+  refuse-reads.Asked,
+  refuse-reads.Learnt,
+  mark-reads.Asked,
+  mark-reads.Learnt,
+  bump-reads.Asked,
+  bump-reads.Learnt,
+  stm-below t,
+  stm.Post,
+  close-reads.Asked,
+  close-reads.Learnt,
+) (stb-at t) stb.Post
+stb-same-length-11 t c =
+    c .before .before .before .before .before .before .before .before .aso .kept .1 .1 .1 .1 .0 ∙ c .before .before .before .before .before .before .before .before .before .before .before .before .before .before .before .before .before .before .before .eat .kept .1 .1 .1 .1 .0
+
+stb-same-length-12 : (t : ℕ) → stb-lts.Need-same-length-12 (
+  eat-reads.Asked,
+  eat-reads.Learnt,
+  aso-below t,
+  aso.Post,
+  at-reads.Asked,
+  at-reads.Learnt,
+  refuse-reads.Asked,
+  refuse-reads.Learnt,
+  mark-reads.Asked,
+  mark-reads.Learnt,
+  bump-reads.Asked,
+  bump-reads.Learnt,
+  stm-below t,
+  stm.Post,
+  close-reads.Asked,
+  close-reads.Learnt,
+) (stb-at t) stb.Post
+stb-same-length-12 t c =
+    c .before .before .before .before .before .before .before .before .aso .kept .1 .1 .1 .1 .1 .0 ∙ c .before .before .before .before .before .before .before .before .before .before .before .before .before .before .before .before .before .before .before .eat .kept .1 .1 .1 .1 .1 .0
+
+stb-returns-4 : (t : ℕ) → stb-lts.Need-returns-4 (
+  eat-reads.Asked,
+  eat-reads.Learnt,
+  aso-below t,
+  aso.Post,
+  at-reads.Asked,
+  at-reads.Learnt,
+  refuse-reads.Asked,
+  refuse-reads.Learnt,
+  mark-reads.Asked,
+  mark-reads.Learnt,
+  bump-reads.Asked,
+  bump-reads.Learnt,
+  stm-below t,
+  stm.Post,
+  close-reads.Asked,
+  close-reads.Learnt,
+) (stb-at t) stb.Post
+unfolding decl.strBind plan choose chosen
+stb-returns-4 t c =
+    let falls = c .before .before .before .before .before .before .before .before .before .before .before .before .before .before .before .before .before .before .before .before .before .before .before .before .before .before .before .before .before .pre .0 in
+    let pre0 = c .before .before .before .before .before .before .before .before .before .before .before .before .before .before .before .before .before .before .before .before .before .before .before .before .before .before .before .before .before .pre .1 in
+    let eat = rw (c .before .before .before .before .before .before .before .before .before .before .before .before .before .name2 .given .1) at (c .before .before .before .before .before .before .before .before .before .before .before .before .before .before .before .before .before .before .before .eat .ensures) in
+    let aso = c .before .before .before .before .before .before .before .before .aso .ensures in
+    let at = c .before .at .ensures in
+    let if1 = c .if1 .left in
+    by-steps pre0 (λ b. s-by _ (runs-always eat) (s-by _ (runs-in aso) (s-kind (s-false _ _ (kind-off _ _ _ _ at if1) s-end))))
+
+sth-bump-requires : (t : ℕ) → sth-lts.Need-bump-requires (
+  bump-reads.Asked,
+  bump-reads.Learnt,
+  dec-below t,
+  dec.Post,
+  state-reads.Asked,
+  state-reads.Learnt,
+  give-back-reads.Asked,
+  give-back-reads.Learnt,
+  want-reads.Asked,
+  want-reads.Learnt,
+  close-reads.Asked,
+  close-reads.Learnt,
+  slt-below t,
+  slt.Post,
+  at-n-reads.Asked,
+  at-n-reads.Learnt,
+  fap-below t,
+  fap.Post,
+  str-path-reads.Asked,
+  str-path-reads.Learnt,
+) (sth-at t) sth.Post
+sth-bump-requires t c κs =
+    let pre0 = c .before .before .before .before .before .before .before .before .pre .1 .0 in
+    (pre0 .reads, pre0 .logs)
+
+sth-dec-requires : (t : ℕ) → sth-lts.Need-dec-requires (
+  bump-reads.Asked,
+  bump-reads.Learnt,
+  dec-below t,
+  dec.Post,
+  state-reads.Asked,
+  state-reads.Learnt,
+  give-back-reads.Asked,
+  give-back-reads.Learnt,
+  want-reads.Asked,
+  want-reads.Learnt,
+  close-reads.Asked,
+  close-reads.Learnt,
+  slt-below t,
+  slt.Post,
+  at-n-reads.Asked,
+  at-n-reads.Learnt,
+  fap-below t,
+  fap.Post,
+  str-path-reads.Asked,
+  str-path-reads.Learnt,
+) (sth-at t) sth.Post
+sth-dec-requires t c κs =
+    let falls = c .before .before .before .before .before .before .before .before .before .before .before .before .before .before .pre .0 in
+    let pre0 = c .before .before .before .before .before .before .before .before .before .before .before .before .before .before .pre .1 .0 in
+    let pre1 = c .before .before .before .before .before .before .before .before .before .before .before .before .before .before .pre .1 .1 in
+    let if1 = c .before .before .before .before .before .before .before .if1 .taken in
+    let bump = c .before .before .before .before .before .bump .ensures in
+    let bump-ok = ok-bumps bump pre0 in
+    (omega arith, bump-ok)
+
+sth-state-requires : (t : ℕ) → sth-lts.Need-state-requires (
+  bump-reads.Asked,
+  bump-reads.Learnt,
+  dec-below t,
+  dec.Post,
+  state-reads.Asked,
+  state-reads.Learnt,
+  give-back-reads.Asked,
+  give-back-reads.Learnt,
+  want-reads.Asked,
+  want-reads.Learnt,
+  close-reads.Asked,
+  close-reads.Learnt,
+  slt-below t,
+  slt.Post,
+  at-n-reads.Asked,
+  at-n-reads.Learnt,
+  fap-below t,
+  fap.Post,
+  str-path-reads.Asked,
+  str-path-reads.Learnt,
+) (sth-at t) sth.Post
+sth-state-requires t c κs =
+    tt
+
+sth-give-back-requires : (t : ℕ) → sth-lts.Need-give-back-requires (
+  bump-reads.Asked,
+  bump-reads.Learnt,
+  dec-below t,
+  dec.Post,
+  state-reads.Asked,
+  state-reads.Learnt,
+  give-back-reads.Asked,
+  give-back-reads.Learnt,
+  want-reads.Asked,
+  want-reads.Learnt,
+  close-reads.Asked,
+  close-reads.Learnt,
+  slt-below t,
+  slt.Post,
+  at-n-reads.Asked,
+  at-n-reads.Learnt,
+  fap-below t,
+  fap.Post,
+  str-path-reads.Asked,
+  str-path-reads.Learnt,
+) (sth-at t) sth.Post
+sth-give-back-requires t c κs =
+    tt
+
+sth-want-requires : (t : ℕ) → sth-lts.Need-want-requires (
+  bump-reads.Asked,
+  bump-reads.Learnt,
+  dec-below t,
+  dec.Post,
+  state-reads.Asked,
+  state-reads.Learnt,
+  give-back-reads.Asked,
+  give-back-reads.Learnt,
+  want-reads.Asked,
+  want-reads.Learnt,
+  close-reads.Asked,
+  close-reads.Learnt,
+  slt-below t,
+  slt.Post,
+  at-n-reads.Asked,
+  at-n-reads.Learnt,
+  fap-below t,
+  fap.Post,
+  str-path-reads.Asked,
+  str-path-reads.Learnt,
+) (sth-at t) sth.Post
+sth-want-requires t c κs =
+    let falls = c .before .before .before .before .before .before .before .before .before .before .before .before .before .before .before .before .before .before .before .before .before .before .before .before .before .before .pre .0 in
+    let pre0 = c .before .before .before .before .before .before .before .before .before .before .before .before .before .before .before .before .before .before .before .before .before .before .before .before .before .before .pre .1 .0 in
+    let pre1 = c .before .before .before .before .before .before .before .before .before .before .before .before .before .before .before .before .before .before .before .before .before .before .before .before .before .before .pre .1 .1 in
+    let if1 = c .before .before .before .before .before .before .before .before .before .before .before .before .before .before .before .before .before .before .before .if1 .taken in
+    let bump = c .before .before .before .before .before .before .before .before .before .before .before .before .before .before .before .before .before .bump .ensures in
+    let bump-ok = ok-bumps bump pre0 in
+    let dec = c .before .before .before .before .before .before .before .before .before .before .before .dec .ensures in
+    let state = c .before .before .before .before .state .ensures in
+    let give-back = c .before .before .before .give-back .ensures in
+    let give-back-ok = ok-back (settled state (runs-in {b = 0} dec)) give-back bump-ok in
+    (give-back-ok, omega arith)
+
+sth-close-requires : (t : ℕ) → sth-lts.Need-close-requires (
+  bump-reads.Asked,
+  bump-reads.Learnt,
+  dec-below t,
+  dec.Post,
+  state-reads.Asked,
+  state-reads.Learnt,
+  give-back-reads.Asked,
+  give-back-reads.Learnt,
+  want-reads.Asked,
+  want-reads.Learnt,
+  close-reads.Asked,
+  close-reads.Learnt,
+  slt-below t,
+  slt.Post,
+  at-n-reads.Asked,
+  at-n-reads.Learnt,
+  fap-below t,
+  fap.Post,
+  str-path-reads.Asked,
+  str-path-reads.Learnt,
+) (sth-at t) sth.Post
+sth-close-requires t c κs =
+    let pre1 = c .before .before .before .before .before .before .before .before .before .before .before .before .before .before .before .before .before .before .before .before .before .before .before .before .before .before .before .before .before .before .before .before .pre .1 .1 in
+    let want = c .before .before .before .before .before .want .ensures in
+    let want-ok = want .ok in
+    (want-ok .logs, pre1)
+
+sth-same-length : (t : ℕ) → sth-lts.Need-same-length (
+  bump-reads.Asked,
+  bump-reads.Learnt,
+  dec-below t,
+  dec.Post,
+  state-reads.Asked,
+  state-reads.Learnt,
+  give-back-reads.Asked,
+  give-back-reads.Learnt,
+  want-reads.Asked,
+  want-reads.Learnt,
+  close-reads.Asked,
+  close-reads.Learnt,
+  slt-below t,
+  slt.Post,
+  at-n-reads.Asked,
+  at-n-reads.Learnt,
+  fap-below t,
+  fap.Post,
+  str-path-reads.Asked,
+  str-path-reads.Learnt,
+) (sth-at t) sth.Post
+sth-same-length t c =
+    c .before .before .before .before .before .before .before .before .before .before .before .before .before .before .before .before .before .before .before .before .dec .kept .1 .1 .1 .0
+
+sth-same-length-2 : (t : ℕ) → sth-lts.Need-same-length-2 (
+  bump-reads.Asked,
+  bump-reads.Learnt,
+  dec-below t,
+  dec.Post,
+  state-reads.Asked,
+  state-reads.Learnt,
+  give-back-reads.Asked,
+  give-back-reads.Learnt,
+  want-reads.Asked,
+  want-reads.Learnt,
+  close-reads.Asked,
+  close-reads.Learnt,
+  slt-below t,
+  slt.Post,
+  at-n-reads.Asked,
+  at-n-reads.Learnt,
+  fap-below t,
+  fap.Post,
+  str-path-reads.Asked,
+  str-path-reads.Learnt,
+) (sth-at t) sth.Post
+sth-same-length-2 t c =
+    c .before .before .close .kept .0 ∙ c .before .before .before .before .before .before .before .before .want .kept .1 .1 .1 .1 .0 ∙ c .before .before .before .before .before .before .before .before .before .before .before .before .before .before .before .before .before .before .before .before .dec .kept .1 .1 .1 .1 .0 ∙ c .before .before .before .before .before .before .before .before .before .before .before .before .before .before .before .before .before .before .before .before .before .before .before .before .before .before .bump .kept .1 .0
+
+sth-same-length-3 : (t : ℕ) → sth-lts.Need-same-length-3 (
+  bump-reads.Asked,
+  bump-reads.Learnt,
+  dec-below t,
+  dec.Post,
+  state-reads.Asked,
+  state-reads.Learnt,
+  give-back-reads.Asked,
+  give-back-reads.Learnt,
+  want-reads.Asked,
+  want-reads.Learnt,
+  close-reads.Asked,
+  close-reads.Learnt,
+  slt-below t,
+  slt.Post,
+  at-n-reads.Asked,
+  at-n-reads.Learnt,
+  fap-below t,
+  fap.Post,
+  str-path-reads.Asked,
+  str-path-reads.Learnt,
+) (sth-at t) sth.Post
+sth-same-length-3 t c =
+    c .before .before .before .before .before .before .before .before .want .kept .1 .1 .1 .1 .1 .0 ∙ c .before .before .before .before .before .before .before .before .before .before .before .before .before .before .before .before .before .before .before .before .dec .kept .1 .1 .1 .1 .1 .0
+
+sth-returns : (t : ℕ) → sth-lts.Need-returns (
+  bump-reads.Asked,
+  bump-reads.Learnt,
+  dec-below t,
+  dec.Post,
+  state-reads.Asked,
+  state-reads.Learnt,
+  give-back-reads.Asked,
+  give-back-reads.Learnt,
+  want-reads.Asked,
+  want-reads.Learnt,
+  close-reads.Asked,
+  close-reads.Learnt,
+  slt-below t,
+  slt.Post,
+  at-n-reads.Asked,
+  at-n-reads.Learnt,
+  fap-below t,
+  fap.Post,
+  str-path-reads.Asked,
+  str-path-reads.Learnt,
+) (sth-at t) sth.Post
+unfolding decl.strHead plan choose chosen
+sth-returns t c =
+    let falls = c .before .before .before .before .before .before .before .before .before .before .before .before .before .before .before .before .before .before .before .before .before .before .before .before .before .before .before .before .before .before .before .before .before .before .before .pre .0 in
+    let pre0 = c .before .before .before .before .before .before .before .before .before .before .before .before .before .before .before .before .before .before .before .before .before .before .before .before .before .before .before .before .before .before .before .before .before .before .before .pre .1 .0 in
+    let pre1 = c .before .before .before .before .before .before .before .before .before .before .before .before .before .before .before .before .before .before .before .before .before .before .before .before .before .before .before .before .before .before .before .before .before .before .before .pre .1 .1 in
+    let if1 = c .before .before .before .before .before .before .before .before .before .before .before .before .before .before .before .before .before .before .before .before .before .before .before .before .before .before .before .before .if1 .taken in
+    let bump = c .before .before .before .before .before .before .before .before .before .before .before .before .before .before .before .before .before .before .before .before .before .before .before .before .before .before .bump .ensures in
+    let dec = c .before .before .before .before .before .before .before .before .before .before .before .before .before .before .before .before .before .before .before .before .dec .ensures in
+    let state = c .before .before .before .before .before .before .before .before .before .before .before .before .before .state .ensures in
+    let give-back = c .before .before .before .before .before .before .before .before .before .before .before .before .give-back .ensures in
+    let want = c .before .before .before .before .before .before .before .before .want .ensures in
+    let close = c .before .before .close .ensures in
+    in-steps pre0 (s-true _ _ (kind-is if1) (s-bump bump (s-scoped (settled state (runs-in dec)) give-back (s-by _ (runs-always want) (s-close close s-end)))))
+
+sth-bump-requires-2 : (t : ℕ) → sth-lts.Need-bump-requires-2 (
+  bump-reads.Asked,
+  bump-reads.Learnt,
+  dec-below t,
+  dec.Post,
+  state-reads.Asked,
+  state-reads.Learnt,
+  give-back-reads.Asked,
+  give-back-reads.Learnt,
+  want-reads.Asked,
+  want-reads.Learnt,
+  close-reads.Asked,
+  close-reads.Learnt,
+  slt-below t,
+  slt.Post,
+  at-n-reads.Asked,
+  at-n-reads.Learnt,
+  fap-below t,
+  fap.Post,
+  str-path-reads.Asked,
+  str-path-reads.Learnt,
+) (sth-at t) sth.Post
+sth-bump-requires-2 t c κs =
+    let pre0 = c .before .before .before .before .before .before .before .before .before .pre .1 .0 in
+    (pre0 .reads, pre0 .logs)
+
+sth-slt-requires : (t : ℕ) → sth-lts.Need-slt-requires (
+  bump-reads.Asked,
+  bump-reads.Learnt,
+  dec-below t,
+  dec.Post,
+  state-reads.Asked,
+  state-reads.Learnt,
+  give-back-reads.Asked,
+  give-back-reads.Learnt,
+  want-reads.Asked,
+  want-reads.Learnt,
+  close-reads.Asked,
+  close-reads.Learnt,
+  slt-below t,
+  slt.Post,
+  at-n-reads.Asked,
+  at-n-reads.Learnt,
+  fap-below t,
+  fap.Post,
+  str-path-reads.Asked,
+  str-path-reads.Learnt,
+) (sth-at t) sth.Post
+sth-slt-requires t c κs =
+    let falls = c .before .before .before .before .before .before .before .before .before .before .before .before .before .before .before .pre .0 in
+    let pre0 = c .before .before .before .before .before .before .before .before .before .before .before .before .before .before .before .pre .1 .0 in
+    let pre1 = c .before .before .before .before .before .before .before .before .before .before .before .before .before .before .before .pre .1 .1 in
+    let if1 = c .before .before .before .before .before .before .before .before .if1 .left in
+    let if2 = c .before .before .before .before .before .before .before .if2 .taken in
+    let bump2 = c .before .before .before .before .before .bump2 .ensures in
+    let bump2-ok = ok-bumps bump2 pre0 in
+    (omega arith, bump2-ok)
+
+sth-give-back-requires-2 : (t : ℕ) → sth-lts.Need-give-back-requires-2 (
+  bump-reads.Asked,
+  bump-reads.Learnt,
+  dec-below t,
+  dec.Post,
+  state-reads.Asked,
+  state-reads.Learnt,
+  give-back-reads.Asked,
+  give-back-reads.Learnt,
+  want-reads.Asked,
+  want-reads.Learnt,
+  close-reads.Asked,
+  close-reads.Learnt,
+  slt-below t,
+  slt.Post,
+  at-n-reads.Asked,
+  at-n-reads.Learnt,
+  fap-below t,
+  fap.Post,
+  str-path-reads.Asked,
+  str-path-reads.Learnt,
+) (sth-at t) sth.Post
+sth-give-back-requires-2 t c κs =
+    tt
+
+sth-want-requires-2 : (t : ℕ) → sth-lts.Need-want-requires-2 (
+  bump-reads.Asked,
+  bump-reads.Learnt,
+  dec-below t,
+  dec.Post,
+  state-reads.Asked,
+  state-reads.Learnt,
+  give-back-reads.Asked,
+  give-back-reads.Learnt,
+  want-reads.Asked,
+  want-reads.Learnt,
+  close-reads.Asked,
+  close-reads.Learnt,
+  slt-below t,
+  slt.Post,
+  at-n-reads.Asked,
+  at-n-reads.Learnt,
+  fap-below t,
+  fap.Post,
+  str-path-reads.Asked,
+  str-path-reads.Learnt,
+) (sth-at t) sth.Post
+sth-want-requires-2 t c κs =
+    let falls = c .before .before .before .before .before .before .before .before .before .before .before .before .before .before .before .before .before .before .before .before .before .before .before .before .before .before .pre .0 in
+    let pre0 = c .before .before .before .before .before .before .before .before .before .before .before .before .before .before .before .before .before .before .before .before .before .before .before .before .before .before .pre .1 .0 in
+    let pre1 = c .before .before .before .before .before .before .before .before .before .before .before .before .before .before .before .before .before .before .before .before .before .before .before .before .before .before .pre .1 .1 in
+    let if1 = c .before .before .before .before .before .before .before .before .before .before .before .before .before .before .before .before .before .before .before .if1 .left in
+    let if2 = c .before .before .before .before .before .before .before .before .before .before .before .before .before .before .before .before .before .before .if2 .taken in
+    let bump2 = c .before .before .before .before .before .before .before .before .before .before .before .before .before .before .before .before .bump2 .ensures in
+    let bump2-ok = ok-bumps bump2 pre0 in
+    let slt = c .before .before .before .before .before .before .before .before .before .before .slt .ensures in
+    let give-back2 = c .before .before .before .give-back2 .ensures in
+    let give-back2-ok = ok-back (runs-in {b = 0} slt) give-back2 bump2-ok in
+    (give-back2-ok, omega arith)
+
+sth-close-requires-2 : (t : ℕ) → sth-lts.Need-close-requires-2 (
+  bump-reads.Asked,
+  bump-reads.Learnt,
+  dec-below t,
+  dec.Post,
+  state-reads.Asked,
+  state-reads.Learnt,
+  give-back-reads.Asked,
+  give-back-reads.Learnt,
+  want-reads.Asked,
+  want-reads.Learnt,
+  close-reads.Asked,
+  close-reads.Learnt,
+  slt-below t,
+  slt.Post,
+  at-n-reads.Asked,
+  at-n-reads.Learnt,
+  fap-below t,
+  fap.Post,
+  str-path-reads.Asked,
+  str-path-reads.Learnt,
+) (sth-at t) sth.Post
+sth-close-requires-2 t c κs =
+    let pre1 = c .before .before .before .before .before .before .before .before .before .before .before .before .before .before .before .before .before .before .before .before .before .before .before .before .before .before .before .before .before .before .before .before .pre .1 .1 in
+    let want2 = c .before .before .before .before .before .want2 .ensures in
+    let want2-ok = want2 .ok in
+    (want2-ok .logs, pre1)
+
+sth-same-length-4 : (t : ℕ) → sth-lts.Need-same-length-4 (
+  bump-reads.Asked,
+  bump-reads.Learnt,
+  dec-below t,
+  dec.Post,
+  state-reads.Asked,
+  state-reads.Learnt,
+  give-back-reads.Asked,
+  give-back-reads.Learnt,
+  want-reads.Asked,
+  want-reads.Learnt,
+  close-reads.Asked,
+  close-reads.Learnt,
+  slt-below t,
+  slt.Post,
+  at-n-reads.Asked,
+  at-n-reads.Learnt,
+  fap-below t,
+  fap.Post,
+  str-path-reads.Asked,
+  str-path-reads.Learnt,
+) (sth-at t) sth.Post
+sth-same-length-4 t c =
+    c .before .before .before .before .before .before .before .before .before .before .before .before .before .before .before .before .before .before .before .slt .kept .1 .1 .1 .0
+
+sth-same-length-5 : (t : ℕ) → sth-lts.Need-same-length-5 (
+  bump-reads.Asked,
+  bump-reads.Learnt,
+  dec-below t,
+  dec.Post,
+  state-reads.Asked,
+  state-reads.Learnt,
+  give-back-reads.Asked,
+  give-back-reads.Learnt,
+  want-reads.Asked,
+  want-reads.Learnt,
+  close-reads.Asked,
+  close-reads.Learnt,
+  slt-below t,
+  slt.Post,
+  at-n-reads.Asked,
+  at-n-reads.Learnt,
+  fap-below t,
+  fap.Post,
+  str-path-reads.Asked,
+  str-path-reads.Learnt,
+) (sth-at t) sth.Post
+sth-same-length-5 t c =
+    c .before .before .close2 .kept .0 ∙ c .before .before .before .before .before .before .before .before .want2 .kept .1 .1 .1 .1 .0 ∙ c .before .before .before .before .before .before .before .before .before .before .before .before .before .before .before .before .before .before .before .slt .kept .1 .1 .1 .1 .0 ∙ c .before .before .before .before .before .before .before .before .before .before .before .before .before .before .before .before .before .before .before .before .before .before .before .before .before .bump2 .kept .1 .0
+
+sth-same-length-6 : (t : ℕ) → sth-lts.Need-same-length-6 (
+  bump-reads.Asked,
+  bump-reads.Learnt,
+  dec-below t,
+  dec.Post,
+  state-reads.Asked,
+  state-reads.Learnt,
+  give-back-reads.Asked,
+  give-back-reads.Learnt,
+  want-reads.Asked,
+  want-reads.Learnt,
+  close-reads.Asked,
+  close-reads.Learnt,
+  slt-below t,
+  slt.Post,
+  at-n-reads.Asked,
+  at-n-reads.Learnt,
+  fap-below t,
+  fap.Post,
+  str-path-reads.Asked,
+  str-path-reads.Learnt,
+) (sth-at t) sth.Post
+sth-same-length-6 t c =
+    c .before .before .before .before .before .before .before .before .want2 .kept .1 .1 .1 .1 .1 .0 ∙ c .before .before .before .before .before .before .before .before .before .before .before .before .before .before .before .before .before .before .before .slt .kept .1 .1 .1 .1 .1 .0
+
+sth-returns-2 : (t : ℕ) → sth-lts.Need-returns-2 (
+  bump-reads.Asked,
+  bump-reads.Learnt,
+  dec-below t,
+  dec.Post,
+  state-reads.Asked,
+  state-reads.Learnt,
+  give-back-reads.Asked,
+  give-back-reads.Learnt,
+  want-reads.Asked,
+  want-reads.Learnt,
+  close-reads.Asked,
+  close-reads.Learnt,
+  slt-below t,
+  slt.Post,
+  at-n-reads.Asked,
+  at-n-reads.Learnt,
+  fap-below t,
+  fap.Post,
+  str-path-reads.Asked,
+  str-path-reads.Learnt,
+) (sth-at t) sth.Post
+unfolding decl.strHead plan choose chosen
+sth-returns-2 t c =
+    let falls = c .before .before .before .before .before .before .before .before .before .before .before .before .before .before .before .before .before .before .before .before .before .before .before .before .before .before .before .before .before .before .before .before .before .before .before .pre .0 in
+    let pre0 = c .before .before .before .before .before .before .before .before .before .before .before .before .before .before .before .before .before .before .before .before .before .before .before .before .before .before .before .before .before .before .before .before .before .before .before .pre .1 .0 in
+    let pre1 = c .before .before .before .before .before .before .before .before .before .before .before .before .before .before .before .before .before .before .before .before .before .before .before .before .before .before .before .before .before .before .before .before .before .before .before .pre .1 .1 in
+    let if1 = c .before .before .before .before .before .before .before .before .before .before .before .before .before .before .before .before .before .before .before .before .before .before .before .before .before .before .before .before .if1 .left in
+    let if2 = c .before .before .before .before .before .before .before .before .before .before .before .before .before .before .before .before .before .before .before .before .before .before .before .before .before .before .before .if2 .taken in
+    let bump2 = c .before .before .before .before .before .before .before .before .before .before .before .before .before .before .before .before .before .before .before .before .before .before .before .before .before .bump2 .ensures in
+    let slt = c .before .before .before .before .before .before .before .before .before .before .before .before .before .before .before .before .before .before .before .slt .ensures in
+    let give-back2 = c .before .before .before .before .before .before .before .before .before .before .before .before .give-back2 .ensures in
+    let want2 = c .before .before .before .before .before .before .before .before .want2 .ensures in
+    let close2 = c .before .before .close2 .ensures in
+    in-steps pre0 (s-false _ _ (kind-not if1) (s-true _ _ (kind-is if2) (s-bump bump2 (s-scoped (runs-in slt) give-back2 (s-by _ (runs-always want2) (s-close close2 s-end))))))
+
+sth-at-n-requires : (t : ℕ) → sth-lts.Need-at-n-requires (
+  bump-reads.Asked,
+  bump-reads.Learnt,
+  dec-below t,
+  dec.Post,
+  state-reads.Asked,
+  state-reads.Learnt,
+  give-back-reads.Asked,
+  give-back-reads.Learnt,
+  want-reads.Asked,
+  want-reads.Learnt,
+  close-reads.Asked,
+  close-reads.Learnt,
+  slt-below t,
+  slt.Post,
+  at-n-reads.Asked,
+  at-n-reads.Learnt,
+  fap-below t,
+  fap.Post,
+  str-path-reads.Asked,
+  str-path-reads.Learnt,
+) (sth-at t) sth.Post
+sth-at-n-requires t c κs =
+    let pre0 = c .before .before .before .before .before .before .before .before .before .pre .1 .0 in
+    pre0 .reads
+
+sth-fap-requires : (t : ℕ) → sth-lts.Need-fap-requires (
+  bump-reads.Asked,
+  bump-reads.Learnt,
+  dec-below t,
+  dec.Post,
+  state-reads.Asked,
+  state-reads.Learnt,
+  give-back-reads.Asked,
+  give-back-reads.Learnt,
+  want-reads.Asked,
+  want-reads.Learnt,
+  close-reads.Asked,
+  close-reads.Learnt,
+  slt-below t,
+  slt.Post,
+  at-n-reads.Asked,
+  at-n-reads.Learnt,
+  fap-below t,
+  fap.Post,
+  str-path-reads.Asked,
+  str-path-reads.Learnt,
+) (sth-at t) sth.Post
+sth-fap-requires t c κs =
+    let falls = c .before .before .before .before .before .before .before .before .before .before .before .before .before .before .pre .0 in
+    let pre0 = c .before .before .before .before .before .before .before .before .before .before .before .before .before .before .pre .1 .0 in
+    let pre1 = c .before .before .before .before .before .before .before .before .before .before .before .before .before .before .pre .1 .1 in
+    let if1 = c .before .before .before .before .before .before .before .if1 .left in
+    let if2 = c .before .before .before .before .before .before .if2 .left in
+    let if3 = c .before .before .before .before .before .if3 .taken in
+    let if4 = c .before .before .before .if4 .taken in
+    (omega arith, (pre0, pre1))
+
+sth-same-length-7 : (t : ℕ) → sth-lts.Need-same-length-7 (
+  bump-reads.Asked,
+  bump-reads.Learnt,
+  dec-below t,
+  dec.Post,
+  state-reads.Asked,
+  state-reads.Learnt,
+  give-back-reads.Asked,
+  give-back-reads.Learnt,
+  want-reads.Asked,
+  want-reads.Learnt,
+  close-reads.Asked,
+  close-reads.Learnt,
+  slt-below t,
+  slt.Post,
+  at-n-reads.Asked,
+  at-n-reads.Learnt,
+  fap-below t,
+  fap.Post,
+  str-path-reads.Asked,
+  str-path-reads.Learnt,
+) (sth-at t) sth.Post
+sth-same-length-7 t c =
+    c .before .before .before .before .before .before .fap .kept .1 .1 .1 .0
+
+sth-same-length-8 : (t : ℕ) → sth-lts.Need-same-length-8 (
+  bump-reads.Asked,
+  bump-reads.Learnt,
+  dec-below t,
+  dec.Post,
+  state-reads.Asked,
+  state-reads.Learnt,
+  give-back-reads.Asked,
+  give-back-reads.Learnt,
+  want-reads.Asked,
+  want-reads.Learnt,
+  close-reads.Asked,
+  close-reads.Learnt,
+  slt-below t,
+  slt.Post,
+  at-n-reads.Asked,
+  at-n-reads.Learnt,
+  fap-below t,
+  fap.Post,
+  str-path-reads.Asked,
+  str-path-reads.Learnt,
+) (sth-at t) sth.Post
+sth-same-length-8 t c =
+    c .before .before .before .before .before .before .fap .kept .1 .1 .1 .1 .0
+
+sth-same-length-9 : (t : ℕ) → sth-lts.Need-same-length-9 (
+  bump-reads.Asked,
+  bump-reads.Learnt,
+  dec-below t,
+  dec.Post,
+  state-reads.Asked,
+  state-reads.Learnt,
+  give-back-reads.Asked,
+  give-back-reads.Learnt,
+  want-reads.Asked,
+  want-reads.Learnt,
+  close-reads.Asked,
+  close-reads.Learnt,
+  slt-below t,
+  slt.Post,
+  at-n-reads.Asked,
+  at-n-reads.Learnt,
+  fap-below t,
+  fap.Post,
+  str-path-reads.Asked,
+  str-path-reads.Learnt,
+) (sth-at t) sth.Post
+sth-same-length-9 t c =
+    c .before .before .before .before .before .before .fap .kept .1 .1 .1 .1 .1 .0
+
+sth-returns-3 : (t : ℕ) → sth-lts.Need-returns-3 (
+  bump-reads.Asked,
+  bump-reads.Learnt,
+  dec-below t,
+  dec.Post,
+  state-reads.Asked,
+  state-reads.Learnt,
+  give-back-reads.Asked,
+  give-back-reads.Learnt,
+  want-reads.Asked,
+  want-reads.Learnt,
+  close-reads.Asked,
+  close-reads.Learnt,
+  slt-below t,
+  slt.Post,
+  at-n-reads.Asked,
+  at-n-reads.Learnt,
+  fap-below t,
+  fap.Post,
+  str-path-reads.Asked,
+  str-path-reads.Learnt,
+) (sth-at t) sth.Post
+unfolding decl.strHead plan choose chosen
+sth-returns-3 t c =
+    let falls = c .before .before .before .before .before .before .before .before .before .before .before .before .before .before .before .before .before .before .before .before .before .pre .0 in
+    let pre0 = c .before .before .before .before .before .before .before .before .before .before .before .before .before .before .before .before .before .before .before .before .before .pre .1 .0 in
+    let pre1 = c .before .before .before .before .before .before .before .before .before .before .before .before .before .before .before .before .before .before .before .before .before .pre .1 .1 in
+    let if1 = c .before .before .before .before .before .before .before .before .before .before .before .before .before .before .if1 .left in
+    let if2 = c .before .before .before .before .before .before .before .before .before .before .before .before .before .if2 .left in
+    let if3 = c .before .before .before .before .before .before .before .before .before .before .before .before .if3 .taken in
+    let at-n = c .before .before .before .before .before .before .before .before .before .before .before .at-n .ensures in
+    let if4 = c .before .before .before .before .before .before .before .before .before .before .if4 .taken in
+    let fap = c .before .before .before .before .before .before .fap .ensures in
+    in-steps pre0 (s-false _ _ (kind-not if1) (s-false _ _ (kind-not if2) (s-true _ _ (kind-is if3) (s-kind (s-true _ _ (kind-at _ _ _ _ at-n if4) (s-by _ fap s-end))))))
+
+sth-str-path-requires : (t : ℕ) → sth-lts.Need-str-path-requires (
+  bump-reads.Asked,
+  bump-reads.Learnt,
+  dec-below t,
+  dec.Post,
+  state-reads.Asked,
+  state-reads.Learnt,
+  give-back-reads.Asked,
+  give-back-reads.Learnt,
+  want-reads.Asked,
+  want-reads.Learnt,
+  close-reads.Asked,
+  close-reads.Learnt,
+  slt-below t,
+  slt.Post,
+  at-n-reads.Asked,
+  at-n-reads.Learnt,
+  fap-below t,
+  fap.Post,
+  str-path-reads.Asked,
+  str-path-reads.Learnt,
+) (sth-at t) sth.Post
+sth-str-path-requires t c κs =
+    let pre0 = c .before .before .before .before .before .before .before .before .before .before .before .before .before .before .pre .1 .0 in
+    let pre1 = c .before .before .before .before .before .before .before .before .before .before .before .before .before .before .pre .1 .1 in
+    (pre0, pre1)
+
+sth-same-length-10 : (t : ℕ) → sth-lts.Need-same-length-10 (
+  bump-reads.Asked,
+  bump-reads.Learnt,
+  dec-below t,
+  dec.Post,
+  state-reads.Asked,
+  state-reads.Learnt,
+  give-back-reads.Asked,
+  give-back-reads.Learnt,
+  want-reads.Asked,
+  want-reads.Learnt,
+  close-reads.Asked,
+  close-reads.Learnt,
+  slt-below t,
+  slt.Post,
+  at-n-reads.Asked,
+  at-n-reads.Learnt,
+  fap-below t,
+  fap.Post,
+  str-path-reads.Asked,
+  str-path-reads.Learnt,
+) (sth-at t) sth.Post
+sth-same-length-10 t c =
+    refl
+
+sth-same-length-11 : (t : ℕ) → sth-lts.Need-same-length-11 (
+  bump-reads.Asked,
+  bump-reads.Learnt,
+  dec-below t,
+  dec.Post,
+  state-reads.Asked,
+  state-reads.Learnt,
+  give-back-reads.Asked,
+  give-back-reads.Learnt,
+  want-reads.Asked,
+  want-reads.Learnt,
+  close-reads.Asked,
+  close-reads.Learnt,
+  slt-below t,
+  slt.Post,
+  at-n-reads.Asked,
+  at-n-reads.Learnt,
+  fap-below t,
+  fap.Post,
+  str-path-reads.Asked,
+  str-path-reads.Learnt,
+) (sth-at t) sth.Post
+sth-same-length-11 t c =
+    c .before .before .before .before .str-path .kept .1 .1 .1 .1 .0
+
+sth-same-length-12 : (t : ℕ) → sth-lts.Need-same-length-12 (
+  bump-reads.Asked,
+  bump-reads.Learnt,
+  dec-below t,
+  dec.Post,
+  state-reads.Asked,
+  state-reads.Learnt,
+  give-back-reads.Asked,
+  give-back-reads.Learnt,
+  want-reads.Asked,
+  want-reads.Learnt,
+  close-reads.Asked,
+  close-reads.Learnt,
+  slt-below t,
+  slt.Post,
+  at-n-reads.Asked,
+  at-n-reads.Learnt,
+  fap-below t,
+  fap.Post,
+  str-path-reads.Asked,
+  str-path-reads.Learnt,
+) (sth-at t) sth.Post
+sth-same-length-12 t c =
+    c .before .before .before .before .str-path .kept .1 .1 .1 .1 .1 .0
+
+sth-returns-4 : (t : ℕ) → sth-lts.Need-returns-4 (
+  bump-reads.Asked,
+  bump-reads.Learnt,
+  dec-below t,
+  dec.Post,
+  state-reads.Asked,
+  state-reads.Learnt,
+  give-back-reads.Asked,
+  give-back-reads.Learnt,
+  want-reads.Asked,
+  want-reads.Learnt,
+  close-reads.Asked,
+  close-reads.Learnt,
+  slt-below t,
+  slt.Post,
+  at-n-reads.Asked,
+  at-n-reads.Learnt,
+  fap-below t,
+  fap.Post,
+  str-path-reads.Asked,
+  str-path-reads.Learnt,
+) (sth-at t) sth.Post
+unfolding decl.strHead plan choose chosen
+sth-returns-4 t c =
+    let falls = c .before .before .before .before .before .before .before .before .before .before .before .before .before .before .before .before .before .before .before .pre .0 in
+    let pre0 = c .before .before .before .before .before .before .before .before .before .before .before .before .before .before .before .before .before .before .before .pre .1 .0 in
+    let pre1 = c .before .before .before .before .before .before .before .before .before .before .before .before .before .before .before .before .before .before .before .pre .1 .1 in
+    let if1 = c .before .before .before .before .before .before .before .before .before .before .before .before .if1 .left in
+    let if2 = c .before .before .before .before .before .before .before .before .before .before .before .if2 .left in
+    let if3 = c .before .before .before .before .before .before .before .before .before .before .if3 .taken in
+    let at-n = c .before .before .before .before .before .before .before .before .before .at-n .ensures in
+    let if4 = c .before .before .before .before .before .before .before .before .if4 .left in
+    let str-path = c .before .before .before .before .str-path .ensures in
+    in-steps pre0 (s-false _ _ (kind-not if1) (s-false _ _ (kind-not if2) (s-true _ _ (kind-is if3) (s-kind (s-false _ _ (kind-off _ _ _ _ at-n if4) (s-by _ str-path s-end))))))
+
+sth-returns-5 : (t : ℕ) → sth-lts.Need-returns-5 (
+  bump-reads.Asked,
+  bump-reads.Learnt,
+  dec-below t,
+  dec.Post,
+  state-reads.Asked,
+  state-reads.Learnt,
+  give-back-reads.Asked,
+  give-back-reads.Learnt,
+  want-reads.Asked,
+  want-reads.Learnt,
+  close-reads.Asked,
+  close-reads.Learnt,
+  slt-below t,
+  slt.Post,
+  at-n-reads.Asked,
+  at-n-reads.Learnt,
+  fap-below t,
+  fap.Post,
+  str-path-reads.Asked,
+  str-path-reads.Learnt,
+) (sth-at t) sth.Post
+unfolding decl.strHead plan choose chosen
+sth-returns-5 t c =
+    let falls = c .before .before .before .before .before .before .before .before .before .pre .0 in
+    let pre0 = c .before .before .before .before .before .before .before .before .before .pre .1 .0 in
+    let pre1 = c .before .before .before .before .before .before .before .before .before .pre .1 .1 in
+    let if1 = c .before .before .if1 .left in
+    let if2 = c .before .if2 .left in
+    let if3 = c .if3 .left in
+    in-steps pre0 (s-false _ _ (kind-not if1) (s-false _ _ (kind-not if2) (s-false _ _ (kind-not if3) s-end)))
+
+stm-stx-requires : (t : ℕ) → stm-lts.Need-stx-requires (
+  stx-below t,
+  stx.Post,
+  report-reads.Asked,
+  report-reads.Learnt,
+) (stm-at t) stm.Post
+stm-stx-requires t c κs =
+    let falls = c .before .before .before .before .before .before .before .before .before .pre .0 in
+    let pre0 = c .before .before .before .before .before .before .before .before .before .pre .1 in
+    (omega arith, pre0)
+
+stm-enum-known-got : (t : ℕ) → stm-lts.Need-enum-known-got (
+  stx-below t,
+  stx.Post,
+  report-reads.Asked,
+  report-reads.Learnt,
+) (stm-at t) stm.Post
+stm-enum-known-got t c =
+    let falls = c .before .before .before .before .before .before .before .before .before .before .before .before .before .before .before .before .before .pre .0 in
+    let pre0 = c .before .before .before .before .before .before .before .before .before .before .before .before .before .before .before .before .before .pre .1 in
+    search needs
+
+stm-enum-known-got-2 : (t : ℕ) → stm-lts.Need-enum-known-got-2 (
+  stx-below t,
+  stx.Post,
+  report-reads.Asked,
+  report-reads.Learnt,
+) (stm-at t) stm.Post
+stm-enum-known-got-2 t c =
+    let falls = c .before .before .before .before .before .before .before .before .before .before .before .before .before .before .before .before .before .pre .0 in
+    let pre0 = c .before .before .before .before .before .before .before .before .before .before .before .before .before .before .before .before .before .pre .1 in
+    search needs
+
+stm-report-requires : (t : ℕ) → stm-lts.Need-report-requires (
+  stx-below t,
+  stx.Post,
+  report-reads.Asked,
+  report-reads.Learnt,
+) (stm-at t) stm.Post
+stm-report-requires t c κs =
+    let falls = c .before .before .before .before .before .before .before .before .before .before .before .before .before .before .before .before .before .before .before .before .pre .0 in
+    let stx = rw (c .before .before .got2 .given .1) at (c .before .before .before .before .before .before .before .before .before .before .stx .ensures) in
+    let stx-ok = stx .ok in
+    (stx-ok .holds, (let few = stx-ok .reads .few in let inside = stx-ok .reads .inside in omega arith), omega arith)
+
+stm-same-length : (t : ℕ) → stm-lts.Need-same-length (
+  stx-below t,
+  stx.Post,
+  report-reads.Asked,
+  report-reads.Learnt,
+) (stm-at t) stm.Post
+stm-same-length t c =
+    c .before .before .before .before .before .before .before .before .before .stx .kept .1 .1 .1 .0
+
+stm-same-length-2 : (t : ℕ) → stm-lts.Need-same-length-2 (
+  stx-below t,
+  stx.Post,
+  report-reads.Asked,
+  report-reads.Learnt,
+) (stm-at t) stm.Post
+stm-same-length-2 t c =
+    c .before .before .before .before .before .before .before .before .before .stx .kept .1 .1 .1 .1 .0
+
+stm-same-length-3 : (t : ℕ) → stm-lts.Need-same-length-3 (
+  stx-below t,
+  stx.Post,
+  report-reads.Asked,
+  report-reads.Learnt,
+) (stm-at t) stm.Post
+stm-same-length-3 t c =
+    c .before .before .before .before .before .before .before .before .before .stx .kept .1 .1 .1 .1 .1 .0
+
+stm-returns : (t : ℕ) → stm-lts.Need-returns (
+  stx-below t,
+  stx.Post,
+  report-reads.Asked,
+  report-reads.Learnt,
+) (stm-at t) stm.Post
+unfolding decl.strMust plan choose chosen
+stm-returns t c =
+    let falls = c .before .before .before .before .before .before .before .before .before .before .before .before .before .before .before .before .before .before .before .pre .0 in
+    let pre0 = c .before .before .before .before .before .before .before .before .before .before .before .before .before .before .before .before .before .before .before .pre .1 in
+    let stx = rw (c .before .got .given .1) at (c .before .before .before .before .before .before .before .before .before .stx .ensures) in
+    by-steps pre0 (λ b. s-run (runs-in stx) s-end)
+
+stm-same-length-4 : (t : ℕ) → stm-lts.Need-same-length-4 (
+  stx-below t,
+  stx.Post,
+  report-reads.Asked,
+  report-reads.Learnt,
+) (stm-at t) stm.Post
+stm-same-length-4 t c =
+    c .before .before .before .before .before .before .before .before .before .before .before .before .before .stx .kept .1 .1 .1 .0
+
+stm-same-length-5 : (t : ℕ) → stm-lts.Need-same-length-5 (
+  stx-below t,
+  stx.Post,
+  report-reads.Asked,
+  report-reads.Learnt,
+) (stm-at t) stm.Post
+stm-same-length-5 t c =
+    c .before .before .before .before .before .before .before .before .before .before .before .before .before .stx .kept .1 .1 .1 .1 .0
+
+stm-same-length-6 : (t : ℕ) → stm-lts.Need-same-length-6 (
+  stx-below t,
+  stx.Post,
+  report-reads.Asked,
+  report-reads.Learnt,
+) (stm-at t) stm.Post
+stm-same-length-6 t c =
+    c .before .before .report .kept .0 ∙ c .before .before .before .before .before .before .before .before .before .before .before .before .before .stx .kept .1 .1 .1 .1 .1 .0
+
+stm-returns-2 : (t : ℕ) → stm-lts.Need-returns-2 (
+  stx-below t,
+  stx.Post,
+  report-reads.Asked,
+  report-reads.Learnt,
+) (stm-at t) stm.Post
+unfolding decl.strMust plan choose chosen
+stm-returns-2 t c =
+    let falls = c .before .before .before .before .before .before .before .before .before .before .before .before .before .before .before .before .before .before .before .before .before .before .before .pre .0 in
+    let pre0 = c .before .before .before .before .before .before .before .before .before .before .before .before .before .before .before .before .before .before .before .before .before .before .before .pre .1 in
+    let stx = rw (c .before .before .before .before .before .got2 .given .1) at (c .before .before .before .before .before .before .before .before .before .before .before .before .before .stx .ensures) in
+    let report = c .before .before .report .ensures in
+    by-steps pre0 (λ b. s-run (runs-in stx) (s-report report s-end))
+
+stp-peek-requires : (t : ℕ) → stp-lts.Need-peek-requires (
+  peek-reads.Asked,
+  peek-reads.Learnt,
+  name-star-eq-reads.Asked,
+  name-star-eq-reads.Learnt,
+  id-below t,
+  id.Post,
+  ascription-reads.Asked,
+  ascription-reads.Learnt,
+  opr-below t,
+  opr.Post,
+  starts-arg-reads.Asked,
+  starts-arg-reads.Learnt,
+  app-below t,
+  app.Post,
+) (stp-at t) stp.Post
+stp-peek-requires t c κs =
+    let pre0 = c .before .before .before .before .before .before .pre .1 .0 in
+    pre0 .reads
+
+stp-enum-known-k : (t : ℕ) → stp-lts.Need-enum-known-k (
+  peek-reads.Asked,
+  peek-reads.Learnt,
+  name-star-eq-reads.Asked,
+  name-star-eq-reads.Learnt,
+  id-below t,
+  id.Post,
+  ascription-reads.Asked,
+  ascription-reads.Learnt,
+  opr-below t,
+  opr.Post,
+  starts-arg-reads.Asked,
+  starts-arg-reads.Learnt,
+  app-below t,
+  app.Post,
+) (stp-at t) stp.Post
+stp-enum-known-k t c =
+    let falls = c .before .before .before .before .before .before .before .before .pre .0 in
+    let pre0 = c .before .before .before .before .before .before .before .before .pre .1 .0 in
+    let pre1 = c .before .before .before .before .before .before .before .before .pre .1 .1 in
+    search needs
+
+stp-enum-told : (t : ℕ) → stp-lts.Need-enum-told (
+  peek-reads.Asked,
+  peek-reads.Learnt,
+  name-star-eq-reads.Asked,
+  name-star-eq-reads.Learnt,
+  id-below t,
+  id.Post,
+  ascription-reads.Asked,
+  ascription-reads.Learnt,
+  opr-below t,
+  opr.Post,
+  starts-arg-reads.Asked,
+  starts-arg-reads.Learnt,
+  app-below t,
+  app.Post,
+) (stp-at t) stp.Post
+stp-enum-told t c =
+    let falls = c .before .before .before .before .before .before .before .before .pre .0 in
+    let pre0 = c .before .before .before .before .before .before .before .before .pre .1 .0 in
+    let pre1 = c .before .before .before .before .before .before .before .before .pre .1 .1 in
+    search needs
+
+stp-returns : (t : ℕ) → stp-lts.Need-returns (
+  peek-reads.Asked,
+  peek-reads.Learnt,
+  name-star-eq-reads.Asked,
+  name-star-eq-reads.Learnt,
+  id-below t,
+  id.Post,
+  ascription-reads.Asked,
+  ascription-reads.Learnt,
+  opr-below t,
+  opr.Post,
+  starts-arg-reads.Asked,
+  starts-arg-reads.Learnt,
+  app-below t,
+  app.Post,
+) (stp-at t) stp.Post
+unfolding expr.expStep plan choose chosen
+stp-returns t c =
+    let falls = c .before .before .before .before .before .before .before .before .before .pre .0 in
+    let pre0 = c .before .before .before .before .before .before .before .before .before .pre .1 .0 in
+    let pre1 = c .before .before .before .before .before .before .before .before .before .pre .1 .1 in
+    let peek = rw (c .enum-told .given .1) at (c .before .before .peek .ensures) in
+    in-steps pre0 (s-look peek s-end)
+
+stp-name-star-eq-requires : (t : ℕ) → stp-lts.Need-name-star-eq-requires (
+  peek-reads.Asked,
+  peek-reads.Learnt,
+  name-star-eq-reads.Asked,
+  name-star-eq-reads.Learnt,
+  id-below t,
+  id.Post,
+  ascription-reads.Asked,
+  ascription-reads.Learnt,
+  opr-below t,
+  opr.Post,
+  starts-arg-reads.Asked,
+  starts-arg-reads.Learnt,
+  app-below t,
+  app.Post,
+) (stp-at t) stp.Post
+stp-name-star-eq-requires t c κs =
+    tt
+
+stp-id-requires : (t : ℕ) → stp-lts.Need-id-requires (
+  peek-reads.Asked,
+  peek-reads.Learnt,
+  name-star-eq-reads.Asked,
+  name-star-eq-reads.Learnt,
+  id-below t,
+  id.Post,
+  ascription-reads.Asked,
+  ascription-reads.Learnt,
+  opr-below t,
+  opr.Post,
+  starts-arg-reads.Asked,
+  starts-arg-reads.Learnt,
+  app-below t,
+  app.Post,
+) (stp-at t) stp.Post
+stp-id-requires t c κs =
+    let falls = c .before .before .before .before .before .before .before .before .before .before .before .before .before .before .before .pre .0 in
+    let pre0 = c .before .before .before .before .before .before .before .before .before .before .before .before .before .before .before .pre .1 .0 in
+    let pre1 = c .before .before .before .before .before .before .before .before .before .before .before .before .before .before .before .pre .1 .1 in
+    let if1 = c .before .before .before .if1 .taken in
+    (omega arith, (pre0, pre1))
+
+stp-same-length : (t : ℕ) → stp-lts.Need-same-length (
+  peek-reads.Asked,
+  peek-reads.Learnt,
+  name-star-eq-reads.Asked,
+  name-star-eq-reads.Learnt,
+  id-below t,
+  id.Post,
+  ascription-reads.Asked,
+  ascription-reads.Learnt,
+  opr-below t,
+  opr.Post,
+  starts-arg-reads.Asked,
+  starts-arg-reads.Learnt,
+  app-below t,
+  app.Post,
+) (stp-at t) stp.Post
+stp-same-length t c =
+    c .before .before .before .before .before .before .id .kept .1 .1 .1 .0
+
+stp-same-length-2 : (t : ℕ) → stp-lts.Need-same-length-2 (
+  peek-reads.Asked,
+  peek-reads.Learnt,
+  name-star-eq-reads.Asked,
+  name-star-eq-reads.Learnt,
+  id-below t,
+  id.Post,
+  ascription-reads.Asked,
+  ascription-reads.Learnt,
+  opr-below t,
+  opr.Post,
+  starts-arg-reads.Asked,
+  starts-arg-reads.Learnt,
+  app-below t,
+  app.Post,
+) (stp-at t) stp.Post
+stp-same-length-2 t c =
+    c .before .before .before .before .before .before .id .kept .1 .1 .1 .1 .0
+
+stp-same-length-3 : (t : ℕ) → stp-lts.Need-same-length-3 (
+  peek-reads.Asked,
+  peek-reads.Learnt,
+  name-star-eq-reads.Asked,
+  name-star-eq-reads.Learnt,
+  id-below t,
+  id.Post,
+  ascription-reads.Asked,
+  ascription-reads.Learnt,
+  opr-below t,
+  opr.Post,
+  starts-arg-reads.Asked,
+  starts-arg-reads.Learnt,
+  app-below t,
+  app.Post,
+) (stp-at t) stp.Post
+stp-same-length-3 t c =
+    c .before .before .before .before .before .before .id .kept .1 .1 .1 .1 .1 .0
+
+stp-returns-2 : (t : ℕ) → stp-lts.Need-returns-2 (
+  peek-reads.Asked,
+  peek-reads.Learnt,
+  name-star-eq-reads.Asked,
+  name-star-eq-reads.Learnt,
+  id-below t,
+  id.Post,
+  ascription-reads.Asked,
+  ascription-reads.Learnt,
+  opr-below t,
+  opr.Post,
+  starts-arg-reads.Asked,
+  starts-arg-reads.Learnt,
+  app-below t,
+  app.Post,
+) (stp-at t) stp.Post
+unfolding expr.expStep plan choose chosen
+stp-returns-2 t c =
+    let falls = c .before .before .before .before .before .before .before .before .before .before .before .before .before .before .before .before .before .before .before .before .before .before .pre .0 in
+    let pre0 = c .before .before .before .before .before .before .before .before .before .before .before .before .before .before .before .before .before .before .before .before .before .before .pre .1 .0 in
+    let pre1 = c .before .before .before .before .before .before .before .before .before .before .before .before .before .before .before .before .before .before .before .before .before .before .pre .1 .1 in
+    let peek = rw (c .before .before .before .before .before .before .before .before .before .before .before .before .before .k .given .1) at (c .before .before .before .before .before .before .before .before .before .before .before .before .before .before .before .peek .ensures) in
+    let name-star-eq = c .before .before .before .before .before .before .before .before .before .before .before .name-star-eq .ensures in
+    let if1 = c .before .before .before .before .before .before .before .before .before .before .if1 .taken in
+    let id = c .before .before .before .before .before .before .id .ensures in
+    in-steps pre0 (s-look peek (s-true _ _ (test-true name-star-eq if1) (s-by _ id s-end)))
+
+stp-ascription-requires : (t : ℕ) → stp-lts.Need-ascription-requires (
+  peek-reads.Asked,
+  peek-reads.Learnt,
+  name-star-eq-reads.Asked,
+  name-star-eq-reads.Learnt,
+  id-below t,
+  id.Post,
+  ascription-reads.Asked,
+  ascription-reads.Learnt,
+  opr-below t,
+  opr.Post,
+  starts-arg-reads.Asked,
+  starts-arg-reads.Learnt,
+  app-below t,
+  app.Post,
+) (stp-at t) stp.Post
+stp-ascription-requires t c κs =
+    tt
+
+stp-opr-requires : (t : ℕ) → stp-lts.Need-opr-requires (
+  peek-reads.Asked,
+  peek-reads.Learnt,
+  name-star-eq-reads.Asked,
+  name-star-eq-reads.Learnt,
+  id-below t,
+  id.Post,
+  ascription-reads.Asked,
+  ascription-reads.Learnt,
+  opr-below t,
+  opr.Post,
+  starts-arg-reads.Asked,
+  starts-arg-reads.Learnt,
+  app-below t,
+  app.Post,
+) (stp-at t) stp.Post
+stp-opr-requires t c κs =
+    let falls = c .before .before .before .before .before .before .before .before .before .before .before .before .before .before .before .before .before .pre .0 in
+    let pre0 = c .before .before .before .before .before .before .before .before .before .before .before .before .before .before .before .before .before .pre .1 .0 in
+    let pre1 = c .before .before .before .before .before .before .before .before .before .before .before .before .before .before .before .before .before .pre .1 .1 in
+    let if1 = c .before .before .before .before .before .if1 .left in
+    let if2 = c .before .before .before .if2 .taken in
+    (omega arith, (pre0, pre1))
+
+stp-same-length-4 : (t : ℕ) → stp-lts.Need-same-length-4 (
+  peek-reads.Asked,
+  peek-reads.Learnt,
+  name-star-eq-reads.Asked,
+  name-star-eq-reads.Learnt,
+  id-below t,
+  id.Post,
+  ascription-reads.Asked,
+  ascription-reads.Learnt,
+  opr-below t,
+  opr.Post,
+  starts-arg-reads.Asked,
+  starts-arg-reads.Learnt,
+  app-below t,
+  app.Post,
+) (stp-at t) stp.Post
+stp-same-length-4 t c =
+    c .before .before .before .before .before .before .opr .kept .1 .1 .1 .0
+
+stp-same-length-5 : (t : ℕ) → stp-lts.Need-same-length-5 (
+  peek-reads.Asked,
+  peek-reads.Learnt,
+  name-star-eq-reads.Asked,
+  name-star-eq-reads.Learnt,
+  id-below t,
+  id.Post,
+  ascription-reads.Asked,
+  ascription-reads.Learnt,
+  opr-below t,
+  opr.Post,
+  starts-arg-reads.Asked,
+  starts-arg-reads.Learnt,
+  app-below t,
+  app.Post,
+) (stp-at t) stp.Post
+stp-same-length-5 t c =
+    c .before .before .before .before .before .before .opr .kept .1 .1 .1 .1 .0
+
+stp-same-length-6 : (t : ℕ) → stp-lts.Need-same-length-6 (
+  peek-reads.Asked,
+  peek-reads.Learnt,
+  name-star-eq-reads.Asked,
+  name-star-eq-reads.Learnt,
+  id-below t,
+  id.Post,
+  ascription-reads.Asked,
+  ascription-reads.Learnt,
+  opr-below t,
+  opr.Post,
+  starts-arg-reads.Asked,
+  starts-arg-reads.Learnt,
+  app-below t,
+  app.Post,
+) (stp-at t) stp.Post
+stp-same-length-6 t c =
+    c .before .before .before .before .before .before .opr .kept .1 .1 .1 .1 .1 .0
+
+stp-returns-3 : (t : ℕ) → stp-lts.Need-returns-3 (
+  peek-reads.Asked,
+  peek-reads.Learnt,
+  name-star-eq-reads.Asked,
+  name-star-eq-reads.Learnt,
+  id-below t,
+  id.Post,
+  ascription-reads.Asked,
+  ascription-reads.Learnt,
+  opr-below t,
+  opr.Post,
+  starts-arg-reads.Asked,
+  starts-arg-reads.Learnt,
+  app-below t,
+  app.Post,
+) (stp-at t) stp.Post
+unfolding expr.expStep plan choose chosen
+stp-returns-3 t c =
+    let falls = c .before .before .before .before .before .before .before .before .before .before .before .before .before .before .before .before .before .before .before .before .before .before .before .before .pre .0 in
+    let pre0 = c .before .before .before .before .before .before .before .before .before .before .before .before .before .before .before .before .before .before .before .before .before .before .before .before .pre .1 .0 in
+    let pre1 = c .before .before .before .before .before .before .before .before .before .before .before .before .before .before .before .before .before .before .before .before .before .before .before .before .pre .1 .1 in
+    let peek = rw (c .before .before .before .before .before .before .before .before .before .before .before .before .before .before .before .k .given .1) at (c .before .before .before .before .before .before .before .before .before .before .before .before .before .before .before .before .before .peek .ensures) in
+    let name-star-eq = c .before .before .before .before .before .before .before .before .before .before .before .before .before .name-star-eq .ensures in
+    let if1 = c .before .before .before .before .before .before .before .before .before .before .before .before .if1 .left in
+    let ascription = c .before .before .before .before .before .before .before .before .before .before .before .ascription .ensures in
+    let if2 = c .before .before .before .before .before .before .before .before .before .before .if2 .taken in
+    let opr = c .before .before .before .before .before .before .opr .ensures in
+    in-steps pre0 (s-look peek (s-false _ _ (test-false name-star-eq if1) (s-true _ _ (test-true ascription if2) (s-by _ opr s-end))))
+
+stp-opr-requires-2 : (t : ℕ) → stp-lts.Need-opr-requires-2 (
+  peek-reads.Asked,
+  peek-reads.Learnt,
+  name-star-eq-reads.Asked,
+  name-star-eq-reads.Learnt,
+  id-below t,
+  id.Post,
+  ascription-reads.Asked,
+  ascription-reads.Learnt,
+  opr-below t,
+  opr.Post,
+  starts-arg-reads.Asked,
+  starts-arg-reads.Learnt,
+  app-below t,
+  app.Post,
+) (stp-at t) stp.Post
+stp-opr-requires-2 t c κs =
+    let falls = c .before .before .before .before .before .before .before .before .before .before .before .before .before .before .before .before .before .before .pre .0 in
+    let pre0 = c .before .before .before .before .before .before .before .before .before .before .before .before .before .before .before .before .before .before .pre .1 .0 in
+    let pre1 = c .before .before .before .before .before .before .before .before .before .before .before .before .before .before .before .before .before .before .pre .1 .1 in
+    let if1 = c .before .before .before .before .before .before .if1 .left in
+    let if2 = c .before .before .before .before .if2 .left in
+    let if3 = c .before .before .before .if3 .taken in
+    (omega arith, (pre0, pre1))
+
+stp-same-length-7 : (t : ℕ) → stp-lts.Need-same-length-7 (
+  peek-reads.Asked,
+  peek-reads.Learnt,
+  name-star-eq-reads.Asked,
+  name-star-eq-reads.Learnt,
+  id-below t,
+  id.Post,
+  ascription-reads.Asked,
+  ascription-reads.Learnt,
+  opr-below t,
+  opr.Post,
+  starts-arg-reads.Asked,
+  starts-arg-reads.Learnt,
+  app-below t,
+  app.Post,
+) (stp-at t) stp.Post
+stp-same-length-7 t c =
+    c .before .before .before .before .before .before .opr2 .kept .1 .1 .1 .0
+
+stp-same-length-8 : (t : ℕ) → stp-lts.Need-same-length-8 (
+  peek-reads.Asked,
+  peek-reads.Learnt,
+  name-star-eq-reads.Asked,
+  name-star-eq-reads.Learnt,
+  id-below t,
+  id.Post,
+  ascription-reads.Asked,
+  ascription-reads.Learnt,
+  opr-below t,
+  opr.Post,
+  starts-arg-reads.Asked,
+  starts-arg-reads.Learnt,
+  app-below t,
+  app.Post,
+) (stp-at t) stp.Post
+stp-same-length-8 t c =
+    c .before .before .before .before .before .before .opr2 .kept .1 .1 .1 .1 .0
+
+stp-same-length-9 : (t : ℕ) → stp-lts.Need-same-length-9 (
+  peek-reads.Asked,
+  peek-reads.Learnt,
+  name-star-eq-reads.Asked,
+  name-star-eq-reads.Learnt,
+  id-below t,
+  id.Post,
+  ascription-reads.Asked,
+  ascription-reads.Learnt,
+  opr-below t,
+  opr.Post,
+  starts-arg-reads.Asked,
+  starts-arg-reads.Learnt,
+  app-below t,
+  app.Post,
+) (stp-at t) stp.Post
+stp-same-length-9 t c =
+    c .before .before .before .before .before .before .opr2 .kept .1 .1 .1 .1 .1 .0
+
+stp-returns-4 : (t : ℕ) → stp-lts.Need-returns-4 (
+  peek-reads.Asked,
+  peek-reads.Learnt,
+  name-star-eq-reads.Asked,
+  name-star-eq-reads.Learnt,
+  id-below t,
+  id.Post,
+  ascription-reads.Asked,
+  ascription-reads.Learnt,
+  opr-below t,
+  opr.Post,
+  starts-arg-reads.Asked,
+  starts-arg-reads.Learnt,
+  app-below t,
+  app.Post,
+) (stp-at t) stp.Post
+unfolding expr.expStep plan choose chosen
+stp-returns-4 t c =
+    let falls = c .before .before .before .before .before .before .before .before .before .before .before .before .before .before .before .before .before .before .before .before .before .before .before .before .before .pre .0 in
+    let pre0 = c .before .before .before .before .before .before .before .before .before .before .before .before .before .before .before .before .before .before .before .before .before .before .before .before .before .pre .1 .0 in
+    let pre1 = c .before .before .before .before .before .before .before .before .before .before .before .before .before .before .before .before .before .before .before .before .before .before .before .before .before .pre .1 .1 in
+    let peek = rw (c .before .before .before .before .before .before .before .before .before .before .before .before .before .before .before .before .k .given .1) at (c .before .before .before .before .before .before .before .before .before .before .before .before .before .before .before .before .before .before .peek .ensures) in
+    let name-star-eq = c .before .before .before .before .before .before .before .before .before .before .before .before .before .before .name-star-eq .ensures in
+    let if1 = c .before .before .before .before .before .before .before .before .before .before .before .before .before .if1 .left in
+    let ascription = c .before .before .before .before .before .before .before .before .before .before .before .before .ascription .ensures in
+    let if2 = c .before .before .before .before .before .before .before .before .before .before .before .if2 .left in
+    let if3 = c .before .before .before .before .before .before .before .before .before .before .if3 .taken in
+    let opr2 = c .before .before .before .before .before .before .opr2 .ensures in
+    in-steps pre0 (s-look peek (s-false _ _ (test-false name-star-eq if1) (s-false _ _ (test-false ascription if2) (s-true _ _ (kind-is if3) (s-by _ opr2 s-end)))))
+
+stp-opr-requires-3 : (t : ℕ) → stp-lts.Need-opr-requires-3 (
+  peek-reads.Asked,
+  peek-reads.Learnt,
+  name-star-eq-reads.Asked,
+  name-star-eq-reads.Learnt,
+  id-below t,
+  id.Post,
+  ascription-reads.Asked,
+  ascription-reads.Learnt,
+  opr-below t,
+  opr.Post,
+  starts-arg-reads.Asked,
+  starts-arg-reads.Learnt,
+  app-below t,
+  app.Post,
+) (stp-at t) stp.Post
+stp-opr-requires-3 t c κs =
+    let falls = c .before .before .before .before .before .before .before .before .before .before .before .before .before .before .before .before .before .before .before .pre .0 in
+    let pre0 = c .before .before .before .before .before .before .before .before .before .before .before .before .before .before .before .before .before .before .before .pre .1 .0 in
+    let pre1 = c .before .before .before .before .before .before .before .before .before .before .before .before .before .before .before .before .before .before .before .pre .1 .1 in
+    let if1 = c .before .before .before .before .before .before .before .if1 .left in
+    let if2 = c .before .before .before .before .before .if2 .left in
+    let if3 = c .before .before .before .before .if3 .left in
+    let if4 = c .before .before .before .if4 .taken in
+    (omega arith, (pre0, pre1))
+
+stp-same-length-10 : (t : ℕ) → stp-lts.Need-same-length-10 (
+  peek-reads.Asked,
+  peek-reads.Learnt,
+  name-star-eq-reads.Asked,
+  name-star-eq-reads.Learnt,
+  id-below t,
+  id.Post,
+  ascription-reads.Asked,
+  ascription-reads.Learnt,
+  opr-below t,
+  opr.Post,
+  starts-arg-reads.Asked,
+  starts-arg-reads.Learnt,
+  app-below t,
+  app.Post,
+) (stp-at t) stp.Post
+stp-same-length-10 t c =
+    c .before .before .before .before .before .before .opr3 .kept .1 .1 .1 .0
+
+stp-same-length-11 : (t : ℕ) → stp-lts.Need-same-length-11 (
+  peek-reads.Asked,
+  peek-reads.Learnt,
+  name-star-eq-reads.Asked,
+  name-star-eq-reads.Learnt,
+  id-below t,
+  id.Post,
+  ascription-reads.Asked,
+  ascription-reads.Learnt,
+  opr-below t,
+  opr.Post,
+  starts-arg-reads.Asked,
+  starts-arg-reads.Learnt,
+  app-below t,
+  app.Post,
+) (stp-at t) stp.Post
+stp-same-length-11 t c =
+    c .before .before .before .before .before .before .opr3 .kept .1 .1 .1 .1 .0
+
+stp-same-length-12 : (t : ℕ) → stp-lts.Need-same-length-12 (
+  peek-reads.Asked,
+  peek-reads.Learnt,
+  name-star-eq-reads.Asked,
+  name-star-eq-reads.Learnt,
+  id-below t,
+  id.Post,
+  ascription-reads.Asked,
+  ascription-reads.Learnt,
+  opr-below t,
+  opr.Post,
+  starts-arg-reads.Asked,
+  starts-arg-reads.Learnt,
+  app-below t,
+  app.Post,
+) (stp-at t) stp.Post
+stp-same-length-12 t c =
+    c .before .before .before .before .before .before .opr3 .kept .1 .1 .1 .1 .1 .0
+
+stp-returns-5 : (t : ℕ) → stp-lts.Need-returns-5 (
+  peek-reads.Asked,
+  peek-reads.Learnt,
+  name-star-eq-reads.Asked,
+  name-star-eq-reads.Learnt,
+  id-below t,
+  id.Post,
+  ascription-reads.Asked,
+  ascription-reads.Learnt,
+  opr-below t,
+  opr.Post,
+  starts-arg-reads.Asked,
+  starts-arg-reads.Learnt,
+  app-below t,
+  app.Post,
+) (stp-at t) stp.Post
+unfolding expr.expStep plan choose chosen
+stp-returns-5 t c =
+    let falls = c .before .before .before .before .before .before .before .before .before .before .before .before .before .before .before .before .before .before .before .before .before .before .before .before .before .before .pre .0 in
+    let pre0 = c .before .before .before .before .before .before .before .before .before .before .before .before .before .before .before .before .before .before .before .before .before .before .before .before .before .before .pre .1 .0 in
+    let pre1 = c .before .before .before .before .before .before .before .before .before .before .before .before .before .before .before .before .before .before .before .before .before .before .before .before .before .before .pre .1 .1 in
+    let peek = rw (c .before .before .before .before .before .before .before .before .before .before .before .before .before .before .before .before .before .k .given .1) at (c .before .before .before .before .before .before .before .before .before .before .before .before .before .before .before .before .before .before .before .peek .ensures) in
+    let name-star-eq = c .before .before .before .before .before .before .before .before .before .before .before .before .before .before .before .name-star-eq .ensures in
+    let if1 = c .before .before .before .before .before .before .before .before .before .before .before .before .before .before .if1 .left in
+    let ascription = c .before .before .before .before .before .before .before .before .before .before .before .before .before .ascription .ensures in
+    let if2 = c .before .before .before .before .before .before .before .before .before .before .before .before .if2 .left in
+    let if3 = c .before .before .before .before .before .before .before .before .before .before .before .if3 .left in
+    let if4 = c .before .before .before .before .before .before .before .before .before .before .if4 .taken in
+    let opr3 = c .before .before .before .before .before .before .opr3 .ensures in
+    in-steps pre0 (s-look peek (s-false _ _ (test-false name-star-eq if1) (s-false _ _ (test-false ascription if2) (s-false _ _ (kind-not if3) (s-true _ _ (kind-is if4) (s-by _ opr3 s-end))))))
+
+stp-opr-requires-4 : (t : ℕ) → stp-lts.Need-opr-requires-4 (
+  peek-reads.Asked,
+  peek-reads.Learnt,
+  name-star-eq-reads.Asked,
+  name-star-eq-reads.Learnt,
+  id-below t,
+  id.Post,
+  ascription-reads.Asked,
+  ascription-reads.Learnt,
+  opr-below t,
+  opr.Post,
+  starts-arg-reads.Asked,
+  starts-arg-reads.Learnt,
+  app-below t,
+  app.Post,
+) (stp-at t) stp.Post
+stp-opr-requires-4 t c κs =
+    let falls = c .before .before .before .before .before .before .before .before .before .before .before .before .before .before .before .before .before .before .before .before .pre .0 in
+    let pre0 = c .before .before .before .before .before .before .before .before .before .before .before .before .before .before .before .before .before .before .before .before .pre .1 .0 in
+    let pre1 = c .before .before .before .before .before .before .before .before .before .before .before .before .before .before .before .before .before .before .before .before .pre .1 .1 in
+    let if1 = c .before .before .before .before .before .before .before .before .if1 .left in
+    let if2 = c .before .before .before .before .before .before .if2 .left in
+    let if3 = c .before .before .before .before .before .if3 .left in
+    let if4 = c .before .before .before .before .if4 .left in
+    let if5 = c .before .before .before .if5 .taken in
+    (omega arith, (pre0, pre1))
+
+stp-same-length-13 : (t : ℕ) → stp-lts.Need-same-length-13 (
+  peek-reads.Asked,
+  peek-reads.Learnt,
+  name-star-eq-reads.Asked,
+  name-star-eq-reads.Learnt,
+  id-below t,
+  id.Post,
+  ascription-reads.Asked,
+  ascription-reads.Learnt,
+  opr-below t,
+  opr.Post,
+  starts-arg-reads.Asked,
+  starts-arg-reads.Learnt,
+  app-below t,
+  app.Post,
+) (stp-at t) stp.Post
+stp-same-length-13 t c =
+    c .before .before .before .before .before .before .opr4 .kept .1 .1 .1 .0
+
+stp-same-length-14 : (t : ℕ) → stp-lts.Need-same-length-14 (
+  peek-reads.Asked,
+  peek-reads.Learnt,
+  name-star-eq-reads.Asked,
+  name-star-eq-reads.Learnt,
+  id-below t,
+  id.Post,
+  ascription-reads.Asked,
+  ascription-reads.Learnt,
+  opr-below t,
+  opr.Post,
+  starts-arg-reads.Asked,
+  starts-arg-reads.Learnt,
+  app-below t,
+  app.Post,
+) (stp-at t) stp.Post
+stp-same-length-14 t c =
+    c .before .before .before .before .before .before .opr4 .kept .1 .1 .1 .1 .0
+
+stp-same-length-15 : (t : ℕ) → stp-lts.Need-same-length-15 (
+  peek-reads.Asked,
+  peek-reads.Learnt,
+  name-star-eq-reads.Asked,
+  name-star-eq-reads.Learnt,
+  id-below t,
+  id.Post,
+  ascription-reads.Asked,
+  ascription-reads.Learnt,
+  opr-below t,
+  opr.Post,
+  starts-arg-reads.Asked,
+  starts-arg-reads.Learnt,
+  app-below t,
+  app.Post,
+) (stp-at t) stp.Post
+stp-same-length-15 t c =
+    c .before .before .before .before .before .before .opr4 .kept .1 .1 .1 .1 .1 .0
+
+stp-returns-6 : (t : ℕ) → stp-lts.Need-returns-6 (
+  peek-reads.Asked,
+  peek-reads.Learnt,
+  name-star-eq-reads.Asked,
+  name-star-eq-reads.Learnt,
+  id-below t,
+  id.Post,
+  ascription-reads.Asked,
+  ascription-reads.Learnt,
+  opr-below t,
+  opr.Post,
+  starts-arg-reads.Asked,
+  starts-arg-reads.Learnt,
+  app-below t,
+  app.Post,
+) (stp-at t) stp.Post
+unfolding expr.expStep plan choose chosen
+stp-returns-6 t c =
+    let falls = c .before .before .before .before .before .before .before .before .before .before .before .before .before .before .before .before .before .before .before .before .before .before .before .before .before .before .before .pre .0 in
+    let pre0 = c .before .before .before .before .before .before .before .before .before .before .before .before .before .before .before .before .before .before .before .before .before .before .before .before .before .before .before .pre .1 .0 in
+    let pre1 = c .before .before .before .before .before .before .before .before .before .before .before .before .before .before .before .before .before .before .before .before .before .before .before .before .before .before .before .pre .1 .1 in
+    let peek = rw (c .before .before .before .before .before .before .before .before .before .before .before .before .before .before .before .before .before .before .k .given .1) at (c .before .before .before .before .before .before .before .before .before .before .before .before .before .before .before .before .before .before .before .before .peek .ensures) in
+    let name-star-eq = c .before .before .before .before .before .before .before .before .before .before .before .before .before .before .before .before .name-star-eq .ensures in
+    let if1 = c .before .before .before .before .before .before .before .before .before .before .before .before .before .before .before .if1 .left in
+    let ascription = c .before .before .before .before .before .before .before .before .before .before .before .before .before .before .ascription .ensures in
+    let if2 = c .before .before .before .before .before .before .before .before .before .before .before .before .before .if2 .left in
+    let if3 = c .before .before .before .before .before .before .before .before .before .before .before .before .if3 .left in
+    let if4 = c .before .before .before .before .before .before .before .before .before .before .before .if4 .left in
+    let if5 = c .before .before .before .before .before .before .before .before .before .before .if5 .taken in
+    let opr4 = c .before .before .before .before .before .before .opr4 .ensures in
+    in-steps pre0 (s-look peek (s-false _ _ (test-false name-star-eq if1) (s-false _ _ (test-false ascription if2) (s-false _ _ (kind-not if3) (s-false _ _ (kind-not if4) (s-true _ _ (kind-is if5) (s-by _ opr4 s-end)))))))
+
+stp-starts-arg-requires : (t : ℕ) → stp-lts.Need-starts-arg-requires (
+  peek-reads.Asked,
+  peek-reads.Learnt,
+  name-star-eq-reads.Asked,
+  name-star-eq-reads.Learnt,
+  id-below t,
+  id.Post,
+  ascription-reads.Asked,
+  ascription-reads.Learnt,
+  opr-below t,
+  opr.Post,
+  starts-arg-reads.Asked,
+  starts-arg-reads.Learnt,
+  app-below t,
+  app.Post,
+) (stp-at t) stp.Post
+stp-starts-arg-requires t c κs =
+    tt
+
+stp-app-requires : (t : ℕ) → stp-lts.Need-app-requires (
+  peek-reads.Asked,
+  peek-reads.Learnt,
+  name-star-eq-reads.Asked,
+  name-star-eq-reads.Learnt,
+  id-below t,
+  id.Post,
+  ascription-reads.Asked,
+  ascription-reads.Learnt,
+  opr-below t,
+  opr.Post,
+  starts-arg-reads.Asked,
+  starts-arg-reads.Learnt,
+  app-below t,
+  app.Post,
+) (stp-at t) stp.Post
+stp-app-requires t c κs =
+    let falls = c .before .before .before .before .before .before .before .before .before .before .before .before .before .before .before .before .before .before .before .before .before .before .pre .0 in
+    let pre0 = c .before .before .before .before .before .before .before .before .before .before .before .before .before .before .before .before .before .before .before .before .before .before .pre .1 .0 in
+    let pre1 = c .before .before .before .before .before .before .before .before .before .before .before .before .before .before .before .before .before .before .before .before .before .before .pre .1 .1 in
+    let if1 = c .before .before .before .before .before .before .before .before .before .before .if1 .left in
+    let if2 = c .before .before .before .before .before .before .before .before .if2 .left in
+    let if3 = c .before .before .before .before .before .before .before .if3 .left in
+    let if4 = c .before .before .before .before .before .before .if4 .left in
+    let if5 = c .before .before .before .before .before .if5 .left in
+    let if6 = c .before .before .before .if6 .taken in
+    (omega arith, (pre0, pre1))
+
+stp-same-length-16 : (t : ℕ) → stp-lts.Need-same-length-16 (
+  peek-reads.Asked,
+  peek-reads.Learnt,
+  name-star-eq-reads.Asked,
+  name-star-eq-reads.Learnt,
+  id-below t,
+  id.Post,
+  ascription-reads.Asked,
+  ascription-reads.Learnt,
+  opr-below t,
+  opr.Post,
+  starts-arg-reads.Asked,
+  starts-arg-reads.Learnt,
+  app-below t,
+  app.Post,
+) (stp-at t) stp.Post
+stp-same-length-16 t c =
+    c .before .before .before .before .before .before .app .kept .1 .1 .1 .0
+
+stp-same-length-17 : (t : ℕ) → stp-lts.Need-same-length-17 (
+  peek-reads.Asked,
+  peek-reads.Learnt,
+  name-star-eq-reads.Asked,
+  name-star-eq-reads.Learnt,
+  id-below t,
+  id.Post,
+  ascription-reads.Asked,
+  ascription-reads.Learnt,
+  opr-below t,
+  opr.Post,
+  starts-arg-reads.Asked,
+  starts-arg-reads.Learnt,
+  app-below t,
+  app.Post,
+) (stp-at t) stp.Post
+stp-same-length-17 t c =
+    c .before .before .before .before .before .before .app .kept .1 .1 .1 .1 .0
+
+stp-same-length-18 : (t : ℕ) → stp-lts.Need-same-length-18 (
+  peek-reads.Asked,
+  peek-reads.Learnt,
+  name-star-eq-reads.Asked,
+  name-star-eq-reads.Learnt,
+  id-below t,
+  id.Post,
+  ascription-reads.Asked,
+  ascription-reads.Learnt,
+  opr-below t,
+  opr.Post,
+  starts-arg-reads.Asked,
+  starts-arg-reads.Learnt,
+  app-below t,
+  app.Post,
+) (stp-at t) stp.Post
+stp-same-length-18 t c =
+    c .before .before .before .before .before .before .app .kept .1 .1 .1 .1 .1 .0
+
+stp-returns-7 : (t : ℕ) → stp-lts.Need-returns-7 (
+  peek-reads.Asked,
+  peek-reads.Learnt,
+  name-star-eq-reads.Asked,
+  name-star-eq-reads.Learnt,
+  id-below t,
+  id.Post,
+  ascription-reads.Asked,
+  ascription-reads.Learnt,
+  opr-below t,
+  opr.Post,
+  starts-arg-reads.Asked,
+  starts-arg-reads.Learnt,
+  app-below t,
+  app.Post,
+) (stp-at t) stp.Post
+unfolding expr.expStep plan choose chosen
+stp-returns-7 t c =
+    let falls = c .before .before .before .before .before .before .before .before .before .before .before .before .before .before .before .before .before .before .before .before .before .before .before .before .before .before .before .before .before .pre .0 in
+    let pre0 = c .before .before .before .before .before .before .before .before .before .before .before .before .before .before .before .before .before .before .before .before .before .before .before .before .before .before .before .before .before .pre .1 .0 in
+    let pre1 = c .before .before .before .before .before .before .before .before .before .before .before .before .before .before .before .before .before .before .before .before .before .before .before .before .before .before .before .before .before .pre .1 .1 in
+    let peek = rw (c .before .before .before .before .before .before .before .before .before .before .before .before .before .before .before .before .before .before .before .before .k .given .1) at (c .before .before .before .before .before .before .before .before .before .before .before .before .before .before .before .before .before .before .before .before .before .before .peek .ensures) in
+    let name-star-eq = c .before .before .before .before .before .before .before .before .before .before .before .before .before .before .before .before .before .before .name-star-eq .ensures in
+    let if1 = c .before .before .before .before .before .before .before .before .before .before .before .before .before .before .before .before .before .if1 .left in
+    let ascription = c .before .before .before .before .before .before .before .before .before .before .before .before .before .before .before .before .ascription .ensures in
+    let if2 = c .before .before .before .before .before .before .before .before .before .before .before .before .before .before .before .if2 .left in
+    let if3 = c .before .before .before .before .before .before .before .before .before .before .before .before .before .before .if3 .left in
+    let if4 = c .before .before .before .before .before .before .before .before .before .before .before .before .before .if4 .left in
+    let if5 = c .before .before .before .before .before .before .before .before .before .before .before .before .if5 .left in
+    let starts-arg = c .before .before .before .before .before .before .before .before .before .before .before .starts-arg .ensures in
+    let if6 = c .before .before .before .before .before .before .before .before .before .before .if6 .taken in
+    let app = c .before .before .before .before .before .before .app .ensures in
+    in-steps pre0 (s-look peek (s-false _ _ (test-false name-star-eq if1) (s-false _ _ (test-false ascription if2) (s-false _ _ (kind-not if3) (s-false _ _ (kind-not if4) (s-false _ _ (kind-not if5) (s-true _ _ (test-true starts-arg if6) (s-by _ app s-end))))))))
+
+stp-returns-8 : (t : ℕ) → stp-lts.Need-returns-8 (
+  peek-reads.Asked,
+  peek-reads.Learnt,
+  name-star-eq-reads.Asked,
+  name-star-eq-reads.Learnt,
+  id-below t,
+  id.Post,
+  ascription-reads.Asked,
+  ascription-reads.Learnt,
+  opr-below t,
+  opr.Post,
+  starts-arg-reads.Asked,
+  starts-arg-reads.Learnt,
+  app-below t,
+  app.Post,
+) (stp-at t) stp.Post
+unfolding expr.expStep plan choose chosen
+stp-returns-8 t c =
+    let falls = c .before .before .before .before .before .before .before .before .before .before .before .before .before .before .before .before .before .before .before .pre .0 in
+    let pre0 = c .before .before .before .before .before .before .before .before .before .before .before .before .before .before .before .before .before .before .before .pre .1 .0 in
+    let pre1 = c .before .before .before .before .before .before .before .before .before .before .before .before .before .before .before .before .before .before .before .pre .1 .1 in
+    let peek = rw (c .before .before .before .before .before .before .before .before .before .before .k .given .1) at (c .before .before .before .before .before .before .before .before .before .before .before .before .peek .ensures) in
+    let name-star-eq = c .before .before .before .before .before .before .before .before .name-star-eq .ensures in
+    let if1 = c .before .before .before .before .before .before .before .if1 .left in
+    let ascription = c .before .before .before .before .before .before .ascription .ensures in
+    let if2 = c .before .before .before .before .before .if2 .left in
+    let if3 = c .before .before .before .before .if3 .left in
+    let if4 = c .before .before .before .if4 .left in
+    let if5 = c .before .before .if5 .left in
+    let starts-arg = c .before .starts-arg .ensures in
+    let if6 = c .if6 .left in
+    in-steps pre0 (s-look peek (s-false _ _ (test-false name-star-eq if1) (s-false _ _ (test-false ascription if2) (s-false _ _ (kind-not if3) (s-false _ _ (kind-not if4) (s-false _ _ (kind-not if5) (s-false _ _ (test-false starts-arg if6) s-end)))))))
+
+abbrev stt-Inv-loop : stt-lts.InvT-loop
+stt-Inv-loop text toks env table₀ scratch₀ finds₀ left b s1₀ table scratch finds s1 =
+    Loops left b decl.strStep (mem text toks env table₀ scratch₀ finds₀ s1₀) (mem text toks env table scratch finds s1) × (length table ≡ length table₀) × (length scratch ≡ length scratch₀) × (length finds ≡ length finds₀)
+
+abbrev stt-μ-loop : stt-lts.MeasureT-loop
+stt-μ-loop text toks env table₀ scratch₀ finds₀ left b s1₀ table scratch finds s1 = turns (mem text toks env table scratch finds s1)
+
+stt-loop-holds : (t : ℕ) → stt-lts.Need-loop-holds (
+  peek-reads.Asked,
+  peek-reads.Learnt,
+  ascription-reads.Asked,
+  ascription-reads.Learnt,
+  refuse-reads.Asked,
+  refuse-reads.Learnt,
+  mark-reads.Asked,
+  mark-reads.Learnt,
+  asc-below t,
+  asc.Post,
+  close-reads.Asked,
+  close-reads.Learnt,
+) (stt-at t) stt.Post stt-Inv-loop stt-μ-loop
+stt-loop-holds t c =
+    let falls = c .before .before .before .before .before .before .pre .0 in
+    let pre0 = c .before .before .before .before .before .before .pre .1 .0 in
+    let pre1 = c .before .before .before .before .before .before .pre .1 .1 in
+    (loop-starts pre0, refl, refl, refl)
+
+stt-peek-requires : (t : ℕ) → stt-lts.Need-peek-requires (
+  peek-reads.Asked,
+  peek-reads.Learnt,
+  ascription-reads.Asked,
+  ascription-reads.Learnt,
+  refuse-reads.Asked,
+  refuse-reads.Learnt,
+  mark-reads.Asked,
+  mark-reads.Learnt,
+  asc-below t,
+  asc.Post,
+  close-reads.Asked,
+  close-reads.Learnt,
+) (stt-at t) stt.Post stt-Inv-loop stt-μ-loop
+stt-peek-requires t c κs =
+    let inv = c .loop .inv .0 .ok in
+    inv .reads
+
+stt-enum-known-k : (t : ℕ) → stt-lts.Need-enum-known-k (
+  peek-reads.Asked,
+  peek-reads.Learnt,
+  ascription-reads.Asked,
+  ascription-reads.Learnt,
+  refuse-reads.Asked,
+  refuse-reads.Learnt,
+  mark-reads.Asked,
+  mark-reads.Learnt,
+  asc-below t,
+  asc.Post,
+  close-reads.Asked,
+  close-reads.Learnt,
+) (stt-at t) stt.Post stt-Inv-loop stt-μ-loop
+stt-enum-known-k t c =
+    let falls = c .before .before .before .before .before .before .before .before .before .pre .0 in
+    let pre0 = c .before .before .before .before .before .before .before .before .before .pre .1 .0 in
+    let pre1 = c .before .before .before .before .before .before .before .before .before .pre .1 .1 in
+    search needs
+
+stt-enum-told : (t : ℕ) → stt-lts.Need-enum-told (
+  peek-reads.Asked,
+  peek-reads.Learnt,
+  ascription-reads.Asked,
+  ascription-reads.Learnt,
+  refuse-reads.Asked,
+  refuse-reads.Learnt,
+  mark-reads.Asked,
+  mark-reads.Learnt,
+  asc-below t,
+  asc.Post,
+  close-reads.Asked,
+  close-reads.Learnt,
+) (stt-at t) stt.Post stt-Inv-loop stt-μ-loop
+stt-enum-told t c =
+    let falls = c .before .before .before .before .before .before .before .before .before .pre .0 in
+    let pre0 = c .before .before .before .before .before .before .before .before .before .pre .1 .0 in
+    let pre1 = c .before .before .before .before .before .before .before .before .before .pre .1 .1 in
+    search needs
+
+stt-same-length : (t : ℕ) → stt-lts.Need-same-length (
+  peek-reads.Asked,
+  peek-reads.Learnt,
+  ascription-reads.Asked,
+  ascription-reads.Learnt,
+  refuse-reads.Asked,
+  refuse-reads.Learnt,
+  mark-reads.Asked,
+  mark-reads.Learnt,
+  asc-below t,
+  asc.Post,
+  close-reads.Asked,
+  close-reads.Learnt,
+) (stt-at t) stt.Post stt-Inv-loop stt-μ-loop
+stt-same-length t c =
+    c .before .before .before .loop .inv .1
+
+stt-same-length-2 : (t : ℕ) → stt-lts.Need-same-length-2 (
+  peek-reads.Asked,
+  peek-reads.Learnt,
+  ascription-reads.Asked,
+  ascription-reads.Learnt,
+  refuse-reads.Asked,
+  refuse-reads.Learnt,
+  mark-reads.Asked,
+  mark-reads.Learnt,
+  asc-below t,
+  asc.Post,
+  close-reads.Asked,
+  close-reads.Learnt,
+) (stt-at t) stt.Post stt-Inv-loop stt-μ-loop
+stt-same-length-2 t c =
+    c .before .before .before .loop .inv .2
+
+stt-same-length-3 : (t : ℕ) → stt-lts.Need-same-length-3 (
+  peek-reads.Asked,
+  peek-reads.Learnt,
+  ascription-reads.Asked,
+  ascription-reads.Learnt,
+  refuse-reads.Asked,
+  refuse-reads.Learnt,
+  mark-reads.Asked,
+  mark-reads.Learnt,
+  asc-below t,
+  asc.Post,
+  close-reads.Asked,
+  close-reads.Learnt,
+) (stt-at t) stt.Post stt-Inv-loop stt-μ-loop
+stt-same-length-3 t c =
+    c .before .before .before .loop .inv .3
+
+stt-returns : (t : ℕ) → stt-lts.Need-returns (
+  peek-reads.Asked,
+  peek-reads.Learnt,
+  ascription-reads.Asked,
+  ascription-reads.Learnt,
+  refuse-reads.Asked,
+  refuse-reads.Learnt,
+  mark-reads.Asked,
+  mark-reads.Learnt,
+  asc-below t,
+  asc.Post,
+  close-reads.Asked,
+  close-reads.Learnt,
+) (stt-at t) stt.Post stt-Inv-loop stt-μ-loop
+unfolding decl.strStep plan choose chosen
+stt-returns t c =
+    let inv = c .before .before .before .loop .inv .0 in
+    let peek = rw (c .enum-told .given .1) at (c .before .before .peek .ensures) in
+    loop-ends (str-step-advances _ _) inv (in-steps (inv .ok) {n = (c .before .before .before .before .before .before .before .before .before .before .args .left)} {b = (c .before .before .before .before .before .before .before .before .before .before .args .b)} (s-look peek s-end))
+
+stt-ascription-requires : (t : ℕ) → stt-lts.Need-ascription-requires (
+  peek-reads.Asked,
+  peek-reads.Learnt,
+  ascription-reads.Asked,
+  ascription-reads.Learnt,
+  refuse-reads.Asked,
+  refuse-reads.Learnt,
+  mark-reads.Asked,
+  mark-reads.Learnt,
+  asc-below t,
+  asc.Post,
+  close-reads.Asked,
+  close-reads.Learnt,
+) (stt-at t) stt.Post stt-Inv-loop stt-μ-loop
+stt-ascription-requires t c κs =
+    tt
+
+stt-refuse-requires : (t : ℕ) → stt-lts.Need-refuse-requires (
+  peek-reads.Asked,
+  peek-reads.Learnt,
+  ascription-reads.Asked,
+  ascription-reads.Learnt,
+  refuse-reads.Asked,
+  refuse-reads.Learnt,
+  mark-reads.Asked,
+  mark-reads.Learnt,
+  asc-below t,
+  asc.Post,
+  close-reads.Asked,
+  close-reads.Learnt,
+) (stt-at t) stt.Post stt-Inv-loop stt-μ-loop
+stt-refuse-requires t c κs =
+    tt
+
+stt-loop-less : (t : ℕ) → stt-lts.Need-loop-less (
+  peek-reads.Asked,
+  peek-reads.Learnt,
+  ascription-reads.Asked,
+  ascription-reads.Learnt,
+  refuse-reads.Asked,
+  refuse-reads.Learnt,
+  mark-reads.Asked,
+  mark-reads.Learnt,
+  asc-below t,
+  asc.Post,
+  close-reads.Asked,
+  close-reads.Learnt,
+) (stt-at t) stt.Post stt-Inv-loop stt-μ-loop
+unfolding decl.strStep plan choose chosen
+stt-loop-less t c =
+    let inv = c .before .before .before .before .before .before .before .before .loop .inv .0 in
+    let peek = rw (c .before .before .before .before .before .k .given .1) at (c .before .before .before .before .before .before .before .peek .ensures) in
+    let ascription = c .before .before .before .ascription .ensures in
+    let if1 = c .before .before .if1 .taken in
+    let if2 = c .before .if2 .taken in
+    let refuse = c .refuse .ensures in
+    loop-falls (str-step-advances _ _) (in-steps (inv .ok) {n = (c .before .before .before .before .before .before .before .before .before .before .before .before .before .before .before .args .left)} {b = (c .before .before .before .before .before .before .before .before .before .before .before .before .before .before .before .args .b)} (s-look peek (s-true _ _ (test-true ascription if1) (s-deep if2 refuse s-end))))
+
+stt-loop-again : (t : ℕ) → stt-lts.Need-loop-again (
+  peek-reads.Asked,
+  peek-reads.Learnt,
+  ascription-reads.Asked,
+  ascription-reads.Learnt,
+  refuse-reads.Asked,
+  refuse-reads.Learnt,
+  mark-reads.Asked,
+  mark-reads.Learnt,
+  asc-below t,
+  asc.Post,
+  close-reads.Asked,
+  close-reads.Learnt,
+) (stt-at t) stt.Post stt-Inv-loop stt-μ-loop
+unfolding decl.strStep plan choose chosen
+stt-loop-again t c =
+    let inv = c .before .before .before .before .before .before .before .before .loop .inv .0 in
+    let peek = rw (c .before .before .before .before .before .k .given .1) at (c .before .before .before .before .before .before .before .peek .ensures) in
+    let ascription = c .before .before .before .ascription .ensures in
+    let if1 = c .before .before .if1 .taken in
+    let if2 = c .before .if2 .taken in
+    let refuse = c .refuse .ensures in
+    (loop-goes (str-step-advances _ _) inv (in-steps (inv .ok) {n = (c .before .before .before .before .before .before .before .before .before .before .before .before .before .before .before .args .left)} {b = (c .before .before .before .before .before .before .before .before .before .before .before .before .before .before .before .args .b)} (s-look peek (s-true _ _ (test-true ascription if1) (s-deep if2 refuse s-end)))), c .before .before .before .before .before .before .before .before .loop .inv .1, c .before .before .before .before .before .before .before .before .loop .inv .2, c .before .before .before .before .before .before .before .before .loop .inv .3)
+
+stt-mark-requires : (t : ℕ) → stt-lts.Need-mark-requires (
+  peek-reads.Asked,
+  peek-reads.Learnt,
+  ascription-reads.Asked,
+  ascription-reads.Learnt,
+  refuse-reads.Asked,
+  refuse-reads.Learnt,
+  mark-reads.Asked,
+  mark-reads.Learnt,
+  asc-below t,
+  asc.Post,
+  close-reads.Asked,
+  close-reads.Learnt,
+) (stt-at t) stt.Post stt-Inv-loop stt-μ-loop
+stt-mark-requires t c κs =
+    tt
+
+stt-sub-asc : (t : ℕ) → stt-lts.Need-sub-asc (
+  peek-reads.Asked,
+  peek-reads.Learnt,
+  ascription-reads.Asked,
+  ascription-reads.Learnt,
+  refuse-reads.Asked,
+  refuse-reads.Learnt,
+  mark-reads.Asked,
+  mark-reads.Learnt,
+  asc-below t,
+  asc.Post,
+  close-reads.Asked,
+  close-reads.Learnt,
+) (stt-at t) stt.Post stt-Inv-loop stt-μ-loop
+stt-sub-asc t c =
+    let falls = c .before .before .before .before .before .before .before .before .before .before .before .before .before .before .before .before .before .before .pre .0 in
+    let pre0 = c .before .before .before .before .before .before .before .before .before .before .before .before .before .before .before .before .before .before .pre .1 .0 in
+    let pre1 = c .before .before .before .before .before .before .before .before .before .before .before .before .before .before .before .before .before .before .pre .1 .1 in
+    let if1 = c .before .before .before .before .before .if1 .taken in
+    let if2 = c .before .before .before .before .if2 .left in
+    search needs
+
+stt-asc-requires : (t : ℕ) → stt-lts.Need-asc-requires (
+  peek-reads.Asked,
+  peek-reads.Learnt,
+  ascription-reads.Asked,
+  ascription-reads.Learnt,
+  refuse-reads.Asked,
+  refuse-reads.Learnt,
+  mark-reads.Asked,
+  mark-reads.Learnt,
+  asc-below t,
+  asc.Post,
+  close-reads.Asked,
+  close-reads.Learnt,
+) (stt-at t) stt.Post stt-Inv-loop stt-μ-loop
+stt-asc-requires t c κs =
+    let falls = c .before .before .before .before .before .before .before .before .before .before .before .before .before .before .before .before .before .before .pre .0 in
+    let pre1 = c .before .before .before .before .before .before .before .before .before .before .before .before .before .before .before .before .before .before .pre .1 .1 in
+    let inv = c .before .before .before .before .before .before .before .before .before .before .before .loop .inv .0 .ok in
+    let if1 = c .before .before .before .before .before .if1 .taken in
+    let if2 = c .before .before .before .before .if2 .left in
+    let mark = c .before .before .before .mark .ensures in
+    let mark-ok = ok-marks mark inv in
+    (omega arith, mark-ok)
+
+stt-close-requires : (t : ℕ) → stt-lts.Need-close-requires (
+  peek-reads.Asked,
+  peek-reads.Learnt,
+  ascription-reads.Asked,
+  ascription-reads.Learnt,
+  refuse-reads.Asked,
+  refuse-reads.Learnt,
+  mark-reads.Asked,
+  mark-reads.Learnt,
+  asc-below t,
+  asc.Post,
+  close-reads.Asked,
+  close-reads.Learnt,
+) (stt-at t) stt.Post stt-Inv-loop stt-μ-loop
+stt-close-requires t c κs =
+    let pre1 = c .before .before .before .before .before .before .before .before .before .before .before .before .before .before .before .before .before .before .before .before .before .before .before .before .before .before .pre .1 .1 in
+    let asc = c .before .before .before .before .before .before .before .asc .ensures in
+    let asc-ok = asc .ok in
+    (asc-ok .logs, pre1)
+
+stt-loop-less-2 : (t : ℕ) → stt-lts.Need-loop-less-2 (
+  peek-reads.Asked,
+  peek-reads.Learnt,
+  ascription-reads.Asked,
+  ascription-reads.Learnt,
+  refuse-reads.Asked,
+  refuse-reads.Learnt,
+  mark-reads.Asked,
+  mark-reads.Learnt,
+  asc-below t,
+  asc.Post,
+  close-reads.Asked,
+  close-reads.Learnt,
+) (stt-at t) stt.Post stt-Inv-loop stt-μ-loop
+unfolding decl.strStep plan choose chosen
+stt-loop-less-2 t c =
+    let inv = c .before .before .before .before .before .before .before .before .before .before .before .before .before .before .before .before .before .before .before .before .before .before .loop .inv .0 in
+    let peek = rw (c .before .before .before .before .before .before .before .before .before .before .before .before .before .before .before .before .before .before .before .k .given .1) at (c .before .before .before .before .before .before .before .before .before .before .before .before .before .before .before .before .before .before .before .before .before .peek .ensures) in
+    let ascription = c .before .before .before .before .before .before .before .before .before .before .before .before .before .before .before .before .before .ascription .ensures in
+    let if1 = c .before .before .before .before .before .before .before .before .before .before .before .before .before .before .before .before .if1 .taken in
+    let if2 = c .before .before .before .before .before .before .before .before .before .before .before .before .before .before .before .if2 .left in
+    let mark = c .before .before .before .before .before .before .before .before .before .before .before .before .before .before .mark .ensures in
+    let asc = c .before .before .before .before .before .before .before .before .before .before .asc .ensures in
+    let close = c .before .before .close .ensures in
+    loop-falls (str-step-advances _ _) (in-steps (inv .ok) {n = (c .before .before .before .before .before .before .before .before .before .before .before .before .before .before .before .before .before .before .before .before .before .before .before .before .before .before .before .before .before .args .left)} {b = (c .before .before .before .before .before .before .before .before .before .before .before .before .before .before .before .before .before .before .before .before .before .before .before .before .before .before .before .before .before .args .b)} (s-look peek (s-true _ _ (test-true ascription if1) (s-mark if2 mark (s-by _ (runs-in asc) (s-close close s-end))))))
+
+stt-loop-again-2 : (t : ℕ) → stt-lts.Need-loop-again-2 (
+  peek-reads.Asked,
+  peek-reads.Learnt,
+  ascription-reads.Asked,
+  ascription-reads.Learnt,
+  refuse-reads.Asked,
+  refuse-reads.Learnt,
+  mark-reads.Asked,
+  mark-reads.Learnt,
+  asc-below t,
+  asc.Post,
+  close-reads.Asked,
+  close-reads.Learnt,
+) (stt-at t) stt.Post stt-Inv-loop stt-μ-loop
+unfolding decl.strStep plan choose chosen
+stt-loop-again-2 t c =
+    let inv = c .before .before .before .before .before .before .before .before .before .before .before .before .before .before .before .before .before .before .before .before .before .before .loop .inv .0 in
+    let peek = rw (c .before .before .before .before .before .before .before .before .before .before .before .before .before .before .before .before .before .before .before .k .given .1) at (c .before .before .before .before .before .before .before .before .before .before .before .before .before .before .before .before .before .before .before .before .before .peek .ensures) in
+    let ascription = c .before .before .before .before .before .before .before .before .before .before .before .before .before .before .before .before .before .ascription .ensures in
+    let if1 = c .before .before .before .before .before .before .before .before .before .before .before .before .before .before .before .before .if1 .taken in
+    let if2 = c .before .before .before .before .before .before .before .before .before .before .before .before .before .before .before .if2 .left in
+    let mark = c .before .before .before .before .before .before .before .before .before .before .before .before .before .before .mark .ensures in
+    let asc = c .before .before .before .before .before .before .before .before .before .before .asc .ensures in
+    let close = c .before .before .close .ensures in
+    (loop-goes (str-step-advances _ _) inv (in-steps (inv .ok) {n = (c .before .before .before .before .before .before .before .before .before .before .before .before .before .before .before .before .before .before .before .before .before .before .before .before .before .before .before .before .before .args .left)} {b = (c .before .before .before .before .before .before .before .before .before .before .before .before .before .before .before .before .before .before .before .before .before .before .before .before .before .before .before .before .before .args .b)} (s-look peek (s-true _ _ (test-true ascription if1) (s-mark if2 mark (s-by _ (runs-in asc) (s-close close s-end)))))), c .before .before .before .before .before .before .before .before .before .before .asc .kept .1 .1 .1 .0 ∙ c .before .before .before .before .before .before .before .before .before .before .before .before .before .before .before .before .before .before .before .before .before .before .loop .inv .1, c .before .before .close .kept .0 ∙ c .before .before .before .before .before .before .before .before .before .before .asc .kept .1 .1 .1 .1 .0 ∙ c .before .before .before .before .before .before .before .before .before .before .before .before .before .before .before .before .before .before .before .before .before .before .loop .inv .2, c .before .before .before .before .before .before .before .before .before .before .asc .kept .1 .1 .1 .1 .1 .0 ∙ c .before .before .before .before .before .before .before .before .before .before .before .before .before .before .before .before .before .before .before .before .before .before .loop .inv .3)
+
+stt-same-length-4 : (t : ℕ) → stt-lts.Need-same-length-4 (
+  peek-reads.Asked,
+  peek-reads.Learnt,
+  ascription-reads.Asked,
+  ascription-reads.Learnt,
+  refuse-reads.Asked,
+  refuse-reads.Learnt,
+  mark-reads.Asked,
+  mark-reads.Learnt,
+  asc-below t,
+  asc.Post,
+  close-reads.Asked,
+  close-reads.Learnt,
+) (stt-at t) stt.Post stt-Inv-loop stt-μ-loop
+stt-same-length-4 t c =
+    c .before .before .before .before .before .before .loop .inv .1
+
+stt-same-length-5 : (t : ℕ) → stt-lts.Need-same-length-5 (
+  peek-reads.Asked,
+  peek-reads.Learnt,
+  ascription-reads.Asked,
+  ascription-reads.Learnt,
+  refuse-reads.Asked,
+  refuse-reads.Learnt,
+  mark-reads.Asked,
+  mark-reads.Learnt,
+  asc-below t,
+  asc.Post,
+  close-reads.Asked,
+  close-reads.Learnt,
+) (stt-at t) stt.Post stt-Inv-loop stt-μ-loop
+stt-same-length-5 t c =
+    c .before .before .before .before .before .before .loop .inv .2
+
+stt-same-length-6 : (t : ℕ) → stt-lts.Need-same-length-6 (
+  peek-reads.Asked,
+  peek-reads.Learnt,
+  ascription-reads.Asked,
+  ascription-reads.Learnt,
+  refuse-reads.Asked,
+  refuse-reads.Learnt,
+  mark-reads.Asked,
+  mark-reads.Learnt,
+  asc-below t,
+  asc.Post,
+  close-reads.Asked,
+  close-reads.Learnt,
+) (stt-at t) stt.Post stt-Inv-loop stt-μ-loop
+stt-same-length-6 t c =
+    c .before .before .before .before .before .before .loop .inv .3
+
+stt-returns-2 : (t : ℕ) → stt-lts.Need-returns-2 (
+  peek-reads.Asked,
+  peek-reads.Learnt,
+  ascription-reads.Asked,
+  ascription-reads.Learnt,
+  refuse-reads.Asked,
+  refuse-reads.Learnt,
+  mark-reads.Asked,
+  mark-reads.Learnt,
+  asc-below t,
+  asc.Post,
+  close-reads.Asked,
+  close-reads.Learnt,
+) (stt-at t) stt.Post stt-Inv-loop stt-μ-loop
+unfolding decl.strStep plan choose chosen
+stt-returns-2 t c =
+    let inv = c .before .before .before .before .before .before .loop .inv .0 in
+    let peek = rw (c .before .before .before .k .given .1) at (c .before .before .before .before .before .peek .ensures) in
+    let ascription = c .before .ascription .ensures in
+    let if1 = c .if1 .left in
+    loop-ends (str-step-advances _ _) inv (in-steps (inv .ok) {n = (c .before .before .before .before .before .before .before .before .before .before .before .before .before .args .left)} {b = (c .before .before .before .before .before .before .before .before .before .before .before .before .before .args .b)} (s-look peek (s-false _ _ (test-false ascription if1) s-end)))
+
+stx-peek-requires : (t : ℕ) → stx-lts.Need-peek-requires (
+  peek-reads.Asked,
+  peek-reads.Learnt,
+  refuse-reads.Asked,
+  refuse-reads.Learnt,
+  mark-reads.Asked,
+  mark-reads.Learnt,
+  sth-below t,
+  sth.Post,
+  stt-below t,
+  stt.Post,
+) (stx-at t) stx.Post
+stx-peek-requires t c κs =
+    let pre0 = c .before .before .before .before .before .before .pre .1 in
+    pre0 .reads
+
+stx-enum-known-k : (t : ℕ) → stx-lts.Need-enum-known-k (
+  peek-reads.Asked,
+  peek-reads.Learnt,
+  refuse-reads.Asked,
+  refuse-reads.Learnt,
+  mark-reads.Asked,
+  mark-reads.Learnt,
+  sth-below t,
+  sth.Post,
+  stt-below t,
+  stt.Post,
+) (stx-at t) stx.Post
+stx-enum-known-k t c =
+    let falls = c .before .before .before .before .before .before .before .before .pre .0 in
+    let pre0 = c .before .before .before .before .before .before .before .before .pre .1 in
+    search needs
+
+stx-enum-told : (t : ℕ) → stx-lts.Need-enum-told (
+  peek-reads.Asked,
+  peek-reads.Learnt,
+  refuse-reads.Asked,
+  refuse-reads.Learnt,
+  mark-reads.Asked,
+  mark-reads.Learnt,
+  sth-below t,
+  sth.Post,
+  stt-below t,
+  stt.Post,
+) (stx-at t) stx.Post
+stx-enum-told t c =
+    let falls = c .before .before .before .before .before .before .before .before .pre .0 in
+    let pre0 = c .before .before .before .before .before .before .before .before .pre .1 in
+    search needs
+
+stx-returns : (t : ℕ) → stx-lts.Need-returns (
+  peek-reads.Asked,
+  peek-reads.Learnt,
+  refuse-reads.Asked,
+  refuse-reads.Learnt,
+  mark-reads.Asked,
+  mark-reads.Learnt,
+  sth-below t,
+  sth.Post,
+  stt-below t,
+  stt.Post,
+) (stx-at t) stx.Post
+unfolding root.body decl.strScope plan choose chosen
+stx-returns t c =
+    let falls = c .before .before .before .before .before .before .before .before .before .pre .0 in
+    let pre0 = c .before .before .before .before .before .before .before .before .before .pre .1 in
+    let peek = rw (c .enum-told .given .1) at (c .before .before .peek .ensures) in
+    by-steps pre0 (λ b. s-rule (s-look peek s-end))
+
+stx-refuse-requires : (t : ℕ) → stx-lts.Need-refuse-requires (
+  peek-reads.Asked,
+  peek-reads.Learnt,
+  refuse-reads.Asked,
+  refuse-reads.Learnt,
+  mark-reads.Asked,
+  mark-reads.Learnt,
+  sth-below t,
+  sth.Post,
+  stt-below t,
+  stt.Post,
+) (stx-at t) stx.Post
+stx-refuse-requires t c κs =
+    tt
+
+stx-returns-2 : (t : ℕ) → stx-lts.Need-returns-2 (
+  peek-reads.Asked,
+  peek-reads.Learnt,
+  refuse-reads.Asked,
+  refuse-reads.Learnt,
+  mark-reads.Asked,
+  mark-reads.Learnt,
+  sth-below t,
+  sth.Post,
+  stt-below t,
+  stt.Post,
+) (stx-at t) stx.Post
+unfolding root.body decl.strScope plan choose chosen
+stx-returns-2 t c =
+    let falls = c .before .before .before .before .before .before .before .before .before .before .before .before .pre .0 in
+    let pre0 = c .before .before .before .before .before .before .before .before .before .before .before .before .pre .1 in
+    let peek = rw (c .before .before .before .k .given .1) at (c .before .before .before .before .before .peek .ensures) in
+    let if1 = c .before .if1 .taken in
+    let refuse = c .refuse .ensures in
+    by-steps pre0 (λ b. s-rule (s-look peek (s-deep if1 refuse s-end)))
+
+stx-mark-requires : (t : ℕ) → stx-lts.Need-mark-requires (
+  peek-reads.Asked,
+  peek-reads.Learnt,
+  refuse-reads.Asked,
+  refuse-reads.Learnt,
+  mark-reads.Asked,
+  mark-reads.Learnt,
+  sth-below t,
+  sth.Post,
+  stt-below t,
+  stt.Post,
+) (stx-at t) stx.Post
+stx-mark-requires t c κs =
+    tt
+
+stx-sub-sth : (t : ℕ) → stx-lts.Need-sub-sth (
+  peek-reads.Asked,
+  peek-reads.Learnt,
+  refuse-reads.Asked,
+  refuse-reads.Learnt,
+  mark-reads.Asked,
+  mark-reads.Learnt,
+  sth-below t,
+  sth.Post,
+  stt-below t,
+  stt.Post,
+) (stx-at t) stx.Post
+stx-sub-sth t c =
+    let falls = c .before .before .before .before .before .before .before .before .before .before .before .before .before .before .before .pre .0 in
+    let pre0 = c .before .before .before .before .before .before .before .before .before .before .before .before .before .before .before .pre .1 in
+    let if1 = c .before .before .before .before .if1 .left in
+    search needs
+
+stx-sth-requires : (t : ℕ) → stx-lts.Need-sth-requires (
+  peek-reads.Asked,
+  peek-reads.Learnt,
+  refuse-reads.Asked,
+  refuse-reads.Learnt,
+  mark-reads.Asked,
+  mark-reads.Learnt,
+  sth-below t,
+  sth.Post,
+  stt-below t,
+  stt.Post,
+) (stx-at t) stx.Post
+stx-sth-requires t c κs =
+    let falls = c .before .before .before .before .before .before .before .before .before .before .before .before .before .before .before .pre .0 in
+    let pre0 = c .before .before .before .before .before .before .before .before .before .before .before .before .before .before .before .pre .1 in
+    let if1 = c .before .before .before .before .if1 .left in
+    let mark = c .before .before .before .mark .ensures in
+    let mark-ok = ok-marks mark pre0 in
+    (omega arith, (mark-ok, small-len pre0))
+
+stx-enum-known-head : (t : ℕ) → stx-lts.Need-enum-known-head (
+  peek-reads.Asked,
+  peek-reads.Learnt,
+  refuse-reads.Asked,
+  refuse-reads.Learnt,
+  mark-reads.Asked,
+  mark-reads.Learnt,
+  sth-below t,
+  sth.Post,
+  stt-below t,
+  stt.Post,
+) (stx-at t) stx.Post
+stx-enum-known-head t c =
+    let falls = c .before .before .before .before .before .before .before .before .before .before .before .before .before .before .before .before .before .before .before .before .before .before .before .pre .0 in
+    let pre0 = c .before .before .before .before .before .before .before .before .before .before .before .before .before .before .before .before .before .before .before .before .before .before .before .pre .1 in
+    let if1 = c .before .before .before .before .before .before .before .before .before .before .before .before .if1 .left in
+    search needs
+
+stx-enum-known-head-2 : (t : ℕ) → stx-lts.Need-enum-known-head-2 (
+  peek-reads.Asked,
+  peek-reads.Learnt,
+  refuse-reads.Asked,
+  refuse-reads.Learnt,
+  mark-reads.Asked,
+  mark-reads.Learnt,
+  sth-below t,
+  sth.Post,
+  stt-below t,
+  stt.Post,
+) (stx-at t) stx.Post
+stx-enum-known-head-2 t c =
+    let falls = c .before .before .before .before .before .before .before .before .before .before .before .before .before .before .before .before .before .before .before .before .before .before .before .pre .0 in
+    let pre0 = c .before .before .before .before .before .before .before .before .before .before .before .before .before .before .before .before .before .before .before .before .before .before .before .pre .1 in
+    let if1 = c .before .before .before .before .before .before .before .before .before .before .before .before .if1 .left in
+    search needs
+
+stx-stt-requires : (t : ℕ) → stx-lts.Need-stt-requires (
+  peek-reads.Asked,
+  peek-reads.Learnt,
+  refuse-reads.Asked,
+  refuse-reads.Learnt,
+  mark-reads.Asked,
+  mark-reads.Learnt,
+  sth-below t,
+  sth.Post,
+  stt-below t,
+  stt.Post,
+) (stx-at t) stx.Post
+stx-stt-requires t c κs =
+    let falls = c .before .before .before .before .before .before .before .before .before .before .before .before .before .before .before .before .before .before .before .before .before .before .before .before .before .before .before .before .pre .0 in
+    let pre0 = c .before .before .before .before .before .before .before .before .before .before .before .before .before .before .before .before .before .before .before .before .before .before .before .before .before .before .before .before .pre .1 in
+    let if1 = c .before .before .before .before .before .before .before .before .before .before .before .before .before .before .before .before .before .if1 .left in
+    let sth = rw (c .before .before .before .before .head2 .given .1) at (c .before .before .before .before .before .before .before .before .before .before .before .before .sth .ensures) in
+    let sth-ok = sth .ok in
+    (omega arith, (sth-ok, small-len pre0))
+
+stx-same-length : (t : ℕ) → stx-lts.Need-same-length (
+  peek-reads.Asked,
+  peek-reads.Learnt,
+  refuse-reads.Asked,
+  refuse-reads.Learnt,
+  mark-reads.Asked,
+  mark-reads.Learnt,
+  sth-below t,
+  sth.Post,
+  stt-below t,
+  stt.Post,
+) (stx-at t) stx.Post
+stx-same-length t c =
+    c .before .before .before .before .before .before .before .before .before .sth .kept .1 .1 .1 .0
+
+stx-same-length-2 : (t : ℕ) → stx-lts.Need-same-length-2 (
+  peek-reads.Asked,
+  peek-reads.Learnt,
+  refuse-reads.Asked,
+  refuse-reads.Learnt,
+  mark-reads.Asked,
+  mark-reads.Learnt,
+  sth-below t,
+  sth.Post,
+  stt-below t,
+  stt.Post,
+) (stx-at t) stx.Post
+stx-same-length-2 t c =
+    c .before .before .before .before .before .before .before .before .before .sth .kept .1 .1 .1 .1 .0
+
+stx-same-length-3 : (t : ℕ) → stx-lts.Need-same-length-3 (
+  peek-reads.Asked,
+  peek-reads.Learnt,
+  refuse-reads.Asked,
+  refuse-reads.Learnt,
+  mark-reads.Asked,
+  mark-reads.Learnt,
+  sth-below t,
+  sth.Post,
+  stt-below t,
+  stt.Post,
+) (stx-at t) stx.Post
+stx-same-length-3 t c =
+    c .before .before .before .before .before .before .before .before .before .sth .kept .1 .1 .1 .1 .1 .0
+
+stx-returns-3 : (t : ℕ) → stx-lts.Need-returns-3 (
+  peek-reads.Asked,
+  peek-reads.Learnt,
+  refuse-reads.Asked,
+  refuse-reads.Learnt,
+  mark-reads.Asked,
+  mark-reads.Learnt,
+  sth-below t,
+  sth.Post,
+  stt-below t,
+  stt.Post,
+) (stx-at t) stx.Post
+unfolding root.body decl.strScope plan choose chosen
+stx-returns-3 t c =
+    let falls = c .before .before .before .before .before .before .before .before .before .before .before .before .before .before .before .before .before .before .before .before .before .before .before .before .before .pre .0 in
+    let pre0 = c .before .before .before .before .before .before .before .before .before .before .before .before .before .before .before .before .before .before .before .before .before .before .before .before .before .pre .1 in
+    let peek = rw (c .before .before .before .before .before .before .before .before .before .before .before .before .before .before .before .before .k .given .1) at (c .before .before .before .before .before .before .before .before .before .before .before .before .before .before .before .before .before .before .peek .ensures) in
+    let if1 = c .before .before .before .before .before .before .before .before .before .before .before .before .before .before .if1 .left in
+    let mark = c .before .before .before .before .before .before .before .before .before .before .before .before .before .mark .ensures in
+    let sth = rw (c .before .head .given .1) at (c .before .before .before .before .before .before .before .before .before .sth .ensures) in
+    by-steps pre0 (λ b. s-rule (s-look peek (s-mark if1 mark (s-by _ sth s-end))))
+
+stx-same-length-4 : (t : ℕ) → stx-lts.Need-same-length-4 (
+  peek-reads.Asked,
+  peek-reads.Learnt,
+  refuse-reads.Asked,
+  refuse-reads.Learnt,
+  mark-reads.Asked,
+  mark-reads.Learnt,
+  sth-below t,
+  sth.Post,
+  stt-below t,
+  stt.Post,
+) (stx-at t) stx.Post
+stx-same-length-4 t c =
+    c .before .before .before .before .before .before .stt .kept .1 .1 .1 .0 ∙ c .before .before .before .before .before .before .before .before .before .before .before .before .before .before .before .before .before .before .before .sth .kept .1 .1 .1 .0
+
+stx-same-length-5 : (t : ℕ) → stx-lts.Need-same-length-5 (
+  peek-reads.Asked,
+  peek-reads.Learnt,
+  refuse-reads.Asked,
+  refuse-reads.Learnt,
+  mark-reads.Asked,
+  mark-reads.Learnt,
+  sth-below t,
+  sth.Post,
+  stt-below t,
+  stt.Post,
+) (stx-at t) stx.Post
+stx-same-length-5 t c =
+    c .before .before .before .before .before .before .stt .kept .1 .1 .1 .1 .0 ∙ c .before .before .before .before .before .before .before .before .before .before .before .before .before .before .before .before .before .before .before .sth .kept .1 .1 .1 .1 .0
+
+stx-same-length-6 : (t : ℕ) → stx-lts.Need-same-length-6 (
+  peek-reads.Asked,
+  peek-reads.Learnt,
+  refuse-reads.Asked,
+  refuse-reads.Learnt,
+  mark-reads.Asked,
+  mark-reads.Learnt,
+  sth-below t,
+  sth.Post,
+  stt-below t,
+  stt.Post,
+) (stx-at t) stx.Post
+stx-same-length-6 t c =
+    c .before .before .before .before .before .before .stt .kept .1 .1 .1 .1 .1 .0 ∙ c .before .before .before .before .before .before .before .before .before .before .before .before .before .before .before .before .before .before .before .sth .kept .1 .1 .1 .1 .1 .0
+
+stx-returns-4 : (t : ℕ) → stx-lts.Need-returns-4 (
+  peek-reads.Asked,
+  peek-reads.Learnt,
+  refuse-reads.Asked,
+  refuse-reads.Learnt,
+  mark-reads.Asked,
+  mark-reads.Learnt,
+  sth-below t,
+  sth.Post,
+  stt-below t,
+  stt.Post,
+) (stx-at t) stx.Post
+unfolding root.body decl.strScope plan choose chosen
+stx-returns-4 t c =
+    let falls = c .before .before .before .before .before .before .before .before .before .before .before .before .before .before .before .before .before .before .before .before .before .before .before .before .before .before .before .before .before .before .before .before .before .before .before .pre .0 in
+    let pre0 = c .before .before .before .before .before .before .before .before .before .before .before .before .before .before .before .before .before .before .before .before .before .before .before .before .before .before .before .before .before .before .before .before .before .before .before .pre .1 in
+    let peek = rw (c .before .before .before .before .before .before .before .before .before .before .before .before .before .before .before .before .before .before .before .before .before .before .before .before .before .before .k .given .1) at (c .before .before .before .before .before .before .before .before .before .before .before .before .before .before .before .before .before .before .before .before .before .before .before .before .before .before .before .before .peek .ensures) in
+    let if1 = c .before .before .before .before .before .before .before .before .before .before .before .before .before .before .before .before .before .before .before .before .before .before .before .before .if1 .left in
+    let mark = c .before .before .before .before .before .before .before .before .before .before .before .before .before .before .before .before .before .before .before .before .before .before .before .mark .ensures in
+    let sth = rw (c .before .before .before .before .before .before .before .before .before .before .before .head2 .given .1) at (c .before .before .before .before .before .before .before .before .before .before .before .before .before .before .before .before .before .before .before .sth .ensures) in
+    let stt = c .before .before .before .before .before .before .stt .ensures in
+    by-steps pre0 (λ b. s-rule (s-look peek (s-mark if1 mark (s-by _ sth (s-run stt s-end)))))
+
+tl-refuse-requires : (t : ℕ) → tl-lts.Need-refuse-requires (
+  refuse-reads.Asked,
+  refuse-reads.Learnt,
+  mark-reads.Asked,
+  mark-reads.Learnt,
+  sem-below t,
+  sem.Post,
+  sharings-reads.Asked,
+  sharings-reads.Learnt,
+  close-reads.Asked,
+  close-reads.Learnt,
+  seq-below t,
+  seq.Post,
+  state-reads.Asked,
+  state-reads.Learnt,
+) (tl-at t) tl.Post
+tl-refuse-requires t c κs =
+    tt
+
+tl-returns : (t : ℕ) → tl-lts.Need-returns (
+  refuse-reads.Asked,
+  refuse-reads.Learnt,
+  mark-reads.Asked,
+  mark-reads.Learnt,
+  sem-below t,
+  sem.Post,
+  sharings-reads.Asked,
+  sharings-reads.Learnt,
+  close-reads.Asked,
+  close-reads.Learnt,
+  seq-below t,
+  seq.Post,
+  state-reads.Asked,
+  state-reads.Learnt,
+) (tl-at t) tl.Post
+unfolding decl.decWithTail util.maybeSemiSep decl.semiClosure util.choose plan choose chosen
+tl-returns t c =
+    let falls = c .before .before .before .before .before .before .before .before .pre .0 in
+    let pre0 = c .before .before .before .before .before .before .before .before .pre .1 in
+    let if1 = c .before .if1 .taken in
+    let refuse = c .refuse .ensures in
+    by-steps pre0 (λ b. s-deep if1 refuse s-end)
+
+tl-sub-n : (t : ℕ) → tl-lts.Need-sub-n (
+  refuse-reads.Asked,
+  refuse-reads.Learnt,
+  mark-reads.Asked,
+  mark-reads.Learnt,
+  sem-below t,
+  sem.Post,
+  sharings-reads.Asked,
+  sharings-reads.Learnt,
+  close-reads.Asked,
+  close-reads.Learnt,
+  seq-below t,
+  seq.Post,
+  state-reads.Asked,
+  state-reads.Learnt,
+) (tl-at t) tl.Post
+tl-sub-n t c =
+    let falls = c .before .before .before .before .before .before .before .pre .0 in
+    let pre0 = c .before .before .before .before .before .before .before .pre .1 in
+    let if1 = c .if1 .left in
+    search needs
+
+tl-mark-requires : (t : ℕ) → tl-lts.Need-mark-requires (
+  refuse-reads.Asked,
+  refuse-reads.Learnt,
+  mark-reads.Asked,
+  mark-reads.Learnt,
+  sem-below t,
+  sem.Post,
+  sharings-reads.Asked,
+  sharings-reads.Learnt,
+  close-reads.Asked,
+  close-reads.Learnt,
+  seq-below t,
+  seq.Post,
+  state-reads.Asked,
+  state-reads.Learnt,
+) (tl-at t) tl.Post
+tl-mark-requires t c κs =
+    tt
+
+tl-sem-requires : (t : ℕ) → tl-lts.Need-sem-requires (
+  refuse-reads.Asked,
+  refuse-reads.Learnt,
+  mark-reads.Asked,
+  mark-reads.Learnt,
+  sem-below t,
+  sem.Post,
+  sharings-reads.Asked,
+  sharings-reads.Learnt,
+  close-reads.Asked,
+  close-reads.Learnt,
+  seq-below t,
+  seq.Post,
+  state-reads.Asked,
+  state-reads.Learnt,
+) (tl-at t) tl.Post
+tl-sem-requires t c κs =
+    let falls = c .before .before .before .before .before .before .before .before .before .before .before .pre .0 in
+    let pre0 = c .before .before .before .before .before .before .before .before .before .before .before .pre .1 in
+    let if1 = c .before .before .before .before .if1 .left in
+    let mark = c .before .before .before .mark .ensures in
+    let mark-ok = ok-marks mark pre0 in
+    (omega arith, mark-ok)
+
+tl-enum-known-turn : (t : ℕ) → tl-lts.Need-enum-known-turn (
+  refuse-reads.Asked,
+  refuse-reads.Learnt,
+  mark-reads.Asked,
+  mark-reads.Learnt,
+  sem-below t,
+  sem.Post,
+  sharings-reads.Asked,
+  sharings-reads.Learnt,
+  close-reads.Asked,
+  close-reads.Learnt,
+  seq-below t,
+  seq.Post,
+  state-reads.Asked,
+  state-reads.Learnt,
+) (tl-at t) tl.Post
+tl-enum-known-turn t c =
+    let falls = c .before .before .before .before .before .before .before .before .before .before .before .before .before .before .before .before .before .before .before .pre .0 in
+    let pre0 = c .before .before .before .before .before .before .before .before .before .before .before .before .before .before .before .before .before .before .before .pre .1 in
+    let if1 = c .before .before .before .before .before .before .before .before .before .before .before .before .if1 .left in
+    search needs
+
+tl-sharings-requires : (t : ℕ) → tl-lts.Need-sharings-requires (
+  refuse-reads.Asked,
+  refuse-reads.Learnt,
+  mark-reads.Asked,
+  mark-reads.Learnt,
+  sem-below t,
+  sem.Post,
+  sharings-reads.Asked,
+  sharings-reads.Learnt,
+  close-reads.Asked,
+  close-reads.Learnt,
+  seq-below t,
+  seq.Post,
+  state-reads.Asked,
+  state-reads.Learnt,
+) (tl-at t) tl.Post
+tl-sharings-requires t c κs =
+    let sem = rw (c .before .before .before .before .turn .given .1) at (c .before .before .before .before .before .before .before .before .before .before .before .before .sem .ensures) in
+    let sem-ok = sem true .ok in
+    sem-ok
+
+tl-enum-known-more : (t : ℕ) → tl-lts.Need-enum-known-more (
+  refuse-reads.Asked,
+  refuse-reads.Learnt,
+  mark-reads.Asked,
+  mark-reads.Learnt,
+  sem-below t,
+  sem.Post,
+  sharings-reads.Asked,
+  sharings-reads.Learnt,
+  close-reads.Asked,
+  close-reads.Learnt,
+  seq-below t,
+  seq.Post,
+  state-reads.Asked,
+  state-reads.Learnt,
+) (tl-at t) tl.Post
+tl-enum-known-more t c =
+    let falls = c .before .before .before .before .before .before .before .before .before .before .before .before .before .before .before .before .before .before .before .before .before .before .before .before .before .before .before .before .before .before .pre .0 in
+    let pre0 = c .before .before .before .before .before .before .before .before .before .before .before .before .before .before .before .before .before .before .before .before .before .before .before .before .before .before .before .before .before .before .pre .1 in
+    let if1 = c .before .before .before .before .before .before .before .before .before .before .before .before .before .before .before .before .before .before .before .before .before .before .before .if1 .left in
+    search needs
+
+tl-close-requires : (t : ℕ) → tl-lts.Need-close-requires (
+  refuse-reads.Asked,
+  refuse-reads.Learnt,
+  mark-reads.Asked,
+  mark-reads.Learnt,
+  sem-below t,
+  sem.Post,
+  sharings-reads.Asked,
+  sharings-reads.Learnt,
+  close-reads.Asked,
+  close-reads.Learnt,
+  seq-below t,
+  seq.Post,
+  state-reads.Asked,
+  state-reads.Learnt,
+) (tl-at t) tl.Post
+tl-close-requires t c κs =
+    let pre0 = c .before .before .before .before .before .before .before .before .before .before .before .before .before .before .before .before .before .before .before .before .before .before .before .before .before .before .before .before .before .before .before .before .before .pre .1 in
+    let mark = c .before .before .before .before .before .before .before .before .before .before .before .before .before .before .before .before .before .before .before .before .before .before .before .before .before .mark .ensures in
+    let mark-ok = ok-marks mark pre0 in
+    let sharings = rw (c .before .before .more .given .1) at (c .before .before .before .before .before .before .before .before .sharings .ensures) in
+    let sharings-ok = sharings .ok in
+    (sharings-ok .logs, small-len mark-ok)
+
+tl-enum-known-more-2 : (t : ℕ) → tl-lts.Need-enum-known-more-2 (
+  refuse-reads.Asked,
+  refuse-reads.Learnt,
+  mark-reads.Asked,
+  mark-reads.Learnt,
+  sem-below t,
+  sem.Post,
+  sharings-reads.Asked,
+  sharings-reads.Learnt,
+  close-reads.Asked,
+  close-reads.Learnt,
+  seq-below t,
+  seq.Post,
+  state-reads.Asked,
+  state-reads.Learnt,
+) (tl-at t) tl.Post
+tl-enum-known-more-2 t c =
+    let falls = c .before .before .before .before .before .before .before .before .before .before .before .before .before .before .before .before .before .before .before .before .before .before .before .before .before .before .before .before .before .before .pre .0 in
+    let pre0 = c .before .before .before .before .before .before .before .before .before .before .before .before .before .before .before .before .before .before .before .before .before .before .before .before .before .before .before .before .before .before .pre .1 in
+    let if1 = c .before .before .before .before .before .before .before .before .before .before .before .before .before .before .before .before .before .before .before .before .before .before .before .if1 .left in
+    search needs
+
+tl-close-requires-2 : (t : ℕ) → tl-lts.Need-close-requires-2 (
+  refuse-reads.Asked,
+  refuse-reads.Learnt,
+  mark-reads.Asked,
+  mark-reads.Learnt,
+  sem-below t,
+  sem.Post,
+  sharings-reads.Asked,
+  sharings-reads.Learnt,
+  close-reads.Asked,
+  close-reads.Learnt,
+  seq-below t,
+  seq.Post,
+  state-reads.Asked,
+  state-reads.Learnt,
+) (tl-at t) tl.Post
+tl-close-requires-2 t c κs =
+    let pre0 = c .before .before .before .before .before .before .before .before .before .before .before .before .before .before .before .before .before .before .before .before .before .before .before .before .before .before .before .before .before .before .before .before .before .pre .1 in
+    let mark = c .before .before .before .before .before .before .before .before .before .before .before .before .before .before .before .before .before .before .before .before .before .before .before .before .before .mark .ensures in
+    let mark-ok = ok-marks mark pre0 in
+    let sharings = rw (c .before .before .more2 .given .1) at (c .before .before .before .before .before .before .before .before .sharings .ensures) in
+    let sharings-ok = sharings .ok in
+    (sharings-ok .logs, small-len mark-ok)
+
+tl-enum-known-turn-2 : (t : ℕ) → tl-lts.Need-enum-known-turn-2 (
+  refuse-reads.Asked,
+  refuse-reads.Learnt,
+  mark-reads.Asked,
+  mark-reads.Learnt,
+  sem-below t,
+  sem.Post,
+  sharings-reads.Asked,
+  sharings-reads.Learnt,
+  close-reads.Asked,
+  close-reads.Learnt,
+  seq-below t,
+  seq.Post,
+  state-reads.Asked,
+  state-reads.Learnt,
+) (tl-at t) tl.Post
+tl-enum-known-turn-2 t c =
+    let falls = c .before .before .before .before .before .before .before .before .before .before .before .before .before .before .before .before .before .before .before .pre .0 in
+    let pre0 = c .before .before .before .before .before .before .before .before .before .before .before .before .before .before .before .before .before .before .before .pre .1 in
+    let if1 = c .before .before .before .before .before .before .before .before .before .before .before .before .if1 .left in
+    search needs
+
+tl-seq-requires : (t : ℕ) → tl-lts.Need-seq-requires (
+  refuse-reads.Asked,
+  refuse-reads.Learnt,
+  mark-reads.Asked,
+  mark-reads.Learnt,
+  sem-below t,
+  sem.Post,
+  sharings-reads.Asked,
+  sharings-reads.Learnt,
+  close-reads.Asked,
+  close-reads.Learnt,
+  seq-below t,
+  seq.Post,
+  state-reads.Asked,
+  state-reads.Learnt,
+) (tl-at t) tl.Post
+tl-seq-requires t c κs =
+    let falls = c .before .before .before .before .before .before .before .before .before .before .before .before .before .before .before .before .before .before .before .before .before .before .before .before .pre .0 in
+    let if1 = c .before .before .before .before .before .before .before .before .before .before .before .before .before .before .before .before .before .if1 .left in
+    let sem = rw (c .before .before .before .before .turn2 .given .1) at (c .before .before .before .before .before .before .before .before .before .before .before .before .sem .ensures) in
+    let sem-ok = sem true .ok in
+    (omega arith, sem-ok)
+
+tl-sharings-requires-2 : (t : ℕ) → tl-lts.Need-sharings-requires-2 (
+  refuse-reads.Asked,
+  refuse-reads.Learnt,
+  mark-reads.Asked,
+  mark-reads.Learnt,
+  sem-below t,
+  sem.Post,
+  sharings-reads.Asked,
+  sharings-reads.Learnt,
+  close-reads.Asked,
+  close-reads.Learnt,
+  seq-below t,
+  seq.Post,
+  state-reads.Asked,
+  state-reads.Learnt,
+) (tl-at t) tl.Post
+tl-sharings-requires-2 t c κs =
+    let seq = c .before .before .before .before .before .before .before .before .before .seq .ensures in
+    let seq-ok = seq true .ok in
+    seq-ok
+
+tl-state-requires : (t : ℕ) → tl-lts.Need-state-requires (
+  refuse-reads.Asked,
+  refuse-reads.Learnt,
+  mark-reads.Asked,
+  mark-reads.Learnt,
+  sem-below t,
+  sem.Post,
+  sharings-reads.Asked,
+  sharings-reads.Learnt,
+  close-reads.Asked,
+  close-reads.Learnt,
+  seq-below t,
+  seq.Post,
+  state-reads.Asked,
+  state-reads.Learnt,
+) (tl-at t) tl.Post
+tl-state-requires t c κs =
+    tt
+
+tl-close-requires-3 : (t : ℕ) → tl-lts.Need-close-requires-3 (
+  refuse-reads.Asked,
+  refuse-reads.Learnt,
+  mark-reads.Asked,
+  mark-reads.Learnt,
+  sem-below t,
+  sem.Post,
+  sharings-reads.Asked,
+  sharings-reads.Learnt,
+  close-reads.Asked,
+  close-reads.Learnt,
+  seq-below t,
+  seq.Post,
+  state-reads.Asked,
+  state-reads.Learnt,
+) (tl-at t) tl.Post
+tl-close-requires-3 t c κs =
+    let pre0 = c .before .before .before .before .before .before .before .before .before .before .before .before .before .before .before .before .before .before .before .before .before .before .before .before .before .before .before .before .before .before .before .before .before .before .before .before .before .before .before .before .before .pre .1 in
+    let mark = c .before .before .before .before .before .before .before .before .before .before .before .before .before .before .before .before .before .before .before .before .before .before .before .before .before .before .before .before .before .before .before .before .before .mark .ensures in
+    let mark-ok = ok-marks mark pre0 in
+    let sharings2 = c .before .before .before .before .before .before .sharings2 .ensures in
+    let sharings2-ok = sharings2 .ok in
+    let state = c .before .state .ensures in
+    let state-ok = ok-state state sharings2-ok in
+    (state-ok .logs, small-len mark-ok)
+
+tl-same-length : (t : ℕ) → tl-lts.Need-same-length (
+  refuse-reads.Asked,
+  refuse-reads.Learnt,
+  mark-reads.Asked,
+  mark-reads.Learnt,
+  sem-below t,
+  sem.Post,
+  sharings-reads.Asked,
+  sharings-reads.Learnt,
+  close-reads.Asked,
+  close-reads.Learnt,
+  seq-below t,
+  seq.Post,
+  state-reads.Asked,
+  state-reads.Learnt,
+) (tl-at t) tl.Post
+tl-same-length t c =
+    c .before .before .before .before .before .before .before .before .before .before .before .before .before .before .before .before .before .before .before .before .before .before .before .before .sem .kept .1 .1 .1 .0
+
+tl-same-length-2 : (t : ℕ) → tl-lts.Need-same-length-2 (
+  refuse-reads.Asked,
+  refuse-reads.Learnt,
+  mark-reads.Asked,
+  mark-reads.Learnt,
+  sem-below t,
+  sem.Post,
+  sharings-reads.Asked,
+  sharings-reads.Learnt,
+  close-reads.Asked,
+  close-reads.Learnt,
+  seq-below t,
+  seq.Post,
+  state-reads.Asked,
+  state-reads.Learnt,
+) (tl-at t) tl.Post
+tl-same-length-2 t c =
+    c .before .before .close .kept .0 ∙ c .before .before .before .before .before .before .before .before .before .before .before .sharings .kept .1 .1 .1 .1 .0 ∙ c .before .before .before .before .before .before .before .before .before .before .before .before .before .before .before .before .before .before .before .before .before .before .before .before .sem .kept .1 .1 .1 .1 .0
+
+tl-same-length-3 : (t : ℕ) → tl-lts.Need-same-length-3 (
+  refuse-reads.Asked,
+  refuse-reads.Learnt,
+  mark-reads.Asked,
+  mark-reads.Learnt,
+  sem-below t,
+  sem.Post,
+  sharings-reads.Asked,
+  sharings-reads.Learnt,
+  close-reads.Asked,
+  close-reads.Learnt,
+  seq-below t,
+  seq.Post,
+  state-reads.Asked,
+  state-reads.Learnt,
+) (tl-at t) tl.Post
+tl-same-length-3 t c =
+    c .before .before .before .before .before .before .before .before .before .before .before .sharings .kept .1 .1 .1 .1 .1 .0 ∙ c .before .before .before .before .before .before .before .before .before .before .before .before .before .before .before .before .before .before .before .before .before .before .before .before .sem .kept .1 .1 .1 .1 .1 .0
+
+tl-returns-2 : (t : ℕ) → tl-lts.Need-returns-2 (
+  refuse-reads.Asked,
+  refuse-reads.Learnt,
+  mark-reads.Asked,
+  mark-reads.Learnt,
+  sem-below t,
+  sem.Post,
+  sharings-reads.Asked,
+  sharings-reads.Learnt,
+  close-reads.Asked,
+  close-reads.Learnt,
+  seq-below t,
+  seq.Post,
+  state-reads.Asked,
+  state-reads.Learnt,
+) (tl-at t) tl.Post
+unfolding decl.decWithTail util.maybeSemiSep decl.semiClosure util.choose plan choose chosen
+tl-returns-2 t c =
+    let falls = c .before .before .before .before .before .before .before .before .before .before .before .before .before .before .before .before .before .before .before .before .before .before .before .before .before .before .before .before .before .before .before .before .before .before .before .before .pre .0 in
+    let pre0 = c .before .before .before .before .before .before .before .before .before .before .before .before .before .before .before .before .before .before .before .before .before .before .before .before .before .before .before .before .before .before .before .before .before .before .before .before .pre .1 in
+    let if1 = c .before .before .before .before .before .before .before .before .before .before .before .before .before .before .before .before .before .before .before .before .before .before .before .before .before .before .before .before .before .if1 .left in
+    let mark = c .before .before .before .before .before .before .before .before .before .before .before .before .before .before .before .before .before .before .before .before .before .before .before .before .before .before .before .before .mark .ensures in
+    let sem = rw (c .before .before .before .before .before .before .before .before .before .before .before .before .before .before .before .before .turn .given .1) at (c .before .before .before .before .before .before .before .before .before .before .before .before .before .before .before .before .before .before .before .before .before .before .before .before .sem .ensures) in
+    let sharings = rw (c .before .before .before .before .before .more .given .1) at (c .before .before .before .before .before .before .before .before .before .before .before .sharings .ensures) in
+    let close = c .before .before .close .ensures in
+    by-steps pre0 (λ b. s-mark if1 mark (s-by _ (runs-in (sem _)) (s-by _ sharings (s-close close s-end))))
+
+tl-same-length-4 : (t : ℕ) → tl-lts.Need-same-length-4 (
+  refuse-reads.Asked,
+  refuse-reads.Learnt,
+  mark-reads.Asked,
+  mark-reads.Learnt,
+  sem-below t,
+  sem.Post,
+  sharings-reads.Asked,
+  sharings-reads.Learnt,
+  close-reads.Asked,
+  close-reads.Learnt,
+  seq-below t,
+  seq.Post,
+  state-reads.Asked,
+  state-reads.Learnt,
+) (tl-at t) tl.Post
+tl-same-length-4 t c =
+    c .before .before .before .before .before .before .before .before .before .before .before .before .before .before .before .before .before .before .before .before .before .before .before .before .sem .kept .1 .1 .1 .0
+
+tl-same-length-5 : (t : ℕ) → tl-lts.Need-same-length-5 (
+  refuse-reads.Asked,
+  refuse-reads.Learnt,
+  mark-reads.Asked,
+  mark-reads.Learnt,
+  sem-below t,
+  sem.Post,
+  sharings-reads.Asked,
+  sharings-reads.Learnt,
+  close-reads.Asked,
+  close-reads.Learnt,
+  seq-below t,
+  seq.Post,
+  state-reads.Asked,
+  state-reads.Learnt,
+) (tl-at t) tl.Post
+tl-same-length-5 t c =
+    c .before .before .close2 .kept .0 ∙ c .before .before .before .before .before .before .before .before .before .before .before .sharings .kept .1 .1 .1 .1 .0 ∙ c .before .before .before .before .before .before .before .before .before .before .before .before .before .before .before .before .before .before .before .before .before .before .before .before .sem .kept .1 .1 .1 .1 .0
+
+tl-same-length-6 : (t : ℕ) → tl-lts.Need-same-length-6 (
+  refuse-reads.Asked,
+  refuse-reads.Learnt,
+  mark-reads.Asked,
+  mark-reads.Learnt,
+  sem-below t,
+  sem.Post,
+  sharings-reads.Asked,
+  sharings-reads.Learnt,
+  close-reads.Asked,
+  close-reads.Learnt,
+  seq-below t,
+  seq.Post,
+  state-reads.Asked,
+  state-reads.Learnt,
+) (tl-at t) tl.Post
+tl-same-length-6 t c =
+    c .before .before .before .before .before .before .before .before .before .before .before .sharings .kept .1 .1 .1 .1 .1 .0 ∙ c .before .before .before .before .before .before .before .before .before .before .before .before .before .before .before .before .before .before .before .before .before .before .before .before .sem .kept .1 .1 .1 .1 .1 .0
+
+tl-returns-3 : (t : ℕ) → tl-lts.Need-returns-3 (
+  refuse-reads.Asked,
+  refuse-reads.Learnt,
+  mark-reads.Asked,
+  mark-reads.Learnt,
+  sem-below t,
+  sem.Post,
+  sharings-reads.Asked,
+  sharings-reads.Learnt,
+  close-reads.Asked,
+  close-reads.Learnt,
+  seq-below t,
+  seq.Post,
+  state-reads.Asked,
+  state-reads.Learnt,
+) (tl-at t) tl.Post
+unfolding decl.decWithTail util.maybeSemiSep decl.semiClosure util.choose plan choose chosen
+tl-returns-3 t c =
+    let falls = c .before .before .before .before .before .before .before .before .before .before .before .before .before .before .before .before .before .before .before .before .before .before .before .before .before .before .before .before .before .before .before .before .before .before .before .before .pre .0 in
+    let pre0 = c .before .before .before .before .before .before .before .before .before .before .before .before .before .before .before .before .before .before .before .before .before .before .before .before .before .before .before .before .before .before .before .before .before .before .before .before .pre .1 in
+    let if1 = c .before .before .before .before .before .before .before .before .before .before .before .before .before .before .before .before .before .before .before .before .before .before .before .before .before .before .before .before .before .if1 .left in
+    let mark = c .before .before .before .before .before .before .before .before .before .before .before .before .before .before .before .before .before .before .before .before .before .before .before .before .before .before .before .before .mark .ensures in
+    let sem = rw (c .before .before .before .before .before .before .before .before .before .before .before .before .before .before .before .before .turn .given .1) at (c .before .before .before .before .before .before .before .before .before .before .before .before .before .before .before .before .before .before .before .before .before .before .before .before .sem .ensures) in
+    let sharings = rw (c .before .before .before .before .before .more2 .given .1) at (c .before .before .before .before .before .before .before .before .before .before .before .sharings .ensures) in
+    let close2 = c .before .before .close2 .ensures in
+    by-steps pre0 (λ b. s-mark if1 mark (s-by _ (runs-in (sem _)) (s-by _ sharings (s-close close2 s-end))))
+
+tl-same-length-7 : (t : ℕ) → tl-lts.Need-same-length-7 (
+  refuse-reads.Asked,
+  refuse-reads.Learnt,
+  mark-reads.Asked,
+  mark-reads.Learnt,
+  sem-below t,
+  sem.Post,
+  sharings-reads.Asked,
+  sharings-reads.Learnt,
+  close-reads.Asked,
+  close-reads.Learnt,
+  seq-below t,
+  seq.Post,
+  state-reads.Asked,
+  state-reads.Learnt,
+) (tl-at t) tl.Post
+tl-same-length-7 t c =
+    c .before .before .before .before .before .before .before .before .before .before .before .before .before .before .before .before .before .before .before .seq .kept .1 .1 .1 .0 ∙ c .before .before .before .before .before .before .before .before .before .before .before .before .before .before .before .before .before .before .before .before .before .before .before .before .before .before .before .before .before .before .before .before .sem .kept .1 .1 .1 .0
+
+tl-same-length-8 : (t : ℕ) → tl-lts.Need-same-length-8 (
+  refuse-reads.Asked,
+  refuse-reads.Learnt,
+  mark-reads.Asked,
+  mark-reads.Learnt,
+  sem-below t,
+  sem.Post,
+  sharings-reads.Asked,
+  sharings-reads.Learnt,
+  close-reads.Asked,
+  close-reads.Learnt,
+  seq-below t,
+  seq.Post,
+  state-reads.Asked,
+  state-reads.Learnt,
+) (tl-at t) tl.Post
+tl-same-length-8 t c =
+    c .before .before .close3 .kept .0 ∙ c .before .before .before .before .before .before .before .before .before .sharings2 .kept .1 .1 .1 .1 .0 ∙ c .before .before .before .before .before .before .before .before .before .before .before .before .before .before .before .before .before .before .before .seq .kept .1 .1 .1 .1 .0 ∙ c .before .before .before .before .before .before .before .before .before .before .before .before .before .before .before .before .before .before .before .before .before .before .before .before .before .before .before .before .before .before .before .before .sem .kept .1 .1 .1 .1 .0
+
+tl-same-length-9 : (t : ℕ) → tl-lts.Need-same-length-9 (
+  refuse-reads.Asked,
+  refuse-reads.Learnt,
+  mark-reads.Asked,
+  mark-reads.Learnt,
+  sem-below t,
+  sem.Post,
+  sharings-reads.Asked,
+  sharings-reads.Learnt,
+  close-reads.Asked,
+  close-reads.Learnt,
+  seq-below t,
+  seq.Post,
+  state-reads.Asked,
+  state-reads.Learnt,
+) (tl-at t) tl.Post
+tl-same-length-9 t c =
+    c .before .before .before .before .before .before .before .before .before .sharings2 .kept .1 .1 .1 .1 .1 .0 ∙ c .before .before .before .before .before .before .before .before .before .before .before .before .before .before .before .before .before .before .before .seq .kept .1 .1 .1 .1 .1 .0 ∙ c .before .before .before .before .before .before .before .before .before .before .before .before .before .before .before .before .before .before .before .before .before .before .before .before .before .before .before .before .before .before .before .before .sem .kept .1 .1 .1 .1 .1 .0
+
+tl-returns-4 : (t : ℕ) → tl-lts.Need-returns-4 (
+  refuse-reads.Asked,
+  refuse-reads.Learnt,
+  mark-reads.Asked,
+  mark-reads.Learnt,
+  sem-below t,
+  sem.Post,
+  sharings-reads.Asked,
+  sharings-reads.Learnt,
+  close-reads.Asked,
+  close-reads.Learnt,
+  seq-below t,
+  seq.Post,
+  state-reads.Asked,
+  state-reads.Learnt,
+) (tl-at t) tl.Post
+unfolding decl.decWithTail util.maybeSemiSep decl.semiClosure util.choose plan choose chosen
+tl-returns-4 t c =
+    let falls = c .before .before .before .before .before .before .before .before .before .before .before .before .before .before .before .before .before .before .before .before .before .before .before .before .before .before .before .before .before .before .before .before .before .before .before .before .before .before .before .before .before .before .before .before .pre .0 in
+    let pre0 = c .before .before .before .before .before .before .before .before .before .before .before .before .before .before .before .before .before .before .before .before .before .before .before .before .before .before .before .before .before .before .before .before .before .before .before .before .before .before .before .before .before .before .before .before .pre .1 in
+    let if1 = c .before .before .before .before .before .before .before .before .before .before .before .before .before .before .before .before .before .before .before .before .before .before .before .before .before .before .before .before .before .before .before .before .before .before .before .before .before .if1 .left in
+    let mark = c .before .before .before .before .before .before .before .before .before .before .before .before .before .before .before .before .before .before .before .before .before .before .before .before .before .before .before .before .before .before .before .before .before .before .before .before .mark .ensures in
+    let sem = rw (c .before .before .before .before .before .before .before .before .before .before .before .before .before .before .before .before .before .before .before .before .before .before .before .before .turn2 .given .1) at (c .before .before .before .before .before .before .before .before .before .before .before .before .before .before .before .before .before .before .before .before .before .before .before .before .before .before .before .before .before .before .before .before .sem .ensures) in
+    let seq = c .before .before .before .before .before .before .before .before .before .before .before .before .before .before .before .before .before .before .before .seq .ensures in
+    let sharings2 = c .before .before .before .before .before .before .before .before .before .sharings2 .ensures in
+    let state = c .before .before .before .before .state .ensures in
+    let close3 = c .before .before .close3 .ensures in
+    by-steps pre0 (λ b. s-mark if1 mark (s-by _ (runs-in (sem _)) (s-run (seq _) (s-by _ (settled state sharings2) (s-close close3 s-end)))))
+
+val-rec-pat-requires : (t : ℕ) → val-lts.Need-rec-pat-requires (
+  rec-pat-reads.Asked,
+  rec-pat-reads.Learnt,
+  eq-below t,
+  eq.Post,
+) (val-at t) val.Post
+val-rec-pat-requires t c κs =
+    let pre0 = c .before .before .before .before .before .before .before .before .before .pre .1 in
+    pre0
+
+val-enum-known-got : (t : ℕ) → val-lts.Need-enum-known-got (
+  rec-pat-reads.Asked,
+  rec-pat-reads.Learnt,
+  eq-below t,
+  eq.Post,
+) (val-at t) val.Post
+val-enum-known-got t c =
+    let falls = c .before .before .before .before .before .before .before .before .before .before .before .before .before .before .before .pre .0 in
+    let pre0 = c .before .before .before .before .before .before .before .before .before .before .before .before .before .before .before .pre .1 in
+    search needs
+
+val-enum-known-got-2 : (t : ℕ) → val-lts.Need-enum-known-got-2 (
+  rec-pat-reads.Asked,
+  rec-pat-reads.Learnt,
+  eq-below t,
+  eq.Post,
+) (val-at t) val.Post
+val-enum-known-got-2 t c =
+    let falls = c .before .before .before .before .before .before .before .before .before .before .before .before .before .before .before .pre .0 in
+    let pre0 = c .before .before .before .before .before .before .before .before .before .before .before .before .before .before .before .pre .1 in
+    search needs
+
+val-eq-requires : (t : ℕ) → val-lts.Need-eq-requires (
+  rec-pat-reads.Asked,
+  rec-pat-reads.Learnt,
+  eq-below t,
+  eq.Post,
+) (val-at t) val.Post
+val-eq-requires t c κs =
+    let falls = c .before .before .before .before .before .before .before .before .before .before .before .before .before .before .before .before .before .before .before .before .pre .0 in
+    let rec-pat = rw (c .before .before .before .before .got2 .given .1) at (c .before .before .before .before .before .before .before .before .before .before .rec-pat .ensures) in
+    let rec-pat-ok = rec-pat .ok in
+    (omega arith, rec-pat-ok)
+
+val-same-length : (t : ℕ) → val-lts.Need-same-length (
+  rec-pat-reads.Asked,
+  rec-pat-reads.Learnt,
+  eq-below t,
+  eq.Post,
+) (val-at t) val.Post
+val-same-length t c =
+    refl
+
+val-same-length-2 : (t : ℕ) → val-lts.Need-same-length-2 (
+  rec-pat-reads.Asked,
+  rec-pat-reads.Learnt,
+  eq-below t,
+  eq.Post,
+) (val-at t) val.Post
+val-same-length-2 t c =
+    c .before .before .before .before .before .before .before .rec-pat .kept .1 .1 .1 .1 .0
+
+val-same-length-3 : (t : ℕ) → val-lts.Need-same-length-3 (
+  rec-pat-reads.Asked,
+  rec-pat-reads.Learnt,
+  eq-below t,
+  eq.Post,
+) (val-at t) val.Post
+val-same-length-3 t c =
+    c .before .before .before .before .before .before .before .rec-pat .kept .1 .1 .1 .1 .1 .0
+
+val-returns : (t : ℕ) → val-lts.Need-returns (
+  rec-pat-reads.Asked,
+  rec-pat-reads.Learnt,
+  eq-below t,
+  eq.Post,
+) (val-at t) val.Post
+unfolding decl.valBind plan choose chosen
+val-returns t c =
+    let falls = c .before .before .before .before .before .before .before .before .before .before .before .before .before .before .before .before .before .pre .0 in
+    let pre0 = c .before .before .before .before .before .before .before .before .before .before .before .before .before .before .before .before .before .pre .1 in
+    let rec-pat = rw (c .before .got .given .1) at (c .before .before .before .before .before .before .before .rec-pat .ensures) in
+    by-steps pre0 (λ b. s-by _ (runs-in rec-pat) s-end)
+
+val-same-length-4 : (t : ℕ) → val-lts.Need-same-length-4 (
+  rec-pat-reads.Asked,
+  rec-pat-reads.Learnt,
+  eq-below t,
+  eq.Post,
+) (val-at t) val.Post
+val-same-length-4 t c =
+    c .before .before .before .before .before .before .eq .kept .1 .1 .1 .0
+
+val-same-length-5 : (t : ℕ) → val-lts.Need-same-length-5 (
+  rec-pat-reads.Asked,
+  rec-pat-reads.Learnt,
+  eq-below t,
+  eq.Post,
+) (val-at t) val.Post
+val-same-length-5 t c =
+    c .before .before .before .before .before .before .eq .kept .1 .1 .1 .1 .0 ∙ c .before .before .before .before .before .before .before .before .before .before .before .before .before .before .before .before .before .rec-pat .kept .1 .1 .1 .1 .0
+
+val-same-length-6 : (t : ℕ) → val-lts.Need-same-length-6 (
+  rec-pat-reads.Asked,
+  rec-pat-reads.Learnt,
+  eq-below t,
+  eq.Post,
+) (val-at t) val.Post
+val-same-length-6 t c =
+    c .before .before .before .before .before .before .eq .kept .1 .1 .1 .1 .1 .0 ∙ c .before .before .before .before .before .before .before .before .before .before .before .before .before .before .before .before .before .rec-pat .kept .1 .1 .1 .1 .1 .0
+
+val-returns-2 : (t : ℕ) → val-lts.Need-returns-2 (
+  rec-pat-reads.Asked,
+  rec-pat-reads.Learnt,
+  eq-below t,
+  eq.Post,
+) (val-at t) val.Post
+unfolding decl.valBind plan choose chosen
+val-returns-2 t c =
+    let falls = c .before .before .before .before .before .before .before .before .before .before .before .before .before .before .before .before .before .before .before .before .before .before .before .before .before .before .before .pre .0 in
+    let pre0 = c .before .before .before .before .before .before .before .before .before .before .before .before .before .before .before .before .before .before .before .before .before .before .before .before .before .before .before .pre .1 in
+    let rec-pat = rw (c .before .before .before .before .before .before .before .before .before .before .before .got2 .given .1) at (c .before .before .before .before .before .before .before .before .before .before .before .before .before .before .before .before .before .rec-pat .ensures) in
+    let eq = c .before .before .before .before .before .before .eq .ensures in
+    by-steps pre0 (λ b. s-by _ (runs-in rec-pat) (s-by _ (runs-in eq) s-end))
 
 pub +app+arg+arm+asc+aso+atm+bdy+cas+cel+cor+dec+end+eq+exn+exp+fap+fct+fun+hsh+id+inc+itm+key+lex+loc+mat+mds+mny+one+opr+ops+oth+par+pre+prt+rhs+rnd+rst+sem+sep+seq+sgb+sgm+sgx+slt+stb+sth+stm+stp+stt+stx+tl+val-spec :
     {M : Type 1} → statement M
