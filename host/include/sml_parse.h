@@ -37,9 +37,9 @@ enum sml_answer {
  * A pointer whose length is 0 is not read or written through; it should not be null all the same. What is written overlaps nothing else.
  * The calls inside nest with the text: at depth 1,000 a stack with 64 MiB left is always enough.
  */
-uint8_t sml_parse_read(const uint8_t *text, size_t text_len, const uint8_t *toks, size_t toks_len, const uint8_t *env, size_t env_len,
-                       uint64_t depth, uint64_t mode, uint8_t *scratch, size_t scratch_len, uint8_t *nodes, size_t nodes_len,
-                       uint8_t *finds, size_t finds_len, uint8_t *last, size_t last_len, uint64_t used[3]);
+size_t sml_parse_read(const uint8_t *text, size_t text_len, const uint8_t *toks, size_t toks_len, const uint8_t *env, size_t env_len,
+                      uint64_t depth, uint64_t mode, uint8_t *scratch, size_t scratch_len, uint8_t *nodes, size_t nodes_len,
+                      uint8_t *finds, size_t finds_len, uint8_t *last, size_t last_len, uint64_t used[3]);
 
 #ifdef __cplusplus
 }

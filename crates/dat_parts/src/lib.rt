@@ -46,9 +46,9 @@ fn ty_name(
 {
     let vars = ty_var_seq(text, toks, env, table, scratch, finds, left, s);
     match vars {
-        Found::Missing(s1) => eat(text, toks, env, table, scratch, finds, kind::NAME, s1),
+        Found::Missing(s1) => eat(toks, scratch, finds, kind::NAME, s1),
         Found::At(s1) => {
-            let got = eat(text, toks, env, table, scratch, finds, kind::NAME, s1);
+            let got = eat(toks, scratch, finds, kind::NAME, s1);
             let s2 = got.state();
             Found::At(s2)
         }
@@ -161,11 +161,11 @@ pub fn op_name(
     if at(toks, kind::OP_KW, s) {
         let s1 = report(finds, finding::UNNECESSARY_OP, 0, NO_NAME, s);
         let s2 = bump(toks, scratch, s1);
-        let got = eat_name_star(text, toks, env, table, scratch, finds, s2);
+        let got = eat_name_star(toks, scratch, finds, s2);
         let s3 = got.state();
         return Found::At(s3);
     }
-    eat_name_star(text, toks, env, table, scratch, finds, s)
+    eat_name_star(toks, scratch, finds, s)
 }
 
 // A constructor.
@@ -254,7 +254,7 @@ fn eq_con_binds(
         let s1 = s.mark();
         let b = s1.len;
         let s2 = bump(toks, scratch, s1);
-        let s3 = bump_if(text, toks, env, table, scratch, finds, kind::BAR, s2);
+        let s3 = bump_if(toks, scratch, kind::BAR, s2);
         let s4 = con_binds(text, toks, env, table, scratch, finds, left - 1, b, s3);
         return close(scratch, kind::EQ_CON_BINDS, b, s4);
     }
@@ -389,18 +389,9 @@ pub fn datatype(
 {
     let s1 = bump(toks, scratch, s);
     if at_n(toks, 2, kind::DATATYPE_KW, s1) {
-        let s2 = want(text, toks, env, table, scratch, finds, kind::NAME, s1);
-        let s3 = want(text, toks, env, table, scratch, finds, kind::EQ, s2);
-        let s4 = want(
-            text,
-            toks,
-            env,
-            table,
-            scratch,
-            finds,
-            kind::DATATYPE_KW,
-            s3,
-        );
+        let s2 = want(toks, scratch, finds, kind::NAME, s1);
+        let s3 = want(toks, scratch, finds, kind::EQ, s2);
+        let s4 = want(toks, scratch, finds, kind::DATATYPE_KW, s3);
         let got = path_must(text, toks, env, table, scratch, finds, left, s4);
         let s5 = got.state();
         return Found::At(close(scratch, kind::DAT_COPY_DEC, b, s5));

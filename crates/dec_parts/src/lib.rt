@@ -1,10 +1,4 @@
-// The parts of dec.rs that hold no expression, structure or signature: `open`, sharing, `where`, and the choice among the others.
-use dat_parts::datatype;
-use dat_parts::ty_binds;
-use fix_parts::infix_dec;
-use fix_parts::infixr_dec;
-use fix_parts::nonfix_dec;
-use import_parts::es_import;
+// The parts of dec.rs that hold no expression, structure or signature: type variables, sharing, `where`, paths of structures.
 use parser::Found;
 use parser::Look;
 use parser::State;
@@ -32,111 +26,6 @@ ghost use Rattle.parser.specs.Runs.{Runs, RunsIn};
 
 // The least type: `ty` of ty.rs.
 const ARROW: u8 = 0;
-
-// The paths behind `open`.
-// advances: path-advances true
-fn opens(
-    text: &[u8],
-    toks: &[u8],
-    env: &[u8],
-    table: &[u8],
-    scratch: &mut [u8],
-    finds: &mut [u8],
-    left: usize,
-    b: usize,
-    s: State,
-) -> State
-    requires { ⌜ Sound (mem (now text) (now toks) (now env) (now table) (now scratch) (now finds) s) ⌝ }
-    ensures { λ r. ⌜ RunsIn left b (Prog.loop (util.path {g = true})) (mem (now (text .entry)) (now (toks .entry)) (now (env .entry)) (now (table .entry)) (now (scratch .entry)) (now (finds .entry)) s) (mem (now (text .entry)) (now (toks .entry)) (now (env .entry)) (now (table .entry)) (now (scratch .exit)) (now (finds .exit)) r) 0 ⌝ }
-{
-    let mut s1 = s;
-    loop {
-        let turn = path(text, toks, env, table, scratch, finds, left, s1);
-        match turn {
-            Found::At(s2) => s1 = s2,
-            Found::Missing(s2) => return s2,
-        }
-    }
-}
-
-// The keywords of types.
-fn type_kw(k: u8) -> bool
-    ensures { λ r. ⌜ r ≡ decl.isTypeKw (suc k) ⌝ }
-{
-    if k == kind::TYPE_KW {
-        return true;
-    }
-    k == kind::EQTYPE_KW
-}
-
-// The declarations that change fixities, and imports.
-fn fix_dec(
-    text: &[u8],
-    toks: &[u8],
-    env: &[u8],
-    table: &mut [u8],
-    scratch: &mut [u8],
-    finds: &mut [u8],
-    left: usize,
-    k: u8,
-    b: usize,
-    s: State,
-) -> Found
-    requires { ⌜ Sound (mem (now text) (now toks) (now env) (now table) (now scratch) (now finds) s) × (b < 4294967296) ⌝ }
-    ensures { λ r. ⌜ RunsIn left b (decl.fixDec (suc k)) (mem (now (text .entry)) (now (toks .entry)) (now (env .entry)) (now (table .entry)) (now (scratch .entry)) (now (finds .entry)) s) (mem (now (text .entry)) (now (toks .entry)) (now (env .entry)) (now (table .exit)) (now (scratch .exit)) (now (finds .exit)) (outState r)) (outVal r) ⌝ }
-{
-    if k == kind::INFIX_KW {
-        return infix_dec(text, toks, env, table, scratch, finds, left, b, s);
-    }
-    if k == kind::INFIXR_KW {
-        return infixr_dec(text, toks, env, table, scratch, finds, left, b, s);
-    }
-    if k == kind::NONFIX_KW {
-        return nonfix_dec(text, toks, env, table, scratch, finds, left, b, s);
-    }
-    if k == kind::ESIMPORT_KW {
-        let s1 = es_import(text, toks, env, table, scratch, finds, left, s);
-        return Found::At(close(scratch, kind::ES_IMPORT_DEC, b, s1));
-    }
-    Found::Missing(s)
-}
-
-// The declarations that hold no expression, structure or signature, the kind k being next.
-// unfolds: util.manySep
-pub fn leaf_dec(
-    text: &[u8],
-    toks: &[u8],
-    env: &[u8],
-    table: &mut [u8],
-    scratch: &mut [u8],
-    finds: &mut [u8],
-    left: usize,
-    k: u8,
-    b: usize,
-    s: State,
-) -> Found
-    requires { ⌜ Sound (mem (now text) (now toks) (now env) (now table) (now scratch) (now finds) s) × (b < 4294967296) ⌝ }
-    ensures { λ r. ⌜ RunsIn left b (decl.leafDec (suc k)) (mem (now (text .entry)) (now (toks .entry)) (now (env .entry)) (now (table .entry)) (now (scratch .entry)) (now (finds .entry)) s) (mem (now (text .entry)) (now (toks .entry)) (now (env .entry)) (now (table .exit)) (now (scratch .exit)) (now (finds .exit)) (outState r)) (outVal r) ⌝ }
-{
-    if k == kind::DOT_DOT_DOT {
-        let s1 = bump(toks, scratch, s);
-        return Found::At(close(scratch, kind::HOLE_DEC, b, s1));
-    }
-    if type_kw(k) {
-        let s1 = bump(toks, scratch, s);
-        let s2 = ty_binds(text, toks, env, table, scratch, finds, left, b, s1);
-        return Found::At(close(scratch, kind::TY_DEC, b, s2));
-    }
-    if k == kind::DATATYPE_KW {
-        return datatype(text, toks, env, table, scratch, finds, left, b, s);
-    }
-    if k == kind::OPEN_KW {
-        let s1 = bump(toks, scratch, s);
-        let s2 = opens(text, toks, env, table, scratch, finds, left, b, s1);
-        return Found::At(close(scratch, kind::OPEN_DEC, b, s2));
-    }
-    fix_dec(text, toks, env, table, scratch, finds, left, k, b, s)
-}
 
 // `val` or `fun`, and the type variables behind it.
 pub fn bump_vars(
@@ -218,7 +107,7 @@ fn sharing_turn(
         let s1 = s.mark();
         let b = s1.len;
         let s2 = bump(toks, scratch, s1);
-        let s3 = bump_if(text, toks, env, table, scratch, finds, kind::TYPE_KW, s2);
+        let s3 = bump_if(toks, scratch, kind::TYPE_KW, s2);
         let s4 = path_eqs(text, toks, env, table, scratch, finds, left - 1, b, s3);
         return Found::At(close(scratch, kind::SHARING_TAIL, b, s4));
     }
@@ -273,6 +162,28 @@ pub fn sharings(
     Found::Missing(s)
 }
 
+// The end of declarations where none came. Their node stands also where it is empty.
+pub fn bare_tail(
+    text: &[u8],
+    toks: &[u8],
+    env: &[u8],
+    table: &[u8],
+    scratch: &mut [u8],
+    finds: &mut [u8],
+    left: usize,
+    b: usize,
+    s: State,
+) -> Found
+    requires { ⌜ Sound (mem (now text) (now toks) (now env) (now table) (now scratch) (now finds) s) × (b < 4294967296) ⌝ }
+    ensures { λ r. ⌜ RunsIn left b (decl.bareTail {g = true}) (mem (now (text .entry)) (now (toks .entry)) (now (env .entry)) (now (table .entry)) (now (scratch .entry)) (now (finds .entry)) s) (mem (now (text .entry)) (now (toks .entry)) (now (env .entry)) (now (table .entry)) (now (scratch .exit)) (now (finds .exit)) (outState r)) (outVal r) ⌝ }
+{
+    let more = sharings(text, toks, env, table, scratch, finds, left, b, s);
+    match more {
+        Found::At(s1) => Found::At(close(scratch, kind::DEC_WITH_TAIL, b, s1)),
+        Found::Missing(s1) => Found::Missing(close(scratch, kind::DEC_WITH_TAIL, b, s1)),
+    }
+}
+
 // The end of a functor application.
 pub fn app_end(
     text: &[u8],
@@ -288,7 +199,7 @@ pub fn app_end(
     requires { ⌜ Sound (mem (now text) (now toks) (now env) (now table) (now scratch) (now finds) s) × (b < 4294967296) ⌝ }
     ensures { λ r. ⌜ RunsIn left b decl.appEnd (mem (now (text .entry)) (now (toks .entry)) (now (env .entry)) (now (table .entry)) (now (scratch .entry)) (now (finds .entry)) s) (mem (now (text .entry)) (now (toks .entry)) (now (env .entry)) (now (table .entry)) (now (scratch .exit)) (now (finds .exit)) (outState r)) (outVal r) ⌝ }
 {
-    let s1 = want(text, toks, env, table, scratch, finds, kind::RROUND, s);
+    let s1 = want(toks, scratch, finds, kind::RROUND, s);
     Found::At(close(scratch, kind::APP_STR_EXP, b, s1))
 }
 
@@ -333,13 +244,13 @@ fn where_tail(
         let s2 = vars.state();
         let name = path_must(text, toks, env, table, scratch, finds, left, s2);
         let s3 = name.state();
-        let s4 = want(text, toks, env, table, scratch, finds, kind::EQ, s3);
+        let s4 = want(toks, scratch, finds, kind::EQ, s3);
         let s5 = ty_must(text, toks, env, table, scratch, finds, left, ARROW, s4);
         return close(scratch, kind::WHERE_TYPE_SIG_EXP, b, s5);
     }
     let name = path_must(text, toks, env, table, scratch, finds, left, s);
     let s1 = name.state();
-    let s2 = want(text, toks, env, table, scratch, finds, kind::EQ, s1);
+    let s2 = want(toks, scratch, finds, kind::EQ, s1);
     let same = path_must(text, toks, env, table, scratch, finds, left, s2);
     let s3 = same.state();
     close(scratch, kind::WHERE_SIG_EXP, b, s3)

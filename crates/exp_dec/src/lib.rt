@@ -2,8 +2,8 @@
 use dat_parts::dat_binds;
 use dat_parts::op_name;
 use dec_parts::app_end;
+use dec_parts::bare_tail;
 use dec_parts::bump_vars;
-use dec_parts::leaf_dec;
 use dec_parts::sharings;
 use dec_parts::str_path;
 use dec_parts::wheres;
@@ -21,6 +21,7 @@ use exp_parts::starts;
 use exp_parts::starts_arg;
 use fun_parts::fun_left;
 use fun_parts::rec_pat;
+use leaf_parts::leaf_dec;
 use parser::Found;
 use parser::Look;
 use parser::NO_NAME;
@@ -178,7 +179,7 @@ fn exp(
     text: &[u8],
     toks: &[u8],
     env: &[u8],
-    table: &mut [u8],
+    table: &mut [u8; 8192],
     scratch: &mut [u8],
     finds: &mut [u8],
     left: usize,
@@ -202,7 +203,7 @@ fn pre(
     text: &[u8],
     toks: &[u8],
     env: &[u8],
-    table: &mut [u8],
+    table: &mut [u8; 8192],
     scratch: &mut [u8],
     finds: &mut [u8],
     left: usize,
@@ -235,7 +236,7 @@ fn key(
     text: &[u8],
     toks: &[u8],
     env: &[u8],
-    table: &mut [u8],
+    table: &mut [u8; 8192],
     scratch: &mut [u8],
     finds: &mut [u8],
     left: usize,
@@ -255,18 +256,18 @@ fn key(
         return close(scratch, kind::RAISE_EXP, b, s1);
     }
     if k == kind::IF_KW {
-        let s2 = want(text, toks, env, table, scratch, finds, kind::THEN_KW, s1);
+        let s2 = want(toks, scratch, finds, kind::THEN_KW, s1);
         let s3 = exp(text, toks, env, table, scratch, finds, left, MIN, s2);
-        let s4 = want(text, toks, env, table, scratch, finds, kind::ELSE_KW, s3);
+        let s4 = want(toks, scratch, finds, kind::ELSE_KW, s3);
         let s5 = exp(text, toks, env, table, scratch, finds, left, MIN, s4);
         return close(scratch, kind::IF_EXP, b, s5);
     }
     if k == kind::WHILE_KW {
-        let s2 = want(text, toks, env, table, scratch, finds, kind::DO_KW, s1);
+        let s2 = want(toks, scratch, finds, kind::DO_KW, s1);
         let s3 = exp(text, toks, env, table, scratch, finds, left, MIN, s2);
         return close(scratch, kind::WHILE_EXP, b, s3);
     }
-    let s2 = want(text, toks, env, table, scratch, finds, kind::OF_KW, s1);
+    let s2 = want(toks, scratch, finds, kind::OF_KW, s1);
     let s3 = mat(text, toks, env, table, scratch, finds, left, s2);
     close(scratch, kind::CASE_EXP, b, s3)
 }
@@ -278,7 +279,7 @@ fn rst(
     text: &[u8],
     toks: &[u8],
     env: &[u8],
-    table: &mut [u8],
+    table: &mut [u8; 8192],
     scratch: &mut [u8],
     finds: &mut [u8],
     left: usize,
@@ -314,7 +315,7 @@ fn ops(
     text: &[u8],
     toks: &[u8],
     env: &[u8],
-    table: &mut [u8],
+    table: &mut [u8; 8192],
     scratch: &mut [u8],
     finds: &mut [u8],
     left: usize,
@@ -341,7 +342,7 @@ fn stp(
     text: &[u8],
     toks: &[u8],
     env: &[u8],
-    table: &mut [u8],
+    table: &mut [u8; 8192],
     scratch: &mut [u8],
     finds: &mut [u8],
     left: usize,
@@ -382,7 +383,7 @@ fn id(
     text: &[u8],
     toks: &[u8],
     env: &[u8],
-    table: &mut [u8],
+    table: &mut [u8; 8192],
     scratch: &mut [u8],
     finds: &mut [u8],
     left: usize,
@@ -412,7 +413,7 @@ fn opr(
     text: &[u8],
     toks: &[u8],
     env: &[u8],
-    table: &mut [u8],
+    table: &mut [u8; 8192],
     scratch: &mut [u8],
     finds: &mut [u8],
     left: usize,
@@ -445,7 +446,7 @@ fn rhs(
     text: &[u8],
     toks: &[u8],
     env: &[u8],
-    table: &mut [u8],
+    table: &mut [u8; 8192],
     scratch: &mut [u8],
     finds: &mut [u8],
     left: usize,
@@ -482,7 +483,7 @@ fn app(
     text: &[u8],
     toks: &[u8],
     env: &[u8],
-    table: &mut [u8],
+    table: &mut [u8; 8192],
     scratch: &mut [u8],
     finds: &mut [u8],
     left: usize,
@@ -507,7 +508,7 @@ fn arg(
     text: &[u8],
     toks: &[u8],
     env: &[u8],
-    table: &mut [u8],
+    table: &mut [u8; 8192],
     scratch: &mut [u8],
     finds: &mut [u8],
     left: usize,
@@ -539,7 +540,7 @@ fn atm(
     text: &[u8],
     toks: &[u8],
     env: &[u8],
-    table: &mut [u8],
+    table: &mut [u8; 8192],
     scratch: &mut [u8],
     finds: &mut [u8],
     left: usize,
@@ -581,7 +582,7 @@ fn hsh(
     text: &[u8],
     toks: &[u8],
     env: &[u8],
-    table: &mut [u8],
+    table: &mut [u8; 8192],
     scratch: &mut [u8],
     finds: &mut [u8],
     left: usize,
@@ -604,7 +605,7 @@ fn hsh(
         let s5 = close(scratch, kind::LIST_EXP, c, s4);
         return Found::At(close(scratch, kind::VECTOR_EXP, b, s5));
     }
-    let s2 = lab(text, toks, env, table, scratch, finds, s1);
+    let s2 = lab(toks, scratch, finds, s1);
     Found::At(close(scratch, kind::SELECTOR_EXP, b, s2))
 }
 
@@ -615,7 +616,7 @@ fn rnd(
     text: &[u8],
     toks: &[u8],
     env: &[u8],
-    table: &mut [u8],
+    table: &mut [u8; 8192],
     scratch: &mut [u8],
     finds: &mut [u8],
     left: usize,
@@ -660,7 +661,7 @@ fn lex(
     text: &[u8],
     toks: &[u8],
     env: &[u8],
-    table: &mut [u8],
+    table: &mut [u8; 8192],
     scratch: &mut [u8],
     finds: &mut [u8],
     left: usize,
@@ -683,7 +684,7 @@ fn bdy(
     text: &[u8],
     toks: &[u8],
     env: &[u8],
-    table: &mut [u8],
+    table: &mut [u8; 8192],
     scratch: &mut [u8],
     finds: &mut [u8],
     left: usize,
@@ -695,7 +696,7 @@ fn bdy(
 {
     let got = dec(text, toks, env, table, scratch, finds, left, YES, s);
     let s1 = got.state();
-    let s2 = want(text, toks, env, table, scratch, finds, kind::IN_KW, s1);
+    let s2 = want(toks, scratch, finds, kind::IN_KW, s1);
     sep(text, toks, env, table, scratch, finds, left, INS, b, s2)
 }
 
@@ -707,7 +708,7 @@ fn sep(
     text: &[u8],
     toks: &[u8],
     env: &[u8],
-    table: &mut [u8],
+    table: &mut [u8; 8192],
     scratch: &mut [u8],
     finds: &mut [u8],
     left: usize,
@@ -725,7 +726,7 @@ fn sep(
         }
         if left == 0 {
             let s2 = s1.refuse(TOO_DEEP);
-            let got = eat(text, toks, env, table, scratch, finds, q.end, s2);
+            let got = eat(toks, scratch, finds, q.end, s2);
             return got.state();
         }
         let s2 = s1.mark();
@@ -737,7 +738,7 @@ fn sep(
             continue;
         }
         let s4 = close(scratch, q.wrap, c, s3);
-        let got = eat(text, toks, env, table, scratch, finds, q.end, s4);
+        let got = eat(toks, scratch, finds, q.end, s4);
         return got.state();
     }
 }
@@ -750,7 +751,7 @@ fn cel(
     text: &[u8],
     toks: &[u8],
     env: &[u8],
-    table: &mut [u8],
+    table: &mut [u8; 8192],
     scratch: &mut [u8],
     finds: &mut [u8],
     left: usize,
@@ -761,7 +762,7 @@ fn cel(
     ensures { λ r. ⌜ Runs left (expr.endClosure (q .wrap)) (mem (now (text .entry)) (now (toks .entry)) (now (env .entry)) (now (table .entry)) (now (scratch .entry)) (now (finds .entry)) s) (mem (now (text .entry)) (now (toks .entry)) (now (env .entry)) (now (table .exit)) (now (scratch .exit)) (now (finds .exit)) r) 0 ⌝ }
 {
     if q.wrap == kind::EXP_ROW {
-        let s1 = lab(text, toks, env, table, scratch, finds, s);
+        let s1 = lab(toks, scratch, finds, s);
         return eq(text, toks, env, table, scratch, finds, left, s1);
     }
     exp(text, toks, env, table, scratch, finds, left, MIN, s)
@@ -773,7 +774,7 @@ fn eq(
     text: &[u8],
     toks: &[u8],
     env: &[u8],
-    table: &mut [u8],
+    table: &mut [u8; 8192],
     scratch: &mut [u8],
     finds: &mut [u8],
     left: usize,
@@ -802,7 +803,7 @@ fn mat(
     text: &[u8],
     toks: &[u8],
     env: &[u8],
-    table: &mut [u8],
+    table: &mut [u8; 8192],
     scratch: &mut [u8],
     finds: &mut [u8],
     left: usize,
@@ -816,7 +817,7 @@ fn mat(
     }
     let s1 = s.mark();
     let b = s1.len;
-    let s2 = bump_if(text, toks, env, table, scratch, finds, kind::BAR, s1);
+    let s2 = bump_if(toks, scratch, kind::BAR, s1);
     let s3 = mny(
         text,
         toks,
@@ -840,7 +841,7 @@ fn mny(
     text: &[u8],
     toks: &[u8],
     env: &[u8],
-    table: &mut [u8],
+    table: &mut [u8; 8192],
     scratch: &mut [u8],
     finds: &mut [u8],
     left: usize,
@@ -881,7 +882,7 @@ fn itm(
     text: &[u8],
     toks: &[u8],
     env: &[u8],
-    table: &mut [u8],
+    table: &mut [u8; 8192],
     scratch: &mut [u8],
     finds: &mut [u8],
     left: usize,
@@ -922,7 +923,7 @@ fn arm(
     text: &[u8],
     toks: &[u8],
     env: &[u8],
-    table: &mut [u8],
+    table: &mut [u8; 8192],
     scratch: &mut [u8],
     finds: &mut [u8],
     left: usize,
@@ -938,7 +939,7 @@ fn arm(
             Found::Missing(s2)
         }
         Found::At(s1) => {
-            let s2 = want(text, toks, env, table, scratch, finds, kind::EQ_GT, s1);
+            let s2 = want(toks, scratch, finds, kind::EQ_GT, s1);
             let s3 = exp(text, toks, env, table, scratch, finds, left, MIN, s2);
             Found::At(s3)
         }
@@ -951,7 +952,7 @@ fn val(
     text: &[u8],
     toks: &[u8],
     env: &[u8],
-    table: &mut [u8],
+    table: &mut [u8; 8192],
     scratch: &mut [u8],
     finds: &mut [u8],
     left: usize,
@@ -978,7 +979,7 @@ fn fun(
     text: &[u8],
     toks: &[u8],
     env: &[u8],
-    table: &mut [u8],
+    table: &mut [u8; 8192],
     scratch: &mut [u8],
     finds: &mut [u8],
     left: usize,
@@ -989,7 +990,7 @@ fn fun(
     ensures { λ r. ⌜ Runs left (decl.funBind (errOf e)) (mem (now (text .entry)) (now (toks .entry)) (now (env .entry)) (now (table .entry)) (now (scratch .entry)) (now (finds .entry)) s) (mem (now (text .entry)) (now (toks .entry)) (now (env .entry)) (now (table .exit)) (now (scratch .exit)) (now (finds .exit)) (outState r)) (outVal r) ⌝ }
 {
     let b = s.len;
-    let s1 = bump_if(text, toks, env, table, scratch, finds, kind::BAR, s);
+    let s1 = bump_if(toks, scratch, kind::BAR, s);
     let s2 = mny(
         text,
         toks,
@@ -1012,7 +1013,7 @@ fn cas(
     text: &[u8],
     toks: &[u8],
     env: &[u8],
-    table: &mut [u8],
+    table: &mut [u8; 8192],
     scratch: &mut [u8],
     finds: &mut [u8],
     left: usize,
@@ -1035,7 +1036,7 @@ fn exn(
     text: &[u8],
     toks: &[u8],
     env: &[u8],
-    table: &mut [u8],
+    table: &mut [u8; 8192],
     scratch: &mut [u8],
     finds: &mut [u8],
     left: usize,
@@ -1066,7 +1067,7 @@ fn stb(
     text: &[u8],
     toks: &[u8],
     env: &[u8],
-    table: &mut [u8],
+    table: &mut [u8; 8192],
     scratch: &mut [u8],
     finds: &mut [u8],
     left: usize,
@@ -1075,7 +1076,7 @@ fn stb(
     requires { ⌜ Sound (mem (now text) (now toks) (now env) (now table) (now scratch) (now finds) s) ⌝ }
     ensures { λ r. ⌜ Runs left decl.strBind (mem (now (text .entry)) (now (toks .entry)) (now (env .entry)) (now (table .entry)) (now (scratch .entry)) (now (finds .entry)) s) (mem (now (text .entry)) (now (toks .entry)) (now (env .entry)) (now (table .exit)) (now (scratch .exit)) (now (finds .exit)) (outState r)) (outVal r) ⌝ }
 {
-    let name = eat(text, toks, env, table, scratch, finds, kind::NAME, s);
+    let name = eat(toks, scratch, finds, kind::NAME, s);
     match name {
         Found::Missing(s1) => Found::Missing(s1),
         Found::At(s1) => {
@@ -1101,7 +1102,7 @@ fn sgb(
     text: &[u8],
     toks: &[u8],
     env: &[u8],
-    table: &mut [u8],
+    table: &mut [u8; 8192],
     scratch: &mut [u8],
     finds: &mut [u8],
     left: usize,
@@ -1110,11 +1111,11 @@ fn sgb(
     requires { ⌜ Sound (mem (now text) (now toks) (now env) (now table) (now scratch) (now finds) s) ⌝ }
     ensures { λ r. ⌜ Runs left decl.sigBind (mem (now (text .entry)) (now (toks .entry)) (now (env .entry)) (now (table .entry)) (now (scratch .entry)) (now (finds .entry)) s) (mem (now (text .entry)) (now (toks .entry)) (now (env .entry)) (now (table .exit)) (now (scratch .exit)) (now (finds .exit)) (outState r)) (outVal r) ⌝ }
 {
-    let name = eat(text, toks, env, table, scratch, finds, kind::NAME, s);
+    let name = eat(toks, scratch, finds, kind::NAME, s);
     match name {
         Found::Missing(s1) => Found::Missing(s1),
         Found::At(s1) => {
-            let s2 = want(text, toks, env, table, scratch, finds, kind::EQ, s1);
+            let s2 = want(toks, scratch, finds, kind::EQ, s1);
             let s3 = sgm(text, toks, env, table, scratch, finds, left, s2);
             Found::At(s3)
         }
@@ -1127,7 +1128,7 @@ fn fct(
     text: &[u8],
     toks: &[u8],
     env: &[u8],
-    table: &mut [u8],
+    table: &mut [u8; 8192],
     scratch: &mut [u8],
     finds: &mut [u8],
     left: usize,
@@ -1136,15 +1137,15 @@ fn fct(
     requires { ⌜ Sound (mem (now text) (now toks) (now env) (now table) (now scratch) (now finds) s) ⌝ }
     ensures { λ r. ⌜ Runs left decl.functorBind (mem (now (text .entry)) (now (toks .entry)) (now (env .entry)) (now (table .entry)) (now (scratch .entry)) (now (finds .entry)) s) (mem (now (text .entry)) (now (toks .entry)) (now (env .entry)) (now (table .exit)) (now (scratch .exit)) (now (finds .exit)) (outState r)) (outVal r) ⌝ }
 {
-    let name = eat(text, toks, env, table, scratch, finds, kind::NAME, s);
+    let name = eat(toks, scratch, finds, kind::NAME, s);
     match name {
         Found::Missing(s1) => Found::Missing(s1),
         Found::At(s1) => {
-            let s2 = want(text, toks, env, table, scratch, finds, kind::LROUND, s1);
+            let s2 = want(toks, scratch, finds, kind::LROUND, s1);
             let s3 = par(text, toks, env, table, scratch, finds, left, s2);
-            let s4 = want(text, toks, env, table, scratch, finds, kind::RROUND, s3);
+            let s4 = want(toks, scratch, finds, kind::RROUND, s3);
             let s5 = aso(text, toks, env, table, scratch, finds, left, s4);
-            let s6 = want(text, toks, env, table, scratch, finds, kind::EQ, s5);
+            let s6 = want(toks, scratch, finds, kind::EQ, s5);
             let s7 = stm(text, toks, env, table, scratch, finds, left, s6);
             Found::At(s7)
         }
@@ -1157,7 +1158,7 @@ fn par(
     text: &[u8],
     toks: &[u8],
     env: &[u8],
-    table: &mut [u8],
+    table: &mut [u8; 8192],
     scratch: &mut [u8],
     finds: &mut [u8],
     left: usize,
@@ -1173,7 +1174,7 @@ fn par(
         let s1 = s.mark();
         let b = s1.len;
         let s2 = bump(toks, scratch, s1);
-        let s3 = bump_ascription(text, toks, env, table, scratch, finds, s2);
+        let s3 = bump_ascription(toks, scratch, s2);
         let s4 = sgm(text, toks, env, table, scratch, finds, left - 1, s3);
         return close(scratch, kind::FUNCTOR_ARG_NAME_SIG_EXP, b, s4);
     }
@@ -1188,7 +1189,7 @@ pub fn dec(
     text: &[u8],
     toks: &[u8],
     env: &[u8],
-    table: &mut [u8],
+    table: &mut [u8; 8192],
     scratch: &mut [u8],
     finds: &mut [u8],
     left: usize,
@@ -1216,7 +1217,7 @@ fn seq(
     text: &[u8],
     toks: &[u8],
     env: &[u8],
-    table: &mut [u8],
+    table: &mut [u8; 8192],
     scratch: &mut [u8],
     finds: &mut [u8],
     left: usize,
@@ -1244,7 +1245,7 @@ fn sem(
     text: &[u8],
     toks: &[u8],
     env: &[u8],
-    table: &mut [u8],
+    table: &mut [u8; 8192],
     scratch: &mut [u8],
     finds: &mut [u8],
     left: usize,
@@ -1264,7 +1265,7 @@ fn sem(
     match got {
         Found::Missing(s2) => Found::Missing(s2),
         Found::At(s2) => {
-            let s3 = bump_if(text, toks, env, table, scratch, finds, kind::SEMICOLON, s2);
+            let s3 = bump_if(toks, scratch, kind::SEMICOLON, s2);
             Found::At(close(scratch, w, b, s3))
         }
     }
@@ -1277,7 +1278,7 @@ fn prt(
     text: &[u8],
     toks: &[u8],
     env: &[u8],
-    table: &mut [u8],
+    table: &mut [u8; 8192],
     scratch: &mut [u8],
     finds: &mut [u8],
     left: usize,
@@ -1301,7 +1302,7 @@ fn tl(
     text: &[u8],
     toks: &[u8],
     env: &[u8],
-    table: &mut [u8],
+    table: &mut [u8; 8192],
     scratch: &mut [u8],
     finds: &mut [u8],
     left: usize,
@@ -1319,13 +1320,7 @@ fn tl(
     let b = s1.len;
     let turn = sem(text, toks, env, table, scratch, finds, n, INSEQ, e, s1);
     match turn {
-        Found::Missing(s2) => {
-            let more = sharings(text, toks, env, table, scratch, finds, n, b, s2);
-            match more {
-                Found::At(s3) => Found::At(close(scratch, kind::DEC_WITH_TAIL, b, s3)),
-                Found::Missing(s3) => Found::Missing(close(scratch, kind::DEC_WITH_TAIL, b, s3)),
-            }
-        }
+        Found::Missing(s2) => bare_tail(text, toks, env, table, scratch, finds, n, b, s2),
         Found::At(s2) => {
             let s3 = seq(text, toks, env, table, scratch, finds, n, INSEQ, e, b, s2);
             let more = sharings(text, toks, env, table, scratch, finds, n, b, s3);
@@ -1342,7 +1337,7 @@ fn one(
     text: &[u8],
     toks: &[u8],
     env: &[u8],
-    table: &mut [u8],
+    table: &mut [u8; 8192],
     scratch: &mut [u8],
     finds: &mut [u8],
     left: usize,
@@ -1375,7 +1370,7 @@ fn cor(
     text: &[u8],
     toks: &[u8],
     env: &[u8],
-    table: &mut [u8],
+    table: &mut [u8; 8192],
     scratch: &mut [u8],
     finds: &mut [u8],
     left: usize,
@@ -1417,7 +1412,7 @@ fn mds(
     text: &[u8],
     toks: &[u8],
     env: &[u8],
-    table: &mut [u8],
+    table: &mut [u8; 8192],
     scratch: &mut [u8],
     finds: &mut [u8],
     left: usize,
@@ -1458,7 +1453,7 @@ fn oth(
     text: &[u8],
     toks: &[u8],
     env: &[u8],
-    table: &mut [u8],
+    table: &mut [u8; 8192],
     scratch: &mut [u8],
     finds: &mut [u8],
     left: usize,
@@ -1473,10 +1468,10 @@ fn oth(
     if k == kind::ABSTYPE_KW {
         let s1 = bump(toks, scratch, s);
         let s2 = dat_binds(text, toks, env, table, scratch, finds, left, b, s1);
-        let s3 = want(text, toks, env, table, scratch, finds, kind::WITH_KW, s2);
+        let s3 = want(toks, scratch, finds, kind::WITH_KW, s2);
         let got = dec(text, toks, env, table, scratch, finds, left, e, s3);
         let s4 = got.state();
-        let s5 = want(text, toks, env, table, scratch, finds, kind::END_KW, s4);
+        let s5 = want(toks, scratch, finds, kind::END_KW, s4);
         return Found::At(close(scratch, kind::ABSTYPE_DEC, b, s5));
     }
     if k == kind::LOCAL_KW {
@@ -1495,7 +1490,7 @@ fn loc(
     text: &[u8],
     toks: &[u8],
     env: &[u8],
-    table: &mut [u8],
+    table: &mut [u8; 8192],
     scratch: &mut [u8],
     finds: &mut [u8],
     left: usize,
@@ -1525,7 +1520,7 @@ fn end(
     text: &[u8],
     toks: &[u8],
     env: &[u8],
-    table: &mut [u8],
+    table: &mut [u8; 8192],
     scratch: &mut [u8],
     finds: &mut [u8],
     left: usize,
@@ -1538,16 +1533,16 @@ fn end(
 {
     if left == 0 {
         let s1 = s.refuse(TOO_DEEP);
-        let s2 = want(text, toks, env, table, scratch, finds, kind::END_KW, s1);
+        let s2 = want(toks, scratch, finds, kind::END_KW, s1);
         return Found::At(close(scratch, kind::LOCAL_DEC, b, s2));
     }
     let s1 = s.mark();
     let c = s1.len;
-    let s2 = want(text, toks, env, table, scratch, finds, kind::IN_KW, s1);
+    let s2 = want(toks, scratch, finds, kind::IN_KW, s1);
     let got = dec(text, toks, env, table, scratch, finds, left - 1, e, s2);
     let s3 = got.state();
     let s4 = close(scratch, kind::LOCAL_DEC_TL, c, s3);
-    let s5 = want(text, toks, env, table, scratch, finds, kind::END_KW, s4);
+    let s5 = want(toks, scratch, finds, kind::END_KW, s4);
     Found::At(close(scratch, kind::LOCAL_DEC, b, s5))
 }
 
@@ -1557,7 +1552,7 @@ fn stm(
     text: &[u8],
     toks: &[u8],
     env: &[u8],
-    table: &mut [u8],
+    table: &mut [u8; 8192],
     scratch: &mut [u8],
     finds: &mut [u8],
     left: usize,
@@ -1579,7 +1574,7 @@ fn sgm(
     text: &[u8],
     toks: &[u8],
     env: &[u8],
-    table: &mut [u8],
+    table: &mut [u8; 8192],
     scratch: &mut [u8],
     finds: &mut [u8],
     left: usize,
@@ -1601,7 +1596,7 @@ fn asc(
     text: &[u8],
     toks: &[u8],
     env: &[u8],
-    table: &mut [u8],
+    table: &mut [u8; 8192],
     scratch: &mut [u8],
     finds: &mut [u8],
     left: usize,
@@ -1626,7 +1621,7 @@ fn aso(
     text: &[u8],
     toks: &[u8],
     env: &[u8],
-    table: &mut [u8],
+    table: &mut [u8; 8192],
     scratch: &mut [u8],
     finds: &mut [u8],
     left: usize,
@@ -1651,7 +1646,7 @@ fn stx(
     text: &[u8],
     toks: &[u8],
     env: &[u8],
-    table: &mut [u8],
+    table: &mut [u8; 8192],
     scratch: &mut [u8],
     finds: &mut [u8],
     left: usize,
@@ -1684,7 +1679,7 @@ fn sth(
     text: &[u8],
     toks: &[u8],
     env: &[u8],
-    table: &mut [u8],
+    table: &mut [u8; 8192],
     scratch: &mut [u8],
     finds: &mut [u8],
     left: usize,
@@ -1700,14 +1695,14 @@ fn sth(
         let got = dec(text, toks, env, table, scratch, finds, left, YES, s1);
         let s2 = got.state();
         let s3 = s1.give_back(s2);
-        let s4 = want(text, toks, env, table, scratch, finds, kind::END_KW, s3);
+        let s4 = want(toks, scratch, finds, kind::END_KW, s3);
         return Found::At(close(scratch, kind::STRUCT_STR_EXP, b, s4));
     }
     if k == kind::LET_KW {
         let s1 = bump(toks, scratch, s);
         let s2 = slt(text, toks, env, table, scratch, finds, left, s1);
         let s3 = s1.give_back(s2);
-        let s4 = want(text, toks, env, table, scratch, finds, kind::END_KW, s3);
+        let s4 = want(toks, scratch, finds, kind::END_KW, s3);
         return Found::At(close(scratch, kind::LET_STR_EXP, b, s4));
     }
     if k == kind::NAME {
@@ -1725,7 +1720,7 @@ fn fap(
     text: &[u8],
     toks: &[u8],
     env: &[u8],
-    table: &mut [u8],
+    table: &mut [u8; 8192],
     scratch: &mut [u8],
     finds: &mut [u8],
     left: usize,
@@ -1736,7 +1731,7 @@ fn fap(
     ensures { λ r. ⌜ RunsIn left b decl.strApp (mem (now (text .entry)) (now (toks .entry)) (now (env .entry)) (now (table .entry)) (now (scratch .entry)) (now (finds .entry)) s) (mem (now (text .entry)) (now (toks .entry)) (now (env .entry)) (now (table .exit)) (now (scratch .exit)) (now (finds .exit)) (outState r)) (outVal r) ⌝ }
 {
     let s1 = bump(toks, scratch, s);
-    let s2 = want(text, toks, env, table, scratch, finds, kind::LROUND, s1);
+    let s2 = want(toks, scratch, finds, kind::LROUND, s1);
     if left == 0 {
         let s3 = s2.refuse(TOO_DEEP);
         let got = dec(text, toks, env, table, scratch, finds, left, YES, s3);
@@ -1767,7 +1762,7 @@ fn slt(
     text: &[u8],
     toks: &[u8],
     env: &[u8],
-    table: &mut [u8],
+    table: &mut [u8; 8192],
     scratch: &mut [u8],
     finds: &mut [u8],
     left: usize,
@@ -1778,7 +1773,7 @@ fn slt(
 {
     let got = dec(text, toks, env, table, scratch, finds, left, YES, s);
     let s1 = got.state();
-    let s2 = want(text, toks, env, table, scratch, finds, kind::IN_KW, s1);
+    let s2 = want(toks, scratch, finds, kind::IN_KW, s1);
     stm(text, toks, env, table, scratch, finds, left, s2)
 }
 
@@ -1789,7 +1784,7 @@ fn stt(
     text: &[u8],
     toks: &[u8],
     env: &[u8],
-    table: &mut [u8],
+    table: &mut [u8; 8192],
     scratch: &mut [u8],
     finds: &mut [u8],
     left: usize,
@@ -1825,7 +1820,7 @@ fn sgx(
     text: &[u8],
     toks: &[u8],
     env: &[u8],
-    table: &mut [u8],
+    table: &mut [u8; 8192],
     scratch: &mut [u8],
     finds: &mut [u8],
     left: usize,
@@ -1847,7 +1842,7 @@ fn sgx(
         let got = dec(text, toks, env, table, scratch, finds, left - 1, NO, s2);
         let s3 = got.state();
         let s4 = s2.give_back(s3);
-        let s5 = want(text, toks, env, table, scratch, finds, kind::END_KW, s4);
+        let s5 = want(toks, scratch, finds, kind::END_KW, s4);
         let s6 = close(scratch, kind::SIG_SIG_EXP, b, s5);
         return Found::At(wheres(text, toks, env, table, scratch, finds, left, b, s6));
     }
@@ -1866,7 +1861,7 @@ fn inc(
     text: &[u8],
     toks: &[u8],
     env: &[u8],
-    table: &mut [u8],
+    table: &mut [u8; 8192],
     scratch: &mut [u8],
     finds: &mut [u8],
     left: usize,

@@ -26,7 +26,7 @@ ghost use Rattle.parser.specs.View.{Sound, mem, outState, outVal};
 ghost use Rattle.parser.specs.Runs.{Always, RunsIn};
 
 // The mode in which a large fixity number is reported, and the largest that is not.
-const STRICT: u8 = 2;
+const STRICT: usize = 2;
 
 const LARGEST: u16 = 9;
 
@@ -37,7 +37,7 @@ pub struct Numbered {
 }
 
 // Whether strict mode reports a number.
-fn is_large(m: u8, n: u16) -> bool
+fn is_large(m: usize, n: u16) -> bool
     ensures { λ r. ⌜ r ≡ decl.isLarge m n ⌝ }
 {
     if m == STRICT {
@@ -134,7 +134,7 @@ fn names(
     text: &[u8],
     toks: &[u8],
     env: &[u8],
-    table: &mut [u8],
+    table: &mut [u8; 8192],
     scratch: &mut [u8],
     finds: &[u8],
     left: usize,
@@ -163,7 +163,7 @@ pub fn infix_dec(
     text: &[u8],
     toks: &[u8],
     env: &[u8],
-    table: &mut [u8],
+    table: &mut [u8; 8192],
     scratch: &mut [u8],
     finds: &mut [u8],
     left: usize,
@@ -189,7 +189,7 @@ pub fn infixr_dec(
     text: &[u8],
     toks: &[u8],
     env: &[u8],
-    table: &mut [u8],
+    table: &mut [u8; 8192],
     scratch: &mut [u8],
     finds: &mut [u8],
     left: usize,
@@ -215,7 +215,7 @@ pub fn nonfix_dec(
     text: &[u8],
     toks: &[u8],
     env: &[u8],
-    table: &mut [u8],
+    table: &mut [u8; 8192],
     scratch: &mut [u8],
     finds: &mut [u8],
     left: usize,

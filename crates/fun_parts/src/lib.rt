@@ -201,7 +201,7 @@ fn other_head(
     if k == kind::LROUND {
         let s1 = bump(toks, scratch, s);
         let s2 = infix_head(text, toks, env, table, scratch, finds, left, e, s1);
-        let s3 = want(text, toks, env, table, scratch, finds, kind::RROUND, s2);
+        let s3 = want(toks, scratch, finds, kind::RROUND, s2);
         return close(scratch, kind::INFIX_FUN_BIND_CASE_HEAD, b, s3);
     }
     if k == kind::OP_KW {

@@ -621,16 +621,20 @@ sharings = do
     loop sharingTurn
     ret 1) (ret 0)
 
+-- dec.rs, `dec_with_tail`: the end where no declaration came. Its node stands also where it is empty.
+unfoldable pub bareTail : {g : Bool} → Prog Rule g
+bareTail = do
+  t ← sharings
+  close SK.DecWithTail
+  ret t
+
 -- dec.rs, `dec_with_tail`: its node stands also where it is empty
 unfoldable pub decWithTail : {g : Bool} → InfixErr → Prog Rule g
 decWithTail e = marked (from (do
   v ← maybeSemiSep SK.DecInSeq (decOne e)
-  ifNone v (do
-    t ← sharings
-    close SK.DecWithTail
-    ret t) (do
-      sharings
-      done SK.DecWithTail)))
+  ifNone v bareTail (do
+    sharings
+    done SK.DecWithTail)))
 
 -- util.rs, `maybe_semi_sep`: the closure that the kind of its node names. For contracts of code: no rule is made of it.
 unfoldable pub semiClosure : ℕ → InfixErr → Prog Rule true

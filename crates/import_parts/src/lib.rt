@@ -123,7 +123,7 @@ fn es_list(
         }
         if left == 0 {
             let s2 = s1.refuse(TOO_DEEP);
-            let got = eat(text, toks, env, table, scratch, finds, kind::RCURLY, s2);
+            let got = eat(toks, scratch, finds, kind::RCURLY, s2);
             return got.state();
         }
         let s2 = s1.mark();
@@ -135,7 +135,7 @@ fn es_list(
             continue;
         }
         let s4 = close(scratch, kind::ES_IMPORT_SPEC_ARG, c, s3);
-        let got = eat(text, toks, env, table, scratch, finds, kind::RCURLY, s4);
+        let got = eat(toks, scratch, finds, kind::RCURLY, s4);
         return got.state();
     }
 }
@@ -217,7 +217,7 @@ fn es_attrs(
         let b = s1.len;
         let s2 = bump(toks, scratch, s1);
         let s3 = attrs(text, toks, env, table, scratch, finds, left - 1, b, s2);
-        let s4 = want(text, toks, env, table, scratch, finds, kind::RSQUARE, s3);
+        let s4 = want(toks, scratch, finds, kind::RSQUARE, s3);
         return close(scratch, kind::ES_IMPORT_ATTRS, b, s4);
     }
     s
@@ -295,5 +295,5 @@ pub fn es_import(
     let s3 = es_default(text, toks, env, table, scratch, finds, s2);
     let s4 = es_specs(text, toks, env, table, scratch, finds, left, s3);
     let s5 = es_from(text, toks, env, table, scratch, finds, s4);
-    want(text, toks, env, table, scratch, finds, kind::STRING_LIT, s5)
+    want(toks, scratch, finds, kind::STRING_LIT, s5)
 }

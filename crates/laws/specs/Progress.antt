@@ -177,7 +177,7 @@ module _ (ρ : ℕ → ℕ → Rule → World → Out) (grows : Growing ρ) (adv
 
   -- where `sharing` is next the tail takes a token, whatever the declarations before it did
   dec-tail : {g : Bool} (e : InfixErr) (n k : ℕ) (K : ℕ → Type 0) → K 0 → Moves {g = g} ρ n (D.decWithTail e) k K
-  unfolding D.decWithTail D.sharings
+  unfolding D.decWithTail D.bareTail D.sharings
   dec-tail e n k K z = moves-cases (U.is k SK.SharingKw)
       (search (moving, semi-sep {g = true} SK.DecInSeq (D.decOne e) (dec-one e), moves-turn, share-takes) depth 40 fits 10000)
       (λ h. search (moving, semi-sep {g = true} SK.DecInSeq (D.decOne e) (dec-one e)) depth 40 fits 10000)

@@ -50,7 +50,7 @@ fn is_file(file: &[u8]) -> bool
 fn list_answer(a: Answer, nodes: &[u8], finds: &[u8], last: &[u8])
     requires { ⌜ Within a (now nodes) (now finds) (now last) ⌝ }
 {
-    say(b"answer ", a.number as usize);
+    say(b"answer ", a.number);
     if a.number != 0 {
         return;
     }

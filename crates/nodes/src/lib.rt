@@ -2,8 +2,8 @@
 use sml_fixity::table::pair;
 ghost use mathlib.Core.Path.{_≡_};
 ghost use Prim.Native.Nat.{_+_, _*_, _≤_, _<_};
-ghost use mathlib.Core.List.{[], _∷_};
-ghost use lib.ListN.{length};
+ghost use mathlib.Core.List.{[], _∷_, _++_};
+ghost use lib.ListN.{length, take, drop};
 ghost use Rattle.grammar.specs.Bytes.{low, high};
 ghost use Rattle.grammar.specs.Read.{zeroes, pad};
 ghost use Rattle.nodes.specs.Grown.{Counted, Ready, nodesIn};
@@ -26,11 +26,11 @@ struct Walk {
     top: usize,
 }
 
-// Makes every byte 0.
-pub fn clear(b: &mut [u8])
-    ensures { λ _. ⌜ now (b .exit) ≡ zeroes (length (now (b .entry))) ⌝ }
+// Makes every byte 0 but the first `kept`.
+pub fn clear(b: &mut [u8], kept: usize)
+    ensures { λ _. ⌜ now (b .exit) ≡ take kept (now (b .entry)) ++ zeroes (length (drop kept (now (b .entry)))) ⌝ }
 {
-    let mut at = 0;
+    let mut at = kept;
     while at < b.len() {
         b[at] = 0;
         at += 1;
@@ -145,7 +145,7 @@ pub fn write_nodes(scratch: &mut [u8], len: usize, nodes: &mut [u8], count: usiz
     requires { ⌜ Ready (now scratch) len (now nodes) count ⌝ }
     ensures { λ _. ⌜ now (nodes .exit) ≡ pad (length (now (nodes .entry))) (nodesIn (now (scratch .entry)) len) ⌝ }
 {
-    clear(nodes);
+    clear(nodes, 0);
     let mut w = Walk {
         at: count,
         left: len,

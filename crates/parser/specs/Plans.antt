@@ -21,7 +21,7 @@ use Rattle.laws.specs.Laws.{unfold-rule}
 use Rattle.sml_fixity.specs.Fix.{fixityOf}
 use Rattle.sml_fixity.specs.declared.Fixity.{Fixity}
 use Rattle.parser.specs.View.{Mem, mem, Sound, seenIn, Kept, Did, Saw, Says, Spells, Fixed, Marks, Adds, Bumps, Tells, refusedBy}
-use Rattle.parser.specs.Runs.{RunsIn, Runs, Always, kept-same, kept-next, len-is, refused-same, ok-refused}
+use Rattle.parser.specs.Runs.{RunsIn, Runs, Always, Eats, Takes, runs-always, kept-same, kept-next, len-is, refused-same, ok-refused}
 use Rattle.parser.specs.declared.State.{State}
 
 -- An operation and what follows it, which is told the value that the operation gave, where there is one, and then the log's length.
@@ -139,6 +139,15 @@ module _ {g : Bool} {p : Prog Rule g} {m m' : Mem} {v : ℕ} (o : Sound m) where
 
   pub always : ((n b : ℕ) → Steps (from-here n b p whole m) m m' v) → Always p m m' v
   always f = record { ok = f 0 0 .go o .ok; same = λ n b. f n b .go o .same ∙ planned n b p m; kept = f 0 0 .go o .kept }
+
+-- and so whatever the rest is
+pub eats : {g : Bool} {p : Prog Rule g} {t l h l' h' : List ℕ} {s s' : State} {v : ℕ}
+    → ((x e j : List ℕ) (n b : ℕ) → Steps (from-here n b p whole (mem x t e j l h s)) (mem x t e j l h s) (mem x t e j l' h' s') v) → Eats p t l h s l' h' s' v
+eats f = record { does = λ x e j o. always o (f x e j) }
+
+pub takes : {g : Bool} {p : Prog Rule g} {t l l' : List ℕ} {s s' : State} {v : ℕ}
+    → ((x e j h : List ℕ) (n b : ℕ) → Steps (from-here n b p whole (mem x t e j l h s)) (mem x t e j l h s) (mem x t e j l' h s') v) → Takes p t l s l' s' v
+takes f = record { does = λ x e j h o. always o (f x e j h) }
 
 -- what was done before the rest
 next : {p q : Plan} {m c e : Mem} {v : ℕ} → Sound c → Kept m c → means q (seenIn c) ≡ means p (seenIn m) → Steps q c e v → Goes p m e v
@@ -289,6 +298,14 @@ s-by {n = n} {b = b} {p = p} {a = a} f r s = record {
   go = λ o. next (r .ok) (r .kept) (after-run f r ∙ sym (ap (λ (l : ℕ). means (plan n b l p f) (seenIn a)) (len-is a) ∙ plan-means n b p f (seenIn a))) s;
 }
 
+-- one that is lent no more than it reads and writes
+module _ {g : Bool} (m b : ℕ) {p : Prog Rule g} {x t n j l h l' : List ℕ} {s s' : State} {e : Mem} {u v : ℕ} (f : ℕ → ℕ → Plan) where
+  pub s-eats : {h' : List ℕ} → Eats p t l h s l' h' s' u → Steps (f u (s' .len)) (mem x t n j l' h' s') e v → Steps (from-here m b p f (mem x t n j l h s)) (mem x t n j l h s) e v
+  s-eats d r = record { go = λ o. s-by f (runs-always (d .does x n j o)) r .go o }
+
+  pub s-takes : Takes p t l s l' s' u → Steps (f u (s' .len)) (mem x t n j l' h s') e v → Steps (from-here m b p f (mem x t n j l h s)) (mem x t n j l h s) e v
+  s-takes d r = record { go = λ o. s-by f (runs-always (d .does x n j h o)) r .go o }
+
 -- a function that does a rule or a loop
 pub s-run : {g : Bool} {n b : ℕ} {p : Prog Rule g} {f : ℕ → ℕ → Plan} {a c e : Mem} {u v : ℕ} → RunsIn n b p a c u → Steps (f u (c .state .len)) c e v → Steps (runs n b p f) a e v
 unfolding means
@@ -297,3 +314,6 @@ s-run {f = f} r s = record { go = λ o. next (r .ok) (r .kept) (after-run f r) s
 -- the state of an answer that was taken without its value
 pub settled : {g : Bool} {n b : ℕ} {p : Prog Rule g} {a : Mem} {x t e j l h : List ℕ} {s s' : State} {u : ℕ} → s' ≡ s → RunsIn n b p a (mem x t e j l h s) u → RunsIn n b p a (mem x t e j l h s') u
 settled q r = rw q r
+
+pub eats-settled : {g : Bool} {p : Prog Rule g} {t l h l' h' : List ℕ} {a s s' : State} {u : ℕ} → s' ≡ s → Eats p t l h a l' h' s u → Eats p t l h a l' h' s' u
+eats-settled q r = rw q r

@@ -42,6 +42,14 @@ pub record Always {g : Bool} (p : Prog Rule g) (m m' : Mem) (v : ℕ) : Type 0 w
   pub same : (n b : ℕ) → out v (seenIn m') ≡ eval (rule body) n b p (seenIn m)
   pub kept : Kept m m'
 
+-- The log l became l', the findings h became h' and the state s became s', with the value v, as p does where t are the tokens, whatever the rest is.
+pub record Eats {g : Bool} (p : Prog Rule g) (t l h : List ℕ) (s : State) (l' h' : List ℕ) (s' : State) (v : ℕ) : Type 0 where
+  pub does : (x e j : List ℕ) → Sound (mem x t e j l h s) → Always p (mem x t e j l h s) (mem x t e j l' h' s') v
+
+-- the same of the log alone
+pub record Takes {g : Bool} (p : Prog Rule g) (t l : List ℕ) (s : State) (l' : List ℕ) (s' : State) (v : ℕ) : Type 0 where
+  pub does : (x e j h : List ℕ) → Sound (mem x t e j l h s) → Always p (mem x t e j l h s) (mem x t e j l' h s') v
+
 -- ---- the journal
 
 -- another state over the same buffers, with the same fixities in force
@@ -169,6 +177,12 @@ ok-adds {x = x} {t = t} {e = e} {j = j} {g = g} d o = d .does x t e j g o .ok
 
 pub ok-tells : {f : World → World} {x t e j l g g' : List ℕ} {s s' : State} → Tells f g s g' s' → Sound (mem x t e j l g s) → Sound (mem x t e j l g' s')
 ok-tells {x = x} {t = t} {e = e} {j = j} {l = l} d o = d .does x t e j l o .ok
+
+pub ok-eats : {g : Bool} {p : Prog Rule g} {x t e j l h l' h' : List ℕ} {s s' : State} {v : ℕ} → Eats p t l h s l' h' s' v → Sound (mem x t e j l h s) → Sound (mem x t e j l' h' s')
+ok-eats {x = x} {e = e} {j = j} d o = d .does x e j o .ok
+
+pub ok-takes : {g : Bool} {p : Prog Rule g} {x t e j l h l' : List ℕ} {s s' : State} {v : ℕ} → Takes p t l s l' s' v → Sound (mem x t e j l h s) → Sound (mem x t e j l' h s')
+ok-takes {x = x} {e = e} {j = j} {h = h} d o = d .does x e j h o .ok
 
 pub ok-state : {x t e j l f : List ℕ} {s s' : State} → s' ≡ s → Sound (mem x t e j l f s) → Sound (mem x t e j l f s')
 ok-state q o = rw q o

@@ -15,14 +15,14 @@ pub mod tokens;
 pub mod util;
 
 // The answers that the operations give.
-pub const TOO_DEEP: u8 = 4;
+pub const TOO_DEEP: usize = 4;
 
-pub const NO_SCRATCH: u8 = 5;
+pub const NO_SCRATCH: usize = 5;
 
-pub const NO_FINDINGS: u8 = 7;
+pub const NO_FINDINGS: usize = 7;
 
 // One of the cases of `should_break_exp` that cannot happen.
-pub const IMPOSSIBLE: u8 = 10;
+pub const IMPOSSIBLE: usize = 10;
 
 // The name of a finding that carries none.
 pub const NO_NAME: usize = 65535;
@@ -33,7 +33,8 @@ const TOOK: u8 = 1;
 const ENDED: u8 = 2;
 
 // Where a reading stands: the next token that is no trivia and the count of records, the log's records, the scratch records used of the
-// room, the findings held of those that fit, the fixities in force, the mode, and the refusal (0: none).
+// room, the findings held of those that fit, the fixities in force, the mode, and the refusal (0: none). All fields are of one width, so that a
+// copy of it is made of whole words.
 pub struct State {
     pub at: usize,
     pub count: usize,
@@ -45,8 +46,8 @@ pub struct State {
     pub fixes: usize,
     pub entries: usize,
     pub changes: usize,
-    pub mode: u8,
-    pub stop: u8,
+    pub mode: usize,
+    pub stop: usize,
 }
 
 // What a look ahead finds.
@@ -75,7 +76,7 @@ impl Found {
 
 impl State {
     // Refused by number, unless it was before.
-    pub fn refuse(self, n: u8) -> State
+    pub fn refuse(self, n: usize) -> State
         ensures { λ r. ⌜ r ≡ refusedBy n self ⌝ }
     {
         if self.stop != 0 {
@@ -289,7 +290,7 @@ pub fn index(s: State) -> usize
 }
 
 // The mode of the call.
-pub fn mode(toks: &[u8], s: State) -> u8
+pub fn mode(toks: &[u8], s: State) -> usize
     ensures { λ r. ⌜ Saw Ask.mode (now (toks .entry)) s r ⌝ }
 {
     if s.stop != 0 {

@@ -25,8 +25,8 @@ ghost use lib.Dec.{eqb};
 ghost use Rattle.grammar.specs.Prog.{Prog};
 ghost use Rattle.grammar.specs.Util as util;
 ghost use Rattle.sml_fixity.specs.Fix.{assocOf, infixOf};
-ghost use Rattle.parser.specs.View.{Sound, mem, outState, outVal};
-ghost use Rattle.parser.specs.Runs.{Always, Runs, RunsIn};
+ghost use Rattle.parser.specs.View.{Reads, Logs, Holds, Sound, mem, outState, outVal};
+ghost use Rattle.parser.specs.Runs.{Eats, Takes, Always, Runs, RunsIn};
 
 // Whether to report infix names that stand without `op`.
 pub enum InfixErr {
@@ -75,18 +75,9 @@ pub fn ascription(k: u8) -> bool
 }
 
 // Takes a token of a kind, or reports that it was expected.
-pub fn eat(
-    text: &[u8],
-    toks: &[u8],
-    env: &[u8],
-    table: &[u8],
-    scratch: &mut [u8],
-    finds: &mut [u8],
-    want: u8,
-    s: State,
-) -> Found
-    requires { ⌜ Sound (mem (now text) (now toks) (now env) (now table) (now scratch) (now finds) s) × (want < 128) ⌝ }
-    ensures { λ r. ⌜ Always (util.eat {g = true} want) (mem (now (text .entry)) (now (toks .entry)) (now (env .entry)) (now (table .entry)) (now (scratch .entry)) (now (finds .entry)) s) (mem (now (text .entry)) (now (toks .entry)) (now (env .entry)) (now (table .entry)) (now (scratch .exit)) (now (finds .exit)) (outState r)) (outVal r) ⌝ }
+pub fn eat(toks: &[u8], scratch: &mut [u8], finds: &mut [u8], want: u8, s: State) -> Found
+    requires { ⌜ Reads (now toks) (s .at) (s .count) × Logs (now scratch) (s .len) (s .used) (s .room) × Holds (now finds) (s .found) (s .kept) × (want < 128) ⌝ }
+    ensures { λ r. ⌜ Eats (util.eat {g = true} want) (now (toks .entry)) (now (scratch .entry)) (now (finds .entry)) s (now (scratch .exit)) (now (finds .exit)) (outState r) (outVal r) ⌝ }
 {
     if at(toks, want, s) {
         Found::At(bump(toks, scratch, s))
@@ -102,36 +93,18 @@ pub fn eat(
 }
 
 // The same, where it does not matter which.
-pub fn want(
-    text: &[u8],
-    toks: &[u8],
-    env: &[u8],
-    table: &[u8],
-    scratch: &mut [u8],
-    finds: &mut [u8],
-    k: u8,
-    s: State,
-) -> State
-    requires { ⌜ Sound (mem (now text) (now toks) (now env) (now table) (now scratch) (now finds) s) × (k < 128) ⌝ }
-    ensures { λ r. ⌜ Always (util.want {g = true} k) (mem (now (text .entry)) (now (toks .entry)) (now (env .entry)) (now (table .entry)) (now (scratch .entry)) (now (finds .entry)) s) (mem (now (text .entry)) (now (toks .entry)) (now (env .entry)) (now (table .entry)) (now (scratch .exit)) (now (finds .exit)) r) 0 ⌝ }
+pub fn want(toks: &[u8], scratch: &mut [u8], finds: &mut [u8], k: u8, s: State) -> State
+    requires { ⌜ Reads (now toks) (s .at) (s .count) × Logs (now scratch) (s .len) (s .used) (s .room) × Holds (now finds) (s .found) (s .kept) × (k < 128) ⌝ }
+    ensures { λ r. ⌜ Eats (util.want {g = true} k) (now (toks .entry)) (now (scratch .entry)) (now (finds .entry)) s (now (scratch .exit)) (now (finds .exit)) r 0 ⌝ }
 {
-    let got = eat(text, toks, env, table, scratch, finds, k, s);
+    let got = eat(toks, scratch, finds, k, s);
     got.state()
 }
 
 // Takes a token of a kind, where it is next.
-pub fn bump_if(
-    text: &[u8],
-    toks: &[u8],
-    env: &[u8],
-    table: &[u8],
-    scratch: &mut [u8],
-    finds: &mut [u8],
-    want: u8,
-    s: State,
-) -> State
-    requires { ⌜ Sound (mem (now text) (now toks) (now env) (now table) (now scratch) (now finds) s) ⌝ }
-    ensures { λ r. ⌜ Always (util.bumpIf {g = true} want) (mem (now (text .entry)) (now (toks .entry)) (now (env .entry)) (now (table .entry)) (now (scratch .entry)) (now (finds .entry)) s) (mem (now (text .entry)) (now (toks .entry)) (now (env .entry)) (now (table .entry)) (now (scratch .exit)) (now (finds .exit)) r) 0 ⌝ }
+pub fn bump_if(toks: &[u8], scratch: &mut [u8], want: u8, s: State) -> State
+    requires { ⌜ Reads (now toks) (s .at) (s .count) × Logs (now scratch) (s .len) (s .used) (s .room) ⌝ }
+    ensures { λ r. ⌜ Takes (util.bumpIf {g = true} want) (now (toks .entry)) (now (scratch .entry)) s (now (scratch .exit)) r 0 ⌝ }
 {
     if at(toks, want, s) {
         bump(toks, scratch, s)
@@ -141,17 +114,9 @@ pub fn bump_if(
 }
 
 // `:` or `:>`, where it is next.
-pub fn bump_ascription(
-    text: &[u8],
-    toks: &[u8],
-    env: &[u8],
-    table: &[u8],
-    scratch: &mut [u8],
-    finds: &mut [u8],
-    s: State,
-) -> State
-    requires { ⌜ Sound (mem (now text) (now toks) (now env) (now table) (now scratch) (now finds) s) ⌝ }
-    ensures { λ r. ⌜ Always (util.bumpAscription {g = true}) (mem (now (text .entry)) (now (toks .entry)) (now (env .entry)) (now (table .entry)) (now (scratch .entry)) (now (finds .entry)) s) (mem (now (text .entry)) (now (toks .entry)) (now (env .entry)) (now (table .entry)) (now (scratch .exit)) (now (finds .exit)) r) 0 ⌝ }
+pub fn bump_ascription(toks: &[u8], scratch: &mut [u8], s: State) -> State
+    requires { ⌜ Reads (now toks) (s .at) (s .count) × Logs (now scratch) (s .len) (s .used) (s .room) ⌝ }
+    ensures { λ r. ⌜ Takes (util.bumpAscription {g = true}) (now (toks .entry)) (now (scratch .entry)) s (now (scratch .exit)) r 0 ⌝ }
 {
     let Look::Kind(k) = peek(toks, s) else {
         return s;
@@ -164,17 +129,9 @@ pub fn bump_ascription(
 }
 
 // A name or `*`.
-pub fn eat_name_star(
-    text: &[u8],
-    toks: &[u8],
-    env: &[u8],
-    table: &[u8],
-    scratch: &mut [u8],
-    finds: &mut [u8],
-    s: State,
-) -> Found
-    requires { ⌜ Sound (mem (now text) (now toks) (now env) (now table) (now scratch) (now finds) s) ⌝ }
-    ensures { λ r. ⌜ Always (util.eatNameStar {g = true}) (mem (now (text .entry)) (now (toks .entry)) (now (env .entry)) (now (table .entry)) (now (scratch .entry)) (now (finds .entry)) s) (mem (now (text .entry)) (now (toks .entry)) (now (env .entry)) (now (table .entry)) (now (scratch .exit)) (now (finds .exit)) (outState r)) (outVal r) ⌝ }
+pub fn eat_name_star(toks: &[u8], scratch: &mut [u8], finds: &mut [u8], s: State) -> Found
+    requires { ⌜ Reads (now toks) (s .at) (s .count) × Logs (now scratch) (s .len) (s .used) (s .room) × Holds (now finds) (s .found) (s .kept) ⌝ }
+    ensures { λ r. ⌜ Eats (util.eatNameStar {g = true}) (now (toks .entry)) (now (scratch .entry)) (now (finds .entry)) s (now (scratch .exit)) (now (finds .exit)) (outState r) (outVal r) ⌝ }
 {
     let Look::Kind(k) = peek(toks, s) else {
         return Found::Missing(report(finds, finding::EXPECTED, finding::KIND_NAME, NO_NAME, s));
@@ -187,17 +144,9 @@ pub fn eat_name_star(
 }
 
 // A label.
-pub fn lab(
-    text: &[u8],
-    toks: &[u8],
-    env: &[u8],
-    table: &[u8],
-    scratch: &mut [u8],
-    finds: &mut [u8],
-    s: State,
-) -> State
-    requires { ⌜ Sound (mem (now text) (now toks) (now env) (now table) (now scratch) (now finds) s) ⌝ }
-    ensures { λ r. ⌜ Always (util.lab {g = true}) (mem (now (text .entry)) (now (toks .entry)) (now (env .entry)) (now (table .entry)) (now (scratch .entry)) (now (finds .entry)) s) (mem (now (text .entry)) (now (toks .entry)) (now (env .entry)) (now (table .entry)) (now (scratch .exit)) (now (finds .exit)) r) 0 ⌝ }
+pub fn lab(toks: &[u8], scratch: &mut [u8], finds: &mut [u8], s: State) -> State
+    requires { ⌜ Reads (now toks) (s .at) (s .count) × Logs (now scratch) (s .len) (s .used) (s .room) × Holds (now finds) (s .found) (s .kept) ⌝ }
+    ensures { λ r. ⌜ Eats (util.lab {g = true}) (now (toks .entry)) (now (scratch .entry)) (now (finds .entry)) s (now (scratch .exit)) (now (finds .exit)) r 0 ⌝ }
 {
     let Look::Kind(k) = peek(toks, s) else {
         return report(finds, finding::EXPECTED, finding::LAB, NO_NAME, s);
@@ -275,7 +224,7 @@ fn path_part(
     }
     let s1 = s.mark();
     let b = s1.len;
-    let got = eat_name_star(text, toks, env, table, scratch, finds, s1);
+    let got = eat_name_star(toks, scratch, finds, s1);
     let s2 = got.state();
     part_end(text, toks, env, table, scratch, finds, left - 1, b, s2)
 }
@@ -494,7 +443,7 @@ pub fn path_infix(
     ensures { λ r. ⌜ Runs left (util.pathInfix {g = true}) (mem (now (text .entry)) (now (toks .entry)) (now (env .entry)) (now (table .entry)) (now (scratch .entry)) (now (finds .entry)) s) (mem (now (text .entry)) (now (toks .entry)) (now (env .entry)) (now (table .entry)) (now (scratch .exit)) (now (finds .exit)) (outState r)) (outVal r) ⌝ }
 {
     let s1 = unnecessary_op(text, toks, env, table, scratch, finds, s);
-    let got = eat(text, toks, env, table, scratch, finds, kind::OP_KW, s1);
+    let got = eat(toks, scratch, finds, kind::OP_KW, s1);
     let s2 = got.state();
     path_must(text, toks, env, table, scratch, finds, left, s2)
 }

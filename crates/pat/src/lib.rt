@@ -665,7 +665,7 @@ fn vector(
     }
     let s1 = s.mark();
     let b = s1.len;
-    let got = eat(text, toks, env, table, scratch, finds, kind::LSQUARE, s1);
+    let got = eat(toks, scratch, finds, kind::LSQUARE, s1);
     let s2 = got.state();
     let end = kind::RSQUARE;
     let s3 = args(
@@ -746,7 +746,7 @@ fn pat_arg(
     if at(toks, kind::RROUND, s2) {
         return Found::At(s2);
     }
-    let got = eat(text, toks, env, table, scratch, finds, kind::COMMA, s2);
+    let got = eat(toks, scratch, finds, kind::COMMA, s2);
     let s3 = got.state();
     Found::Missing(close(scratch, kind::PAT_ARG, b, s3))
 }
@@ -804,7 +804,7 @@ fn arg_turn(
     match item {
         Found::At(s1) => Found::At(s1),
         Found::Missing(s1) => {
-            let got = eat(text, toks, env, table, scratch, finds, end, s1);
+            let got = eat(toks, scratch, finds, end, s1);
             let s2 = got.state();
             Found::Missing(s2)
         }
@@ -892,7 +892,7 @@ fn row_turn(
     match item {
         Found::At(s1) => Found::At(s1),
         Found::Missing(s1) => {
-            let got = eat(text, toks, env, table, scratch, finds, kind::RCURLY, s1);
+            let got = eat(toks, scratch, finds, kind::RCURLY, s1);
             let s2 = got.state();
             Found::Missing(s2)
         }
@@ -954,14 +954,14 @@ fn row(
         return close(scratch, kind::REST_PAT_ROW, b, s2);
     }
     if at_n(toks, 1, kind::EQ, s1) {
-        let s2 = lab(text, toks, env, table, scratch, finds, s1);
-        let got = eat(text, toks, env, table, scratch, finds, kind::EQ, s2);
+        let s2 = lab(toks, scratch, finds, s1);
+        let got = eat(toks, scratch, finds, kind::EQ, s2);
         let s3 = got.state();
         let min = PatPrec::Min;
         let s4 = pat_must(text, toks, env, table, scratch, finds, left - 1, min, e, s3);
         return close(scratch, kind::LAB_AND_PAT_PAT_ROW, b, s4);
     }
-    let name = eat_name_star(text, toks, env, table, scratch, finds, s1);
+    let name = eat_name_star(toks, scratch, finds, s1);
     let s2 = name.state();
     let ty = ty_annotation(text, toks, env, table, scratch, finds, left - 1, s2);
     let s3 = ty.state();

@@ -5,7 +5,6 @@ use mathlib.Core.Path.{_≡_, refl, ap, _∙_}
 use mathlib.Core.List.{List, _++_}
 use mathlib.Core.Option.{Option, none, some}
 use mathlib.Core.Bool.{Bool, true, false, _&&_, and-eq-true-iff}
-use borrow.Author.Tests.{leb-true}
 use lib.Dec.{leb}
 use lib.ListN.{length, drop, replicate-append-replicate}
 use Rattle.grammar.specs.Env.{Entry, envOf, envBytes}
@@ -62,13 +61,6 @@ module _ (c : Call) where
       pub was-tested : (n : ℕ) → countOf (envOf (c .env)) ≡ some n → Tested (c .text) (c .toks) (c .env) n
       unfolding settingsFit
       was-tested n e = record { lists = and-eq-true-iff (leb 1 (c .depth) && leb (c .depth) 1000 && leb (c .mode) 2) (listsFit (c .text) (c .toks)) .0 s .1; records = r; form = e }
-
-    -- the mode is small
-    pub small-mode : c .mode ≤ 2
-    unfolding settingsFit
-    small-mode =
-        let a = and-eq-true-iff (leb 1 (c .depth) && leb (c .depth) 1000 && leb (c .mode) 2) (listsFit (c .text) (c .toks)) .0 s .0 in
-        leb-true (c .mode) 2 (and-eq-true-iff (leb 1 (c .depth) && leb (c .depth) 1000) (leb (c .mode) 2) .0 a .1)
 
 -- every call leaves scratch cleared
 read-cleared : (c : Call) → read c .scratch ≡ zeroes (c .scratch)

@@ -4,10 +4,9 @@ use native.Mathlib.Nat.{add-zero}
 use native.Mathlib.Numerals.{add-one}
 use native.Mathlib.Omega.{arith}
 use mathlib.Core.Path.{_≡_, refl, ap, _∙_, sym}
-use mathlib.Core.List.{List, [], _∷_, _++_, append-nil}
+use mathlib.Core.List.{List, [], _∷_, _++_}
 use lib.ListN.{length, getD, take, drop, set, length-drop, length-set}
-use lib.Seq.{take-add, drop-drop, take-set-le, drop-set-lt, drop-set-add, getD-drop, length-take-le, drop-length}
-use borrow.Rule.Slice.PartMut.{putMid, midOf, post-is, mid-len}
+use lib.Seq.{take-add, drop-drop, take-set-le, drop-set-lt, drop-set-add, getD-drop, length-take-le}
 use Rattle.grammar.specs.World.{Find}
 use Rattle.grammar.specs.Nodes.{findBytes}
 use Rattle.grammar.specs.Read.{pad, zeroes}
@@ -89,19 +88,12 @@ module _ (xs ys : List ℕ) (i : ℕ) (bytes : Bytes xs) (fits : 8 * i + 8 ≤ l
         behind = rw e (drop-set-lt (8 * i + 8) (set ys (8 * i + 6) 0) (8 * i + 7) 0 (omega arith) ∙ drop-set-lt (8 * i + 8) ys (8 * i + 6) 0 (omega arith) ∙ o);
       }
 
--- what stands behind the front is cleared
-pub cleared-behind : (at : ℕ) (xs ys : List ℕ) → at ≤ length xs → ys ≡ zeroes (length (midOf at (length xs - at) xs))
-    → putMid at (length xs - at) xs ys ≡ take at xs ++ zeroes (length xs - at)
-cleared-behind at xs ys h e =
-    rw (post-is at (length xs) xs h, drop-length xs, append-nil ys)
-    (ap (λ (l : List ℕ). take at xs ++ l) (e ∙ ap zeroes (mid-len at (length xs) xs (omega arith))))
-
 -- the findings that were sealed, and zeroes behind them
-pub finds-out : (xs ys : List ℕ) {out fs : List ℕ} (n : ℕ) → n ≤ length xs → length ys ≡ length xs → take n ys ≡ fs → out ≡ take n ys ++ zeroes (length ys - n) → out ≡ pad (length xs) fs
+pub finds-out : (xs ys : List ℕ) {out fs : List ℕ} (n : ℕ) → n ≤ length xs → length ys ≡ length xs → take n ys ≡ fs → out ≡ take n ys ++ zeroes (length (drop n ys)) → out ≡ pad (length xs) fs
 unfolding pad
 finds-out xs ys {fs = fs} n h l e q =
     let m : length fs ≡ n = ap length (sym e) ∙ length-take-le n ys (omega arith) in
-    rw (m, q, e, l) refl
+    rw (m, q, e, length-drop n ys, l) refl
 
 -- how many bytes findings take
 finds-length : (fs : List Find) → length (findBytes fs) ≡ 8 * length fs

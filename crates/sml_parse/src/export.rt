@@ -17,7 +17,7 @@ fn put_used(used: &mut [u64], a: Answer)
 }
 
 // `read`. The answer is document 01's number; the three used lengths, of the nodes, the findings and the final environment, are left in `used`,
-// in that order. In C: `uint8_t sml_parse_read(const uint8_t *text, size_t text_len, .. toks, .. env, uint64_t depth, uint64_t mode,
+// in that order. In C: `size_t sml_parse_read(const uint8_t *text, size_t text_len, .. toks, .. env, uint64_t depth, uint64_t mode,
 // uint8_t *scratch, size_t scratch_len, .. nodes, .. finds, .. last, uint64_t used[3])`.
 #[no_mangle]
 pub extern "C" fn sml_parse_read(
@@ -31,7 +31,7 @@ pub extern "C" fn sml_parse_read(
     finds: &mut [u8],
     last: &mut [u8],
     used: &mut [u64; 3],
-) -> u8
+) -> usize
     ensures { λ r. ⌜ (resultFrom r (now (used .exit)) (now (scratch .exit)) (now (nodes .exit)) (now (finds .exit)) (now (last .exit)) ≡ served (callOf (now (text .entry)) (now (toks .entry)) (now (env .entry)) depth mode (now (scratch .entry)) (now (nodes .entry)) (now (finds .entry)) (now (last .entry)))) × (length (now (used .exit)) ≡ 3) ⌝ }
 {
     let a = read(text, toks, env, depth, mode, scratch, nodes, finds, last);

@@ -9,32 +9,23 @@ use sml_fixity::out;
 use sml_fixity::out::Copied;
 use sml_fixity::table::Table;
 ghost use mathlib.Core.Path.{_≡_};
-ghost use mathlib.Core.List.{_++_};
-ghost use Prim.Native.Nat.{_+_, _-_, _*_, _≤_, _<_};
+ghost use Prim.Native.Nat.{_+_, _*_, _≤_, _<_};
 ghost use lib.ListN.{length, take};
 ghost use Rattle.grammar.specs.Env.{envBytes};
 ghost use Rattle.grammar.specs.World.World.{on};
 ghost use Rattle.grammar.specs.Nodes.{findBytes};
-ghost use Rattle.grammar.specs.Read.{finish, pad, zeroes};
+ghost use Rattle.grammar.specs.Read.{finish, pad};
 ghost use Rattle.sml_fixity.specs.Table.{Stands, tableOf};
 ghost use Rattle.parser.specs.View.{Sound, mem, nowOf, tableIn, chunks, findOf};
 ghost use Rattle.nodes.specs.Grown.{Grown, logIn};
 ghost use Rattle.sml_parse.specs.Entry.{Bytes, roomOf, resultOf, Holds};
 
 // The answers that are not given before or while reading.
-const READ: u8 = 0;
+const READ: usize = 0;
 
-const NO_NODES: u8 = 6;
+const NO_NODES: usize = 6;
 
-const NO_FINAL: u8 = 9;
-
-// Clears what stands behind the first `at` bytes.
-fn clear_behind(b: &mut [u8], at: usize)
-    requires { ⌜ at ≤ length (now b) ⌝ }
-    ensures { λ _. ⌜ now (b .exit) ≡ take at (now (b .entry)) ++ zeroes (length (now (b .entry)) - at) ⌝ }
-{
-    clear(&mut b[at..]);
-}
+const NO_FINAL: usize = 9;
 
 // Makes the two bytes behind each finding's fields 0.
 fn seal(finds: &mut [u8], found: usize)
@@ -55,7 +46,7 @@ fn finish_finds(finds: &mut [u8], found: usize)
     ensures { λ _. ⌜ now (finds .exit) ≡ pad (length (now (finds .entry))) (findBytes (chunks findOf (now (finds .entry)) found)) ⌝ }
 {
     seal(finds, found);
-    clear_behind(finds, 8 * found);
+    clear(finds, 8 * found);
 }
 
 // The final environment as it is handed out, if it fits.
@@ -63,7 +54,7 @@ fn finish_env(text: &[u8], env: &[u8], table: &[u8], last: &mut [u8], t: Table) 
     requires { ⌜ Stands (now text) (now env) (now table) t ⌝ }
     ensures { λ r. ⌜ Holds (envBytes (tableOf (now (text .entry)) (now (env .entry)) (now (table .entry)) t)) (now (last .entry)) (now (last .exit)) r ⌝ }
 {
-    clear(last);
+    clear(last, 0);
     out::copy_out(text, env, table, t, last)
 }
 
@@ -102,7 +93,7 @@ pub fn hand_out(
     };
     write_nodes(scratch, s.len, nodes, count);
     finish_finds(finds, s.found);
-    clear(scratch);
+    clear(scratch, 0);
     Answer {
         number: READ,
         nodes: 4 * count,

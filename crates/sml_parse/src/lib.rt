@@ -23,18 +23,18 @@ pub mod refusal;
 pub mod root;
 
 // The answers that are given before reading.
-const BAD_SETTINGS: u8 = 1;
+const BAD_SETTINGS: usize = 1;
 
-const BAD_RECORDS: u8 = 2;
+const BAD_RECORDS: usize = 2;
 
-const BAD_ENV: u8 = 3;
+const BAD_ENV: usize = 3;
 
 // The most bytes of scratch whose records' numbers fit four bytes.
 const MOST_SCRATCH: usize = 2147483640;
 
 // Document 01's number of the answer, and the three used lengths in bytes.
 pub struct Answer {
-    pub number: u8,
+    pub number: usize,
     pub nodes: usize,
     pub finds: usize,
     pub last: usize,
@@ -49,7 +49,7 @@ fn start_state(
     scratch: &[u8],
     finds: &[u8],
     entries: usize,
-    mode: u8,
+    mode: usize,
 ) -> State
     requires { ⌜ Tested (now text) (now toks) (now env) entries × (8192 ≤ length (now table)) × (length (now scratch) ≤ 2147483640) ⌝ }
     ensures { λ r. ⌜ Sound (mem (now (text .entry)) (now (toks .entry)) (now (env .entry)) (now (table .entry)) (now (scratch .entry)) (now (finds .entry)) r) × (seenIn (mem (now (text .entry)) (now (toks .entry)) (now (env .entry)) (now (table .entry)) (now (scratch .entry)) (now (finds .entry)) r) ≡ on (start (callOf (now (text .entry)) (now (toks .entry)) (now (env .entry)) 0 mode (now (scratch .entry)) [] (now (finds .entry)) []) (entriesIn (now (env .entry))))) ⌝ }
@@ -76,9 +76,9 @@ fn read_into(
     text: &[u8],
     toks: &[u8],
     env: &[u8],
-    table: &mut [u8],
+    table: &mut [u8; 8192],
     depth: usize,
-    mode: u8,
+    mode: usize,
     scratch: &mut [u8],
     nodes: &mut [u8],
     finds: &mut [u8],
@@ -102,7 +102,7 @@ fn read_with(
     toks: &[u8],
     env: &[u8],
     depth: usize,
-    mode: u8,
+    mode: usize,
     scratch: &mut [u8],
     nodes: &mut [u8],
     finds: &mut [u8],
@@ -157,7 +157,7 @@ fn read_short(
         toks,
         env,
         depth as usize,
-        mode as u8,
+        mode as usize,
         scratch,
         nodes,
         finds,
@@ -182,7 +182,7 @@ fn read_part(
     requires { ⌜ (n ≤ length (now scratch)) × (n ≤ 2147483640) ⌝ }
     ensures { λ r. ⌜ resultOf r (now (scratch .exit)) (now (nodes .exit)) (now (finds .exit)) (now (last .exit)) ≡ clearedTo (read (withScratch (callOf (now (text .entry)) (now (toks .entry)) (now (env .entry)) depth mode (now (scratch .entry)) (now (nodes .entry)) (now (finds .entry)) (now (last .entry))) n)) (length (now (scratch .entry))) ⌝ }
 {
-    clear(scratch);
+    clear(scratch, 0);
     read_short(
         text,
         toks,

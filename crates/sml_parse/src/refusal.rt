@@ -11,14 +11,14 @@ pub fn refuse_all(
     nodes: &mut [u8],
     finds: &mut [u8],
     last: &mut [u8],
-    k: u8,
+    k: usize,
 ) -> Answer
     ensures { λ r. ⌜ resultOf r (now (scratch .exit)) (now (nodes .exit)) (now (finds .exit)) (now (last .exit)) ≡ refusal (roomOf (now (scratch .entry)) (now (nodes .entry)) (now (finds .entry)) (now (last .entry))) k ⌝ }
 {
-    clear(scratch);
-    clear(nodes);
-    clear(finds);
-    clear(last);
+    clear(scratch, 0);
+    clear(nodes, 0);
+    clear(finds, 0);
+    clear(last, 0);
     Answer {
         number: k,
         nodes: 0,

@@ -263,7 +263,7 @@ fn ty_arg(
     if at(toks, kind::RROUND, s2) {
         return Found::At(s2);
     }
-    let got = eat(text, toks, env, table, scratch, finds, kind::COMMA, s2);
+    let got = eat(toks, scratch, finds, kind::COMMA, s2);
     let s3 = got.state();
     Found::Missing(close(scratch, kind::TY_ARG, b, s3))
 }
@@ -537,7 +537,7 @@ fn row_turn(
     match item {
         Found::At(s1) => Found::At(s1),
         Found::Missing(s1) => {
-            let got = eat(text, toks, env, table, scratch, finds, kind::RCURLY, s1);
+            let got = eat(toks, scratch, finds, kind::RCURLY, s1);
             let s2 = got.state();
             Found::Missing(s2)
         }
@@ -587,8 +587,8 @@ fn ty_row(
     requires { ⌜ Sound (mem (now text) (now toks) (now env) (now table) (now scratch) (now finds) s) ⌝ }
     ensures { λ r. ⌜ Runs left types.tyRow (mem (now (text .entry)) (now (toks .entry)) (now (env .entry)) (now (table .entry)) (now (scratch .entry)) (now (finds .entry)) s) (mem (now (text .entry)) (now (toks .entry)) (now (env .entry)) (now (table .entry)) (now (scratch .exit)) (now (finds .exit)) r) 0 ⌝ }
 {
-    let s1 = lab(text, toks, env, table, scratch, finds, s);
-    let s2 = bump_ascription(text, toks, env, table, scratch, finds, s1);
+    let s1 = lab(toks, scratch, finds, s);
+    let s2 = bump_ascription(toks, scratch, s1);
     ty_must(text, toks, env, table, scratch, finds, left, ARROW, s2)
 }
 
@@ -641,7 +641,7 @@ fn arg_turn(
     match item {
         Found::At(s1) => Found::At(s1),
         Found::Missing(s1) => {
-            let got = eat(text, toks, env, table, scratch, finds, kind::RROUND, s1);
+            let got = eat(toks, scratch, finds, kind::RROUND, s1);
             let s2 = got.state();
             Found::Missing(s2)
         }
@@ -723,7 +723,7 @@ fn var_turn(
     match item {
         Found::At(s1) => Found::At(s1),
         Found::Missing(s1) => {
-            let got = eat(text, toks, env, table, scratch, finds, kind::RROUND, s1);
+            let got = eat(toks, scratch, finds, kind::RROUND, s1);
             let s2 = got.state();
             Found::Missing(s2)
         }
@@ -749,7 +749,7 @@ fn var_item(
     }
     let s1 = s.mark();
     let b = s1.len;
-    let got = eat(text, toks, env, table, scratch, finds, kind::TY_VAR, s1);
+    let got = eat(toks, scratch, finds, kind::TY_VAR, s1);
     let s2 = got.state();
     if at(toks, kind::COMMA, s2) {
         let s3 = bump(toks, scratch, s2);

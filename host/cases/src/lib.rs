@@ -1,5 +1,6 @@
 //! Cases for the reader, the same for the same seed.
 
+pub mod answers;
 mod bad;
 mod full;
 mod grammar;
@@ -9,7 +10,9 @@ pub mod rng;
 pub mod tok;
 
 use oracle::Case;
+pub use readable::roomy;
 use rng::Rng;
+use tok::Laid;
 
 /// The rooms that suffice for most cases, in bytes. Only the families that come
 /// when they are asked for have larger ones.
@@ -71,6 +74,16 @@ pub const FAMILIES: [(Family, &str, usize); 14] = [
     (Deep, "deep", 0),
     (Long, "long", 0),
 ];
+
+/// A plain case in the standard environment, with the largest depth and so many
+/// bytes of each room.
+#[must_use]
+pub fn standard(laid: Laid, room: usize) -> Case {
+    let mut ret = roomy(laid, oracle::std_env());
+    (ret.scratch, ret.nodes) = (room, room);
+    (ret.finds, ret.fin) = (room, room);
+    ret
+}
 
 /// The family of a name.
 #[must_use]

@@ -55,7 +55,8 @@ pub fn any(tokens: usize, rng: &mut Rng) -> Case {
     case(rng.pick(&families), tokens, rng)
 }
 
-/// A case with the largest depth and rooms for most.
+/// A plain case with the largest depth and rooms for most.
+#[must_use]
 pub fn roomy(laid: Laid, env: Vec<u8>) -> Case {
     Case {
         text: laid.text,

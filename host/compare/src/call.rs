@@ -3,7 +3,7 @@
 use crate::guard::{Arena, Side};
 use cases::rng::Rng;
 use oracle::{Case, Outcome};
-use sml_reader::raw::sml_parse_read;
+use sml_reader::{Call, Room, raw};
 
 /// The largest buffer of a case.
 const MOST: usize = 1 << 20;
@@ -81,29 +81,22 @@ impl Caller {
     }
 
     fn enter(&mut self, case: &Case) -> u8 {
-        // SAFETY: The arenas hold buffers of these lengths, each on its own
-        // pages; 24 bytes at an end of a page are three numbers, aligned.
-        unsafe {
-            sml_parse_read(
-                self.text.pointer(),
-                case.text.len(),
-                self.records.pointer(),
-                case.records.len(),
-                self.env.pointer(),
-                case.env.len(),
-                case.depth,
-                case.mode,
-                self.scratch.pointer(),
-                case.scratch,
-                self.nodes.pointer(),
-                case.nodes,
-                self.finds.pointer(),
-                case.finds,
-                self.last.pointer(),
-                case.fin,
-                self.used.pointer().cast(),
-            )
-        }
+        let call = Call {
+            text: self.text.bytes(),
+            records: self.records.bytes(),
+            environment: self.env.bytes(),
+            depth: case.depth,
+            mode: case.mode,
+        };
+        let room = Room {
+            scratch: self.scratch.bytes(),
+            nodes: self.nodes.bytes(),
+            findings: self.finds.bytes(),
+            environment: self.last.bytes(),
+        };
+        // SAFETY: 24 bytes at an end of a page are three numbers, aligned; the
+        // stack is large.
+        unsafe { raw::enter(&call, room, &mut *self.used.pointer().cast()) }
     }
 
     fn arenas(&mut self) -> [&mut Arena; 8] {

@@ -1,7 +1,8 @@
 //! How much stack a call uses.
 
+use crate::lent::{Buffers, call};
 use oracle::Case;
-use sml_reader::raw::sml_parse_read;
+use sml_reader::raw;
 use std::ffi::c_void;
 use std::ptr;
 
@@ -28,38 +29,15 @@ const PAINT: u64 = 0x5a5a_5a5a_5a5a_5a5a;
 /// A case and its buffers, handed to the thread.
 struct Work<'a> {
     case: &'a Case,
-    buffers: [Vec<u8>; 4],
+    buffers: Buffers,
     answer: u8,
 }
 
 extern "C" fn enter(work: *mut c_void) -> *mut c_void {
     // SAFETY: `used` hands over its own work and waits for this thread.
     let work = unsafe { &mut *work.cast::<Work<'_>>() };
-    let case = work.case;
-    let [scratch, nodes, finds, last] = &mut work.buffers;
-    let mut used = [0; 3];
-    // SAFETY: The vectors have these lengths; the stack is as large as asked.
-    work.answer = unsafe {
-        sml_parse_read(
-            case.text.as_ptr(),
-            case.text.len(),
-            case.records.as_ptr(),
-            case.records.len(),
-            case.env.as_ptr(),
-            case.env.len(),
-            case.depth,
-            case.mode,
-            scratch.as_mut_ptr(),
-            scratch.len(),
-            nodes.as_mut_ptr(),
-            nodes.len(),
-            finds.as_mut_ptr(),
-            finds.len(),
-            last.as_mut_ptr(),
-            last.len(),
-            used.as_mut_ptr(),
-        )
-    };
+    // SAFETY: The stack is as large as asked.
+    work.answer = unsafe { raw::enter(&call(work.case), work.buffers.room(), &mut [0; 3]) };
     ptr::null_mut()
 }
 
@@ -72,10 +50,9 @@ extern "C" fn enter(work: *mut c_void) -> *mut c_void {
 /// If the system gives no such thread.
 #[must_use]
 pub fn used(case: &Case) -> (u8, usize) {
-    let rooms = [case.scratch, case.nodes, case.finds, case.fin];
     let mut work = Work {
         case,
-        buffers: rooms.map(|it| vec![0; it]),
+        buffers: Buffers::new(case),
         answer: u8::MAX,
     };
     let mut stack = vec![PAINT; (sml_reader::stack::NEED + (1 << 20)) / 8];

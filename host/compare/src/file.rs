@@ -2,7 +2,7 @@
 //! another, the same for the same seed.
 
 use cases::rng::Rng;
-use cases::tok::{self, Laid};
+use cases::tok::{self, Laid, Tok};
 use oracle::Case;
 
 /// Declarations that are read without a finding.
@@ -46,27 +46,57 @@ fn declarations(rng: &mut Rng, tokens: usize) -> Laid {
     ret
 }
 
-/// A file of exactly so many tokens but for the last declaration, which is left
-/// out where it doesn't fit. No blanks stand between tokens: the text would be
-/// too long.
+/// How many infix names a file declares at the most: an environment has 256
+/// entries, the standard ones among them.
+const MOST_NAMES: usize = 200;
+
+/// How many names stand in one declaration of fixities.
+const LISTED: usize = 20;
+
+/// So many changes of fixities, the same names again and again, and behind them
+/// values, made by these names (by standard ones if there are none) from names
+/// that are not infix.
+fn changed(rng: &mut Rng, tokens: usize, changes: usize) -> Laid {
+    let infix = |place: usize| format!("i{}", place % MOST_NAMES);
+    let mut words = Vec::new();
+    for from in (0..changes).step_by(LISTED) {
+        words.extend(["infix".to_owned(), rng.below(10).to_string()]);
+        words.extend((from..changes.min(from + LISTED)).map(infix));
+    }
+    while words.len() + 10 <= tokens {
+        words.extend(["val", "x", "="].map(str::to_owned));
+        for _ in 0..3 {
+            words.push(format!("p{}", rng.below(100)));
+            words.push(match changes {
+                0 => rng.pick(&["+", "-", "^", "<", "o"]).to_owned(),
+                _ => infix(rng.below(changes.min(MOST_NAMES))),
+            });
+        }
+        words.push(format!("p{}", rng.below(100)));
+    }
+    let mut ret = Laid::default();
+    words.iter().for_each(|it| ret.push(&Tok::word(it)));
+    ret
+}
+
+/// A file of so many tokens but for the last declaration, which is left out
+/// where it doesn't fit: declarations of all kinds, or, where changes are asked
+/// for, so many changes of fixities and values behind them. No blanks stand
+/// between tokens: the text would be too long.
 ///
 /// # Panics
 ///
 /// If the source refuses the file.
 #[must_use]
-pub fn file(seed: u64, tokens: usize) -> Case {
-    let laid = declarations(&mut Rng::new(seed, tokens as u64), tokens);
-    let mut ret = Case {
-        text: laid.text,
-        records: laid.records,
-        env: oracle::std_env(),
-        depth: oracle::MOST_DEPTH,
-        mode: 1,
-        scratch: 0,
-        nodes: 0,
-        finds: 0,
-        fin: 0,
-    };
+pub fn file(seed: u64, tokens: usize, changes: Option<usize>) -> Case {
+    let rng = &mut Rng::new(seed, tokens as u64);
+    let mut ret = cases::standard(
+        match changes {
+            None => declarations(rng, tokens),
+            Some(changes) => changed(rng, tokens, changes),
+        },
+        0,
+    );
     let needs = oracle::needs(&ret).expect("an outcome");
     let needs = needs.expect("a reading");
     (ret.scratch, ret.nodes) = (needs.scratch, needs.nodes);

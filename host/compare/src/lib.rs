@@ -5,6 +5,7 @@ pub mod call;
 pub mod depth;
 pub mod file;
 pub mod guard;
+pub mod lent;
 pub mod options;
 pub mod shrink;
 

@@ -76,18 +76,9 @@ fn marked_bytes() {
 }
 
 fn words(line: &str) -> Case {
-    let laid = tok::plain(&tok::line(line));
-    Case {
-        text: laid.text,
-        records: laid.records,
-        env: oracle::std_env(),
-        depth: 1000,
-        mode: 2,
-        scratch: 4096,
-        nodes: 4096,
-        finds: 1024,
-        fin: 2048,
-    }
+    let mut ret = cases::roomy(tok::plain(&tok::line(line)), oracle::std_env());
+    ret.mode = 2;
+    ret
 }
 
 /// Two lines that differ in one thing each, one read by the source and the

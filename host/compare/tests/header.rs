@@ -11,9 +11,9 @@ int main(void) {
     static const uint8_t text[] = ";", toks[] = {12, 0, 0, 1, 0};
     static uint8_t scratch[80], nodes[24], finds[8], last[1];
     uint64_t used[3];
-    uint8_t answer = sml_parse_read(text, 1, toks, 5, toks, 0, 6, 1, scratch, sizeof scratch, nodes, sizeof nodes, finds, sizeof finds,
+    size_t answer = sml_parse_read(text, 1, toks, 5, toks, 0, 6, 1, scratch, sizeof scratch, nodes, sizeof nodes, finds, sizeof finds,
                                     last, 0, used);
-    printf("%d %d %d %d", answer, (int)used[0], (int)used[1], (int)used[2]);
+    printf("%d %d %d %d", (int)answer, (int)used[0], (int)used[1], (int)used[2]);
     for (unsigned i = 0; i < sizeof nodes; i++) printf(" %d", nodes[i]);
     return sml_parse_read(text, 1, toks, 5, toks, 0, 5, 1, scratch, 80, nodes, 24, finds, 8, last, 0, used) == SML_TOO_DEEP ? 0 : 1;
 }

@@ -28,18 +28,9 @@ const LINES: &[&str] = &[
 
 /// A case with room for all that it needs.
 fn words(line: &str) -> Case {
-    let laid = tok::plain(&tok::line(line));
-    Case {
-        text: laid.text,
-        records: laid.records,
-        env: oracle::std_env(),
-        depth: 1000,
-        mode: 2,
-        scratch: 4096,
-        nodes: 4096,
-        finds: 1024,
-        fin: 2048,
-    }
+    let mut ret = cases::roomy(tok::plain(&tok::line(line)), oracle::std_env());
+    ret.mode = 2;
+    ret
 }
 
 fn needs(case: &Case) -> Needs {
@@ -142,13 +133,6 @@ fn huge_scratch() {
     let needs = needs(&case);
     let mut scratch = vec![1; 2_147_483_640 + 17];
     let (mut nodes, mut findings, mut environment) = (vec![1; 4096], vec![1; 1024], vec![1; 2048]);
-    let call = sml_reader::Call {
-        text: &case.text,
-        records: &case.records,
-        environment: &case.env,
-        depth: case.depth,
-        mode: case.mode,
-    };
     let used = sml_reader::with_stack(|stack| {
         let room = sml_reader::Room {
             scratch: &mut scratch,
@@ -156,7 +140,7 @@ fn huge_scratch() {
             findings: &mut findings,
             environment: &mut environment,
         };
-        stack.read_into(&call, room)
+        stack.read_into(&compare::lent::call(&case), room)
     });
     assert_eq!(used.map(|it| it.nodes), Ok(needs.nodes));
     assert!(scratch.iter().all(|&it| it == 0));

@@ -64,18 +64,7 @@ const NESTS: &[(&str, &str)] = &[
 
 fn nested(head: &str, words: &str) -> Case {
     let toks = tok::line(&format!("{head} {}", [words].repeat(1100).join(" ")));
-    let laid = tok::plain(&toks);
-    Case {
-        text: laid.text,
-        records: laid.records,
-        env: oracle::std_env(),
-        depth: 1000,
-        mode: 1,
-        scratch: 1 << 20,
-        nodes: 1 << 20,
-        finds: 1 << 20,
-        fin: 1 << 16,
-    }
+    cases::standard(tok::plain(&toks), 1 << 20)
 }
 
 /// What is used stays far under what callers make ready.

@@ -42,33 +42,6 @@ pub struct Used {
     pub environment: usize,
 }
 
-/// Enters the archive. The stack must be looked at before.
-fn enter(call: &Call<'_>, room: Room<'_>, used: &mut [u64; 3]) -> u8 {
-    // SAFETY: The slices are what the pointers and lengths say, the ones to be
-    // written borrowed by nobody else; the stack is the caller's to look at.
-    unsafe {
-        raw::sml_parse_read(
-            call.text.as_ptr(),
-            call.text.len(),
-            call.records.as_ptr(),
-            call.records.len(),
-            call.environment.as_ptr(),
-            call.environment.len(),
-            call.depth,
-            call.mode,
-            room.scratch.as_mut_ptr(),
-            room.scratch.len(),
-            room.nodes.as_mut_ptr(),
-            room.nodes.len(),
-            room.findings.as_mut_ptr(),
-            room.findings.len(),
-            room.environment.as_mut_ptr(),
-            room.environment.len(),
-            used.as_mut_ptr(),
-        )
-    }
-}
-
 impl Stack {
     /// Reads with lent buffers, and allocates nothing.
     ///
@@ -82,7 +55,8 @@ impl Stack {
     pub fn read_into(&self, call: &Call<'_>, room: Room<'_>) -> Result<Used, Refusal> {
         assert!(self.is_left(), "too little of the stack is left for a call");
         let mut used = [0; 3];
-        let answer = enter(call, room, &mut used);
+        // SAFETY: The stack was looked at.
+        let answer = unsafe { raw::enter(call, room, &mut used) };
         let [nodes, findings, environment] = used.map(|it| it as usize);
         if answer != 0 {
             return Err(Refusal::of_number(answer).expect("the answers are 0 to 10"));

@@ -1,8 +1,8 @@
 -- by tools/prove
-use Rattle.grammar.specs.Dec as decl
 use Rattle.parser.specs.Runs.{runs-in, runs-always}
 use Rattle.parser.specs.Plans.{plan, choose, chosen, by-steps, s-by, settled, s-end}
 use mathlib.Core.Path.{_≡_, refl, _∙_}
+use Rattle.grammar.specs.Dec as decl
 use lib.ListN.{length}
 use borrow.Author.Needs.{needs}
 use Rattle.dat_parts.proofs.con_bind.Statement.{statement}

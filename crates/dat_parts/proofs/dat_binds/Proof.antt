@@ -1,9 +1,9 @@
 -- by tools/prove
-use Rattle.grammar.specs.Util as util
-use Rattle.grammar.specs.Dec as decl
 use Rattle.parser.specs.Runs.{runs-in}
 use Rattle.parser.specs.Plans.{plan, choose, chosen, in-steps, s-by, s-run, s-end}
 use mathlib.Core.Path.{_≡_, refl, _∙_}
+use Rattle.grammar.specs.Util as util
+use Rattle.grammar.specs.Dec as decl
 use lib.ListN.{length}
 use borrow.Author.Needs.{needs}
 use Rattle.dat_parts.proofs.dat_binds.Statement.{statement}

@@ -1,15 +1,15 @@
 -- by tools/prove
-use Rattle.grammar.specs.Util as util
-use Rattle.grammar.specs.Dec as decl
-use Rattle.grammar.specs.SyntaxKind as SK
 use Rattle.laws.specs.Progress.{many-turn-advances}
 use Rattle.parser.specs.View.{mem}
 use Rattle.parser.specs.Runs.{runs-in, kind-at, kind-off, ok-bumps, ok-marks, small-len, Loops, turns, loop-starts, loop-goes, loop-falls, loop-ends}
 use Rattle.parser.specs.Plans.{plan, choose, chosen, in-steps, s-kind, s-true, s-false, s-bump, s-close, s-mark, s-deep, s-by, s-end}
-use borrow.Author.Needs.{needs}
 use mathlib.Core.Path.{_≡_, refl, _∙_}
-use lib.ListN.{length}
 use mathlib.Core.Bool.{true}
+use Rattle.grammar.specs.Util as util
+use Rattle.grammar.specs.Dec as decl
+use Rattle.grammar.specs.SyntaxKind as SK
+use borrow.Author.Needs.{needs}
+use lib.ListN.{length}
 use Rattle.dat_parts.proofs.dat_list.Statement.{statement}
 use Rattle.dat_parts.proofs.dat_list.Tie as tie
 use Rattle.dat_parts.proofs.dat_list.Reads as reads

@@ -1,9 +1,9 @@
 -- by tools/prove
-use Rattle.grammar.specs.Dec as decl
-use Rattle.parser.specs.Runs.{runs-in, runs-always, kind-at, kind-off, ok-bumps, ok-state}
-use Rattle.parser.specs.Plans.{plan, choose, chosen, in-steps, s-kind, s-true, s-false, s-bump, s-close, s-by, settled, s-end}
+use Rattle.parser.specs.Runs.{runs-in, kind-at, kind-off, ok-bumps, ok-eats, ok-state}
+use Rattle.parser.specs.Plans.{plan, choose, chosen, in-steps, s-kind, s-true, s-false, s-bump, s-close, s-by, s-eats, settled, s-end}
 use native.Mathlib.Omega.{arith}
 use mathlib.Core.Path.{_≡_, refl, _∙_}
+use Rattle.grammar.specs.Dec as decl
 use lib.ListN.{length}
 use borrow.Author.Needs.{needs}
 use Rattle.dat_parts.proofs.datatype.Statement.{statement}
@@ -37,28 +37,43 @@ want-requires c κs =
     let bump = c .before .before .before .before .before .before .bump .ensures in
     let bump-ok = ok-bumps bump pre0 in
     let if1 = c .before .before .if1 .taken in
-    (bump-ok, omega arith)
+    (bump-ok .reads, bump-ok .logs, bump-ok .holds, omega arith)
 
 want-requires-2 : tie.Need-want-requires-2
 want-requires-2 c κs =
+    let pre0 = c .before .before .before .before .before .before .before .before .before .before .before .before .before .before .before .before .before .before .before .before .before .pre .0 in
     let pre1 = c .before .before .before .before .before .before .before .before .before .before .before .before .before .before .before .before .before .before .before .before .before .pre .1 in
+    let bump = c .before .before .before .before .before .before .before .before .before .before .before .before .before .bump .ensures in
+    let bump-ok = ok-bumps bump pre0 in
     let if1 = c .before .before .before .before .before .before .before .before .before .if1 .taken in
     let want = c .before .before .before .before .before .before .want .ensures in
-    let want-ok = want .ok in
-    (want-ok, omega arith)
+    let want-ok = ok-eats want bump-ok in
+    (want-ok .reads, want-ok .logs, want-ok .holds, omega arith)
 
 want-requires-3 : tie.Need-want-requires-3
 want-requires-3 c κs =
+    let pre0 = c .before .before .before .before .before .before .before .before .before .before .before .before .before .before .before .before .before .before .before .before .before .before .before .before .before .before .before .before .pre .0 in
     let pre1 = c .before .before .before .before .before .before .before .before .before .before .before .before .before .before .before .before .before .before .before .before .before .before .before .before .before .before .before .before .pre .1 in
+    let bump = c .before .before .before .before .before .before .before .before .before .before .before .before .before .before .before .before .before .before .before .before .bump .ensures in
+    let bump-ok = ok-bumps bump pre0 in
     let if1 = c .before .before .before .before .before .before .before .before .before .before .before .before .before .before .before .before .if1 .taken in
+    let want = c .before .before .before .before .before .before .before .before .before .before .before .before .before .want .ensures in
+    let want-ok = ok-eats want bump-ok in
     let want2 = c .before .before .before .before .before .before .want2 .ensures in
-    let want2-ok = want2 .ok in
-    (want2-ok, omega arith)
+    let want2-ok = ok-eats want2 want-ok in
+    (want2-ok .reads, want2-ok .logs, want2-ok .holds, omega arith)
 
 path-must-requires : tie.Need-path-must-requires
 path-must-requires c κs =
+    let pre0 = c .before .before .before .before .before .before .before .before .before .before .before .before .before .before .before .before .before .before .before .before .before .before .before .before .before .before .before .before .before .before .before .before .before .before .before .pre .0 in
+    let bump = c .before .before .before .before .before .before .before .before .before .before .before .before .before .before .before .before .before .before .before .before .before .before .before .before .before .before .before .bump .ensures in
+    let bump-ok = ok-bumps bump pre0 in
+    let want = c .before .before .before .before .before .before .before .before .before .before .before .before .before .before .before .before .before .before .before .before .want .ensures in
+    let want-ok = ok-eats want bump-ok in
+    let want2 = c .before .before .before .before .before .before .before .before .before .before .before .before .before .want2 .ensures in
+    let want2-ok = ok-eats want2 want-ok in
     let want3 = c .before .before .before .before .before .before .want3 .ensures in
-    let want3-ok = want3 .ok in
+    let want3-ok = ok-eats want3 want2-ok in
     want3-ok
 
 state-requires : tie.Need-state-requires
@@ -76,17 +91,16 @@ close-requires c κs =
 
 same-length : tie.Need-same-length
 same-length c =
-    c .before .before .close .kept .0 ∙ c .before .before .before .before .before .before .before .before .before .path-must .kept .1 .1 .1 .1 .0 ∙ c .before .before .before .before .before .before .before .before .before .before .before .before .before .before .before .before .want3 .kept .1 .1 .1 .1 .0 ∙ c .before .before .before .before .before .before .before .before .before .before .before .before .before .before .before .before .before .before .before .before .before .before .before .want2 .kept .1 .1 .1 .1 .0 ∙ c .before .before .before .before .before .before .before .before .before .before .before .before .before .before .before .before .before .before .before .before .before .before .before .before .before .before .before .before .before .before .want .kept .1 .1 .1 .1 .0 ∙ c .before .before .before .before .before .before .before .before .before .before .before .before .before .before .before .before .before .before .before .before .before .before .before .before .before .before .before .before .before .before .before .before .before .before .before .before .before .bump .kept .1 .0
+    c .before .before .close .kept .0 ∙ c .before .before .before .before .before .before .before .before .before .path-must .kept .1 .1 .1 .1 .0 ∙ c .before .before .before .before .before .before .before .before .before .before .before .before .before .before .before .before .want3 .kept .1 .0 ∙ c .before .before .before .before .before .before .before .before .before .before .before .before .before .before .before .before .before .before .before .before .before .before .before .want2 .kept .1 .0 ∙ c .before .before .before .before .before .before .before .before .before .before .before .before .before .before .before .before .before .before .before .before .before .before .before .before .before .before .before .before .before .before .want .kept .1 .0 ∙ c .before .before .before .before .before .before .before .before .before .before .before .before .before .before .before .before .before .before .before .before .before .before .before .before .before .before .before .before .before .before .before .before .before .before .before .before .before .bump .kept .1 .0
 
 same-length-2 : tie.Need-same-length-2
 same-length-2 c =
-    c .before .before .before .before .before .before .before .before .before .path-must .kept .1 .1 .1 .1 .1 .0 ∙ c .before .before .before .before .before .before .before .before .before .before .before .before .before .before .before .before .want3 .kept .1 .1 .1 .1 .1 .0 ∙ c .before .before .before .before .before .before .before .before .before .before .before .before .before .before .before .before .before .before .before .before .before .before .before .want2 .kept .1 .1 .1 .1 .1 .0 ∙ c .before .before .before .before .before .before .before .before .before .before .before .before .before .before .before .before .before .before .before .before .before .before .before .before .before .before .before .before .before .before .want .kept .1 .1 .1 .1 .1 .0
+    c .before .before .before .before .before .before .before .before .before .path-must .kept .1 .1 .1 .1 .1 .0 ∙ c .before .before .before .before .before .before .before .before .before .before .before .before .before .before .before .before .want3 .kept .1 .1 .0 ∙ c .before .before .before .before .before .before .before .before .before .before .before .before .before .before .before .before .before .before .before .before .before .before .before .want2 .kept .1 .1 .0 ∙ c .before .before .before .before .before .before .before .before .before .before .before .before .before .before .before .before .before .before .before .before .before .before .before .before .before .before .before .before .before .before .want .kept .1 .1 .0
 
 returns : tie.Need-returns
 unfolding decl.datatype plan choose chosen
 returns c =
     let pre0 = c .before .before .before .before .before .before .before .before .before .before .before .before .before .before .before .before .before .before .before .before .before .before .before .before .before .before .before .before .before .before .before .before .before .before .before .before .before .before .before .before .before .before .before .before .before .pre .0 in
-    let pre1 = c .before .before .before .before .before .before .before .before .before .before .before .before .before .before .before .before .before .before .before .before .before .before .before .before .before .before .before .before .before .before .before .before .before .before .before .before .before .before .before .before .before .before .before .before .before .pre .1 in
     let bump = c .before .before .before .before .before .before .before .before .before .before .before .before .before .before .before .before .before .before .before .before .before .before .before .before .before .before .before .before .before .before .before .before .before .before .before .before .before .bump .ensures in
     let at-n = c .before .before .before .before .before .before .before .before .before .before .before .before .before .before .before .before .before .before .before .before .before .before .before .before .before .before .before .before .before .before .before .before .before .before .at-n .ensures in
     let if1 = c .before .before .before .before .before .before .before .before .before .before .before .before .before .before .before .before .before .before .before .before .before .before .before .before .before .before .before .before .before .before .before .before .before .if1 .taken in
@@ -96,7 +110,7 @@ returns c =
     let path-must = c .before .before .before .before .before .before .before .before .before .path-must .ensures in
     let state = c .before .before .before .before .state .ensures in
     let close = c .before .before .close .ensures in
-    in-steps pre0 (s-bump bump (s-kind (s-true _ _ (kind-at _ _ _ _ at-n if1) (s-by _ (runs-always want) (s-by _ (runs-always want2) (s-by _ (runs-always want3) (s-by _ (settled state (runs-in path-must)) (s-close close s-end))))))))
+    in-steps pre0 (s-bump bump (s-kind (s-true _ _ (kind-at _ _ _ _ at-n if1) (s-eats _ _ _ want (s-eats _ _ _ want2 (s-eats _ _ _ want3 (s-by _ (settled state (runs-in path-must)) (s-close close s-end))))))))
 
 dat-binds-requires : tie.Need-dat-binds-requires
 dat-binds-requires c κs =
@@ -124,7 +138,6 @@ returns-2 : tie.Need-returns-2
 unfolding decl.datatype plan choose chosen
 returns-2 c =
     let pre0 = c .before .before .before .before .before .before .before .before .before .before .before .before .before .before .before .before .before .before .before .before .before .before .before .pre .0 in
-    let pre1 = c .before .before .before .before .before .before .before .before .before .before .before .before .before .before .before .before .before .before .before .before .before .before .before .pre .1 in
     let bump = c .before .before .before .before .before .before .before .before .before .before .before .before .before .before .before .bump .ensures in
     let at-n = c .before .before .before .before .before .before .before .before .before .before .before .before .at-n .ensures in
     let if1 = c .before .before .before .before .before .before .before .before .before .before .before .if1 .left in

@@ -1,9 +1,9 @@
 -- by tools/prove
-use Rattle.grammar.specs.Dec as decl
-use Rattle.parser.specs.Runs.{runs-in, runs-always}
-use Rattle.parser.specs.Plans.{plan, choose, chosen, by-steps, s-by, settled, s-end}
+use Rattle.parser.specs.Runs.{runs-in}
+use Rattle.parser.specs.Plans.{plan, choose, chosen, by-steps, s-by, s-eats, eats-settled, s-end}
 use native.Mathlib.Omega.{arith}
 use mathlib.Core.Path.{_≡_, refl, _∙_}
+use Rattle.grammar.specs.Dec as decl
 use lib.ListN.{length}
 use borrow.Author.Needs.{needs}
 use Rattle.dat_parts.proofs.ty_name.Statement.{statement}
@@ -28,7 +28,7 @@ eat-requires : tie.Need-eat-requires
 eat-requires c κs =
     let ty-var-seq = rw (c .before .before .before .vars .given .1) at (c .before .before .before .before .before .before .before .before .before .ty-var-seq .ensures) in
     let ty-var-seq-ok = ty-var-seq .ok in
-    (ty-var-seq-ok, omega arith)
+    (ty-var-seq-ok .reads, ty-var-seq-ok .logs, ty-var-seq-ok .holds, omega arith)
 
 enum-known-vars-2 : tie.Need-enum-known-vars-2
 enum-known-vars-2 c =
@@ -39,7 +39,7 @@ eat-requires-2 : tie.Need-eat-requires-2
 eat-requires-2 c κs =
     let ty-var-seq = rw (c .before .before .before .vars2 .given .1) at (c .before .before .before .before .before .before .before .before .before .ty-var-seq .ensures) in
     let ty-var-seq-ok = ty-var-seq .ok in
-    (ty-var-seq-ok, omega arith)
+    (ty-var-seq-ok .reads, ty-var-seq-ok .logs, ty-var-seq-ok .holds, omega arith)
 
 state-requires : tie.Need-state-requires
 state-requires c κs =
@@ -47,11 +47,11 @@ state-requires c κs =
 
 same-length : tie.Need-same-length
 same-length c =
-    c .before .before .before .before .eat .kept .1 .1 .1 .1 .0 ∙ c .before .before .before .before .before .before .before .before .before .before .before .before .before .before .ty-var-seq .kept .1 .1 .1 .1 .0
+    c .before .before .before .before .eat .kept .1 .0 ∙ c .before .before .before .before .before .before .before .before .before .before .before .before .before .before .ty-var-seq .kept .1 .1 .1 .1 .0
 
 same-length-2 : tie.Need-same-length-2
 same-length-2 c =
-    c .before .before .before .before .eat .kept .1 .1 .1 .1 .1 .0 ∙ c .before .before .before .before .before .before .before .before .before .before .before .before .before .before .ty-var-seq .kept .1 .1 .1 .1 .1 .0
+    c .before .before .before .before .eat .kept .1 .1 .0 ∙ c .before .before .before .before .before .before .before .before .before .before .before .before .before .before .ty-var-seq .kept .1 .1 .1 .1 .1 .0
 
 returns : tie.Need-returns
 unfolding decl.tyName plan choose chosen
@@ -59,15 +59,15 @@ returns c =
     let pre0 = c .before .before .before .before .before .before .before .before .before .before .before .before .before .before .before .before .before .before .before .before .before .before .before .pre in
     let ty-var-seq = rw (c .before .before .before .before .before .before .before .before .vars .given .1) at (c .before .before .before .before .before .before .before .before .before .before .before .before .before .before .ty-var-seq .ensures) in
     let eat = c .before .before .before .before .eat .ensures in
-    by-steps pre0 (λ b. s-by _ (runs-in ty-var-seq) (s-by _ (runs-always eat) s-end))
+    by-steps pre0 (λ b. s-by _ (runs-in ty-var-seq) (s-eats _ _ _ eat s-end))
 
 same-length-3 : tie.Need-same-length-3
 same-length-3 c =
-    c .before .before .before .before .before .eat2 .kept .1 .1 .1 .1 .0 ∙ c .before .before .before .before .before .before .before .before .before .before .before .before .before .before .before .ty-var-seq .kept .1 .1 .1 .1 .0
+    c .before .before .before .before .before .eat2 .kept .1 .0 ∙ c .before .before .before .before .before .before .before .before .before .before .before .before .before .before .before .ty-var-seq .kept .1 .1 .1 .1 .0
 
 same-length-4 : tie.Need-same-length-4
 same-length-4 c =
-    c .before .before .before .before .before .eat2 .kept .1 .1 .1 .1 .1 .0 ∙ c .before .before .before .before .before .before .before .before .before .before .before .before .before .before .before .ty-var-seq .kept .1 .1 .1 .1 .1 .0
+    c .before .before .before .before .before .eat2 .kept .1 .1 .0 ∙ c .before .before .before .before .before .before .before .before .before .before .before .before .before .before .before .ty-var-seq .kept .1 .1 .1 .1 .1 .0
 
 returns-2 : tie.Need-returns-2
 unfolding decl.tyName plan choose chosen
@@ -76,7 +76,7 @@ returns-2 c =
     let ty-var-seq = rw (c .before .before .before .before .before .before .before .before .before .vars2 .given .1) at (c .before .before .before .before .before .before .before .before .before .before .before .before .before .before .before .ty-var-seq .ensures) in
     let eat2 = c .before .before .before .before .before .eat2 .ensures in
     let state = c .state .ensures in
-    by-steps pre0 (λ b. s-by _ (runs-in ty-var-seq) (s-by _ (settled state (runs-always eat2)) s-end))
+    by-steps pre0 (λ b. s-by _ (runs-in ty-var-seq) (s-eats _ _ _ (eats-settled state eat2) s-end))
 
 pub ty-name-spec : {M : Type 1} → statement M
 ty-name-spec =

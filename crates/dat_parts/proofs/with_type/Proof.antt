@@ -1,9 +1,9 @@
 -- by tools/prove
-use Rattle.grammar.specs.Util as util
-use Rattle.grammar.specs.Dec as decl
 use Rattle.parser.specs.Runs.{kind-at, kind-off, ok-bumps, ok-marks, small-len}
 use Rattle.parser.specs.Plans.{plan, choose, chosen, by-steps, s-kind, s-true, s-false, s-bump, s-close, s-mark, s-deep, s-run, s-end}
 use mathlib.Core.Path.{_≡_, refl, _∙_}
+use Rattle.grammar.specs.Util as util
+use Rattle.grammar.specs.Dec as decl
 use lib.ListN.{length}
 use borrow.Author.Needs.{needs}
 use Rattle.dat_parts.proofs.with_type.Statement.{statement}

@@ -1,12 +1,12 @@
 -- by tools/prove
-use Rattle.grammar.specs.Dec as decl
 use Rattle.laws.specs.Progress.{sharing-advances}
 use Rattle.parser.specs.View.{mem}
 use Rattle.parser.specs.Runs.{runs-in, Loops, turns, loop-starts, loop-goes, loop-falls, loop-ends}
-use borrow.Author.Needs.{needs}
 use mathlib.Core.Path.{_≡_, refl, _∙_}
-use lib.ListN.{length}
 use mathlib.Core.Bool.{true}
+use Rattle.grammar.specs.Dec as decl
+use borrow.Author.Needs.{needs}
+use lib.ListN.{length}
 use Rattle.dec_parts.proofs.sharing_tails.Statement.{statement}
 use Rattle.dec_parts.proofs.sharing_tails.Tie as tie
 use Rattle.dec_parts.proofs.sharing_tails.Reads as reads

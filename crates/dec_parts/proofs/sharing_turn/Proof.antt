@@ -1,9 +1,9 @@
 -- by tools/prove
+use Rattle.parser.specs.Runs.{kind-at, kind-off, ok-bumps, ok-marks, ok-takes, small-len}
+use Rattle.parser.specs.Plans.{plan, choose, chosen, by-steps, s-kind, s-true, s-false, s-bump, s-close, s-mark, s-deep, s-takes, s-run, s-end}
+use mathlib.Core.Path.{_≡_, refl, _∙_}
 use Rattle.grammar.specs.Util as util
 use Rattle.grammar.specs.Dec as decl
-use Rattle.parser.specs.Runs.{runs-always, kind-at, kind-off, ok-bumps, ok-marks, small-len}
-use Rattle.parser.specs.Plans.{plan, choose, chosen, by-steps, s-kind, s-true, s-false, s-bump, s-close, s-mark, s-deep, s-by, s-run, s-end}
-use mathlib.Core.Path.{_≡_, refl, _∙_}
 use lib.ListN.{length}
 use borrow.Author.Needs.{needs}
 use Rattle.dec_parts.proofs.sharing_turn.Statement.{statement}
@@ -50,30 +50,35 @@ bump-requires c κs =
 
 bump-if-requires : tie.Need-bump-if-requires
 bump-if-requires c κs =
-    let pre0 = c .before .before .before .before .before .before .before .before .before .before .before .before .before .before .before .before .pre in
-    let mark = c .before .before .before .before .before .before .mark .ensures in
+    let pre0 = c .before .before .before .before .before .before .before .before .before .before .before .before .before .before .before .pre in
+    let mark = c .before .before .before .before .before .mark .ensures in
     let mark-ok = ok-marks mark pre0 in
-    let bump = c .before .before .before .before .bump .ensures in
+    let bump = c .before .before .before .bump .ensures in
     let bump-ok = ok-bumps bump mark-ok in
-    bump-ok
+    (bump-ok .reads, bump-ok .logs)
 
 sub-path-eqs : tie.Need-sub-path-eqs
 sub-path-eqs c =
-    let pre0 = c .before .before .before .before .before .before .before .before .before .before .before .before .before .before .before .before .before .before .before .before .before .before .before .pre in
-    let if1 = c .before .before .before .before .before .before .before .before .before .before .before .before .before .before .before .if1 .taken in
-    let if2 = c .before .before .before .before .before .before .before .before .before .before .before .before .before .before .if2 .left in
+    let pre0 = c .before .before .before .before .before .before .before .before .before .before .before .before .before .before .before .before .before .before .before .before .pre in
+    let if1 = c .before .before .before .before .before .before .before .before .before .before .before .before .if1 .taken in
+    let if2 = c .before .before .before .before .before .before .before .before .before .before .before .if2 .left in
     search needs
 
 path-eqs-requires : tie.Need-path-eqs-requires
 path-eqs-requires c κs =
-    let bump-if = c .before .before .before .before .before .before .bump-if .ensures in
-    let bump-if-ok = bump-if .ok in
+    let pre0 = c .before .before .before .before .before .before .before .before .before .before .before .before .before .before .before .before .before .before .before .before .pre in
+    let mark = c .before .before .before .before .before .before .before .before .before .before .mark .ensures in
+    let mark-ok = ok-marks mark pre0 in
+    let bump = c .before .before .before .before .before .before .before .before .bump .ensures in
+    let bump-ok = ok-bumps bump mark-ok in
+    let bump-if = c .before .before .before .before .bump-if .ensures in
+    let bump-if-ok = ok-takes bump-if bump-ok in
     bump-if-ok
 
 close-requires : tie.Need-close-requires
 close-requires c κs =
-    let pre0 = c .before .before .before .before .before .before .before .before .before .before .before .before .before .before .before .before .before .before .before .before .before .before .before .before .before .before .before .before .before .pre in
-    let mark = c .before .before .before .before .before .before .before .before .before .before .before .before .before .before .before .before .before .before .before .mark .ensures in
+    let pre0 = c .before .before .before .before .before .before .before .before .before .before .before .before .before .before .before .before .before .before .before .before .before .before .before .before .before .before .pre in
+    let mark = c .before .before .before .before .before .before .before .before .before .before .before .before .before .before .before .before .mark .ensures in
     let mark-ok = ok-marks mark pre0 in
     let path-eqs = c .before .before .before .before .before .path-eqs .ensures in
     let path-eqs-ok = path-eqs .ok in
@@ -81,25 +86,25 @@ close-requires c κs =
 
 same-length : tie.Need-same-length
 same-length c =
-    c .before .before .close .kept .0 ∙ c .before .before .before .before .before .before .before .before .path-eqs .kept .1 .1 .1 .1 .0 ∙ c .before .before .before .before .before .before .before .before .before .before .before .before .before .before .before .bump-if .kept .1 .1 .1 .1 .0 ∙ c .before .before .before .before .before .before .before .before .before .before .before .before .before .before .before .before .before .before .before .before .bump .kept .1 .0
+    c .before .before .close .kept .0 ∙ c .before .before .before .before .before .before .before .before .path-eqs .kept .1 .1 .1 .1 .0 ∙ c .before .before .before .before .before .before .before .before .before .before .before .before .before .bump-if .kept .1 .0 ∙ c .before .before .before .before .before .before .before .before .before .before .before .before .before .before .before .before .before .bump .kept .1 .0
 
 same-length-2 : tie.Need-same-length-2
 same-length-2 c =
-    c .before .before .before .before .before .before .before .before .path-eqs .kept .1 .1 .1 .1 .1 .0 ∙ c .before .before .before .before .before .before .before .before .before .before .before .before .before .before .before .bump-if .kept .1 .1 .1 .1 .1 .0
+    c .before .before .before .before .before .before .before .before .path-eqs .kept .1 .1 .1 .1 .1 .0
 
 returns-2 : tie.Need-returns-2
 unfolding decl.sharingTurn util.manySep plan choose chosen
 returns-2 c =
-    let pre0 = c .before .before .before .before .before .before .before .before .before .before .before .before .before .before .before .before .before .before .before .before .before .before .before .before .before .before .before .before .before .before .before .before .pre in
-    let at = c .before .before .before .before .before .before .before .before .before .before .before .before .before .before .before .before .before .before .before .before .before .before .before .before .before .at .ensures in
-    let if1 = c .before .before .before .before .before .before .before .before .before .before .before .before .before .before .before .before .before .before .before .before .before .before .before .before .if1 .taken in
-    let if2 = c .before .before .before .before .before .before .before .before .before .before .before .before .before .before .before .before .before .before .before .before .before .before .before .if2 .left in
-    let mark = c .before .before .before .before .before .before .before .before .before .before .before .before .before .before .before .before .before .before .before .before .before .before .mark .ensures in
-    let bump = c .before .before .before .before .before .before .before .before .before .before .before .before .before .before .before .before .before .before .before .before .bump .ensures in
-    let bump-if = c .before .before .before .before .before .before .before .before .before .before .before .before .before .before .before .bump-if .ensures in
+    let pre0 = c .before .before .before .before .before .before .before .before .before .before .before .before .before .before .before .before .before .before .before .before .before .before .before .before .before .before .before .before .before .pre in
+    let at = c .before .before .before .before .before .before .before .before .before .before .before .before .before .before .before .before .before .before .before .before .before .before .at .ensures in
+    let if1 = c .before .before .before .before .before .before .before .before .before .before .before .before .before .before .before .before .before .before .before .before .before .if1 .taken in
+    let if2 = c .before .before .before .before .before .before .before .before .before .before .before .before .before .before .before .before .before .before .before .before .if2 .left in
+    let mark = c .before .before .before .before .before .before .before .before .before .before .before .before .before .before .before .before .before .before .before .mark .ensures in
+    let bump = c .before .before .before .before .before .before .before .before .before .before .before .before .before .before .before .before .before .bump .ensures in
+    let bump-if = c .before .before .before .before .before .before .before .before .before .before .before .before .before .bump-if .ensures in
     let path-eqs = c .before .before .before .before .before .before .before .before .path-eqs .ensures in
     let close = c .before .before .close .ensures in
-    by-steps pre0 (λ b. s-kind (s-true _ _ (kind-at _ _ _ _ at if1) (s-mark if2 mark (s-bump bump (s-by _ (runs-always bump-if) (s-run path-eqs (s-close close s-end)))))))
+    by-steps pre0 (λ b. s-kind (s-true _ _ (kind-at _ _ _ _ at if1) (s-mark if2 mark (s-bump bump (s-takes _ _ _ bump-if (s-run path-eqs (s-close close s-end)))))))
 
 returns-3 : tie.Need-returns-3
 unfolding decl.sharingTurn util.manySep plan choose chosen

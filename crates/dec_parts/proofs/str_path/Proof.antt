@@ -1,8 +1,8 @@
 -- by tools/prove
-use Rattle.grammar.specs.Dec as decl
 use Rattle.parser.specs.Runs.{runs-in, ok-state}
 use Rattle.parser.specs.Plans.{plan, choose, chosen, in-steps, s-close, s-by, settled, s-end}
 use mathlib.Core.Path.{_≡_, refl, _∙_}
+use Rattle.grammar.specs.Dec as decl
 use lib.ListN.{length}
 use borrow.Author.Needs.{needs}
 use Rattle.dec_parts.proofs.str_path.Statement.{statement}
@@ -43,7 +43,6 @@ returns : tie.Need-returns
 unfolding decl.strPath plan choose chosen
 returns c =
     let pre0 = c .before .before .before .before .before .before .before .before .before .before .before .before .before .before .before .before .before .before .pre .0 in
-    let pre1 = c .before .before .before .before .before .before .before .before .before .before .before .before .before .before .before .before .before .before .pre .1 in
     let path-must = c .before .before .before .before .before .before .before .before .before .path-must .ensures in
     let state = c .before .before .before .before .state .ensures in
     let close = c .before .before .close .ensures in

@@ -1,9 +1,9 @@
 -- by tools/prove
-use Rattle.grammar.specs.Dec as decl
-use Rattle.parser.specs.Runs.{runs-in, runs-always, kind-at, kind-off, ok-bumps, ok-state}
-use Rattle.parser.specs.Plans.{plan, choose, chosen, in-steps, s-kind, s-true, s-false, s-bump, s-close, s-by, settled, s-end}
+use Rattle.parser.specs.Runs.{runs-in, kind-at, kind-off, ok-bumps, ok-eats, ok-state}
+use Rattle.parser.specs.Plans.{plan, choose, chosen, in-steps, s-kind, s-true, s-false, s-bump, s-close, s-by, s-eats, settled, s-end}
 use native.Mathlib.Omega.{arith}
 use mathlib.Core.Path.{_≡_, refl, _∙_}
+use Rattle.grammar.specs.Dec as decl
 use lib.ListN.{length}
 use borrow.Author.Needs.{needs}
 use Rattle.dec_parts.proofs.where_tail.Statement.{statement}
@@ -60,12 +60,16 @@ want-requires c κs =
     let path-must-ok = path-must .ok in
     let state2 = c .before .before .state2 .ensures in
     let state2-ok = ok-state state2 path-must-ok in
-    (state2-ok, omega arith)
+    (state2-ok .reads, state2-ok .logs, state2-ok .holds, omega arith)
 
 ty-must-requires : tie.Need-ty-must-requires
 ty-must-requires c κs =
+    let path-must = c .before .before .before .before .before .before .before .before .before .before .before .before .before .before .path-must .ensures in
+    let path-must-ok = path-must .ok in
+    let state2 = c .before .before .before .before .before .before .before .before .before .state2 .ensures in
+    let state2-ok = ok-state state2 path-must-ok in
     let want = c .before .before .before .before .before .before .want .ensures in
-    let want-ok = want .ok in
+    let want-ok = ok-eats want state2-ok in
     want-ok
 
 close-requires : tie.Need-close-requires
@@ -77,17 +81,16 @@ close-requires c κs =
 
 same-length : tie.Need-same-length
 same-length c =
-    c .before .before .close .kept .0 ∙ c .before .before .before .before .before .before .before .before .ty-must .kept .1 .1 .1 .1 .0 ∙ c .before .before .before .before .before .before .before .before .before .before .before .before .before .before .before .want .kept .1 .1 .1 .1 .0 ∙ c .before .before .before .before .before .before .before .before .before .before .before .before .before .before .before .before .before .before .before .before .before .before .before .path-must .kept .1 .1 .1 .1 .0 ∙ c .before .before .before .before .before .before .before .before .before .before .before .before .before .before .before .before .before .before .before .before .before .before .before .before .before .before .before .before .before .before .before .ty-var-seq .kept .1 .1 .1 .1 .0 ∙ c .before .before .before .before .before .before .before .before .before .before .before .before .before .before .before .before .before .before .before .before .before .before .before .before .before .before .before .before .before .before .before .before .before .before .before .before .bump .kept .1 .0
+    c .before .before .close .kept .0 ∙ c .before .before .before .before .before .before .before .before .ty-must .kept .1 .1 .1 .1 .0 ∙ c .before .before .before .before .before .before .before .before .before .before .before .before .before .before .before .want .kept .1 .0 ∙ c .before .before .before .before .before .before .before .before .before .before .before .before .before .before .before .before .before .before .before .before .before .before .before .path-must .kept .1 .1 .1 .1 .0 ∙ c .before .before .before .before .before .before .before .before .before .before .before .before .before .before .before .before .before .before .before .before .before .before .before .before .before .before .before .before .before .before .before .ty-var-seq .kept .1 .1 .1 .1 .0 ∙ c .before .before .before .before .before .before .before .before .before .before .before .before .before .before .before .before .before .before .before .before .before .before .before .before .before .before .before .before .before .before .before .before .before .before .before .before .bump .kept .1 .0
 
 same-length-2 : tie.Need-same-length-2
 same-length-2 c =
-    c .before .before .before .before .before .before .before .before .ty-must .kept .1 .1 .1 .1 .1 .0 ∙ c .before .before .before .before .before .before .before .before .before .before .before .before .before .before .before .want .kept .1 .1 .1 .1 .1 .0 ∙ c .before .before .before .before .before .before .before .before .before .before .before .before .before .before .before .before .before .before .before .before .before .before .before .path-must .kept .1 .1 .1 .1 .1 .0 ∙ c .before .before .before .before .before .before .before .before .before .before .before .before .before .before .before .before .before .before .before .before .before .before .before .before .before .before .before .before .before .before .before .ty-var-seq .kept .1 .1 .1 .1 .1 .0
+    c .before .before .before .before .before .before .before .before .ty-must .kept .1 .1 .1 .1 .1 .0 ∙ c .before .before .before .before .before .before .before .before .before .before .before .before .before .before .before .want .kept .1 .1 .0 ∙ c .before .before .before .before .before .before .before .before .before .before .before .before .before .before .before .before .before .before .before .before .before .before .before .path-must .kept .1 .1 .1 .1 .1 .0 ∙ c .before .before .before .before .before .before .before .before .before .before .before .before .before .before .before .before .before .before .before .before .before .before .before .before .before .before .before .before .before .before .before .ty-var-seq .kept .1 .1 .1 .1 .1 .0
 
 returns : tie.Need-returns
 unfolding decl.whereTail plan choose chosen
 returns c =
     let pre0 = c .before .before .before .before .before .before .before .before .before .before .before .before .before .before .before .before .before .before .before .before .before .before .before .before .before .before .before .before .before .before .before .before .before .before .before .before .before .before .before .before .before .before .before .before .before .before .pre .0 in
-    let pre1 = c .before .before .before .before .before .before .before .before .before .before .before .before .before .before .before .before .before .before .before .before .before .before .before .before .before .before .before .before .before .before .before .before .before .before .before .before .before .before .before .before .before .before .before .before .before .before .pre .1 in
     let at = c .before .before .before .before .before .before .before .before .before .before .before .before .before .before .before .before .before .before .before .before .before .before .before .before .before .before .before .before .before .before .before .before .before .before .before .before .before .before .before .at .ensures in
     let if1 = c .before .before .before .before .before .before .before .before .before .before .before .before .before .before .before .before .before .before .before .before .before .before .before .before .before .before .before .before .before .before .before .before .before .before .before .before .before .before .if1 .taken in
     let bump = c .before .before .before .before .before .before .before .before .before .before .before .before .before .before .before .before .before .before .before .before .before .before .before .before .before .before .before .before .before .before .before .before .before .before .before .before .bump .ensures in
@@ -98,7 +101,7 @@ returns c =
     let want = c .before .before .before .before .before .before .before .before .before .before .before .before .before .before .before .want .ensures in
     let ty-must = c .before .before .before .before .before .before .before .before .ty-must .ensures in
     let close = c .before .before .close .ensures in
-    in-steps pre0 (s-kind (s-true _ _ (kind-at _ _ _ _ at if1) (s-bump bump (s-by _ (settled state (runs-in ty-var-seq)) (s-by _ (settled state2 (runs-in path-must)) (s-by _ (runs-always want) (s-by _ (runs-in ty-must) (s-close close s-end))))))))
+    in-steps pre0 (s-kind (s-true _ _ (kind-at _ _ _ _ at if1) (s-bump bump (s-by _ (settled state (runs-in ty-var-seq)) (s-by _ (settled state2 (runs-in path-must)) (s-eats _ _ _ want (s-by _ (runs-in ty-must) (s-close close s-end))))))))
 
 path-must-requires-2 : tie.Need-path-must-requires-2
 path-must-requires-2 c κs =
@@ -117,12 +120,16 @@ want-requires-2 c κs =
     let path-must2-ok = path-must2 .ok in
     let state3 = c .before .before .state3 .ensures in
     let state3-ok = ok-state state3 path-must2-ok in
-    (state3-ok, omega arith)
+    (state3-ok .reads, state3-ok .logs, state3-ok .holds, omega arith)
 
 path-must-requires-3 : tie.Need-path-must-requires-3
 path-must-requires-3 c κs =
+    let path-must2 = c .before .before .before .before .before .before .before .before .before .before .before .before .before .before .path-must2 .ensures in
+    let path-must2-ok = path-must2 .ok in
+    let state3 = c .before .before .before .before .before .before .before .before .before .state3 .ensures in
+    let state3-ok = ok-state state3 path-must2-ok in
     let want2 = c .before .before .before .before .before .before .want2 .ensures in
-    let want2-ok = want2 .ok in
+    let want2-ok = ok-eats want2 state3-ok in
     want2-ok
 
 state-requires-4 : tie.Need-state-requires-4
@@ -140,17 +147,16 @@ close-requires-2 c κs =
 
 same-length-3 : tie.Need-same-length-3
 same-length-3 c =
-    c .before .before .close2 .kept .0 ∙ c .before .before .before .before .before .before .before .before .before .path-must3 .kept .1 .1 .1 .1 .0 ∙ c .before .before .before .before .before .before .before .before .before .before .before .before .before .before .before .before .want2 .kept .1 .1 .1 .1 .0 ∙ c .before .before .before .before .before .before .before .before .before .before .before .before .before .before .before .before .before .before .before .before .before .before .before .before .path-must2 .kept .1 .1 .1 .1 .0
+    c .before .before .close2 .kept .0 ∙ c .before .before .before .before .before .before .before .before .before .path-must3 .kept .1 .1 .1 .1 .0 ∙ c .before .before .before .before .before .before .before .before .before .before .before .before .before .before .before .before .want2 .kept .1 .0 ∙ c .before .before .before .before .before .before .before .before .before .before .before .before .before .before .before .before .before .before .before .before .before .before .before .before .path-must2 .kept .1 .1 .1 .1 .0
 
 same-length-4 : tie.Need-same-length-4
 same-length-4 c =
-    c .before .before .before .before .before .before .before .before .before .path-must3 .kept .1 .1 .1 .1 .1 .0 ∙ c .before .before .before .before .before .before .before .before .before .before .before .before .before .before .before .before .want2 .kept .1 .1 .1 .1 .1 .0 ∙ c .before .before .before .before .before .before .before .before .before .before .before .before .before .before .before .before .before .before .before .before .before .before .before .before .path-must2 .kept .1 .1 .1 .1 .1 .0
+    c .before .before .before .before .before .before .before .before .before .path-must3 .kept .1 .1 .1 .1 .1 .0 ∙ c .before .before .before .before .before .before .before .before .before .before .before .before .before .before .before .before .want2 .kept .1 .1 .0 ∙ c .before .before .before .before .before .before .before .before .before .before .before .before .before .before .before .before .before .before .before .before .before .before .before .before .path-must2 .kept .1 .1 .1 .1 .1 .0
 
 returns-2 : tie.Need-returns-2
 unfolding decl.whereTail plan choose chosen
 returns-2 c =
     let pre0 = c .before .before .before .before .before .before .before .before .before .before .before .before .before .before .before .before .before .before .before .before .before .before .before .before .before .before .before .before .before .before .before .before .before .before .before .pre .0 in
-    let pre1 = c .before .before .before .before .before .before .before .before .before .before .before .before .before .before .before .before .before .before .before .before .before .before .before .before .before .before .before .before .before .before .before .before .before .before .before .pre .1 in
     let at = c .before .before .before .before .before .before .before .before .before .before .before .before .before .before .before .before .before .before .before .before .before .before .before .before .before .before .before .before .at .ensures in
     let if1 = c .before .before .before .before .before .before .before .before .before .before .before .before .before .before .before .before .before .before .before .before .before .before .before .before .before .before .before .if1 .left in
     let path-must2 = c .before .before .before .before .before .before .before .before .before .before .before .before .before .before .before .before .before .before .before .before .before .before .before .before .path-must2 .ensures in
@@ -159,7 +165,7 @@ returns-2 c =
     let path-must3 = c .before .before .before .before .before .before .before .before .before .path-must3 .ensures in
     let state4 = c .before .before .before .before .state4 .ensures in
     let close2 = c .before .before .close2 .ensures in
-    in-steps pre0 (s-kind (s-false _ _ (kind-off _ _ _ _ at if1) (s-by _ (settled state3 (runs-in path-must2)) (s-by _ (runs-always want2) (s-by _ (settled state4 (runs-in path-must3)) (s-close close2 s-end))))))
+    in-steps pre0 (s-kind (s-false _ _ (kind-off _ _ _ _ at if1) (s-by _ (settled state3 (runs-in path-must2)) (s-eats _ _ _ want2 (s-by _ (settled state4 (runs-in path-must3)) (s-close close2 s-end))))))
 
 pub where-tail-spec : {M : Type 1} → statement M
 where-tail-spec =

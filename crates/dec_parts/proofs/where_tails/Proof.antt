@@ -1,11 +1,11 @@
 -- by tools/prove
-use Rattle.grammar.specs.Dec as decl
 use Rattle.laws.specs.Progress.{sig-step-advances}
 use Rattle.parser.specs.View.{mem}
 use Rattle.parser.specs.Runs.{test-true, test-false, ok-bumps, ok-marks, Loops, turns, loop-starts, loop-goes, loop-falls, loop-ends}
 use Rattle.parser.specs.Plans.{plan, choose, chosen, in-steps, s-look, s-true, s-false, s-bump, s-mark, s-deep, s-by, s-end}
-use borrow.Author.Needs.{needs}
 use mathlib.Core.Path.{_≡_, refl, _∙_}
+use Rattle.grammar.specs.Dec as decl
+use borrow.Author.Needs.{needs}
 use lib.ListN.{length}
 use Rattle.dec_parts.proofs.where_tails.Statement.{statement}
 use Rattle.dec_parts.proofs.where_tails.Tie as tie

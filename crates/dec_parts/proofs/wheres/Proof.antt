@@ -1,7 +1,7 @@
 -- by tools/prove
-use Rattle.grammar.specs.Dec as decl
 use Rattle.parser.specs.Runs.{kind-at, kind-off}
 use Rattle.parser.specs.Plans.{plan, choose, chosen, in-steps, s-kind, s-true, s-false, s-run, s-end}
+use Rattle.grammar.specs.Dec as decl
 use lib.ListN.{length}
 use borrow.Author.Needs.{needs}
 use Rattle.dec_parts.proofs.wheres.Statement.{statement}
@@ -34,7 +34,6 @@ returns : tie.Need-returns
 unfolding decl.wheres plan choose chosen
 returns c =
     let pre0 = c .before .before .before .before .before .before .before .before .before .before .before .before .before .before .before .pre .0 in
-    let pre1 = c .before .before .before .before .before .before .before .before .before .before .before .before .before .before .before .pre .1 in
     let at = c .before .before .before .before .before .before .before .before .at .ensures in
     let if1 = c .before .before .before .before .before .before .before .if1 .taken in
     let where-tails = c .before .before .before .before .where-tails .ensures in
@@ -44,7 +43,6 @@ returns-2 : tie.Need-returns-2
 unfolding decl.wheres plan choose chosen
 returns-2 c =
     let pre0 = c .before .before .before .before .before .before .before .before .pre .0 in
-    let pre1 = c .before .before .before .before .before .before .before .before .pre .1 in
     let at = c .before .at .ensures in
     let if1 = c .if1 .left in
     in-steps pre0 (s-kind (s-false _ _ (kind-off _ _ _ _ at if1) s-end))

@@ -1,8 +1,8 @@
 -- by tools/prove
-use Rattle.grammar.specs.Exp as expr
 use Rattle.parser.specs.Runs.{runs-always, test-true, test-false}
 use Rattle.parser.specs.Plans.{plan, choose, chosen, always, s-true, s-false, s-bump, s-by, s-end}
 use mathlib.Core.Path.{_≡_, refl, _∙_}
+use Rattle.grammar.specs.Exp as expr
 use lib.ListN.{length}
 use borrow.Author.Needs.{needs}
 use Rattle.exp_parts.proofs.keyword.Statement.{statement}

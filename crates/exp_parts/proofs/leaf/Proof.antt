@@ -1,8 +1,8 @@
 -- by tools/prove
-use Rattle.grammar.specs.Exp as expr
 use Rattle.parser.specs.Runs.{runs-in, kind-is, kind-not, test-true, test-false, ok-bumps, ok-state}
 use Rattle.parser.specs.Plans.{plan, choose, chosen, in-steps, s-true, s-false, s-bump, s-close, s-by, settled, s-end}
 use mathlib.Core.Path.{_≡_, refl, _∙_}
+use Rattle.grammar.specs.Exp as expr
 use lib.ListN.{length}
 use borrow.Author.Needs.{needs}
 use Rattle.exp_parts.proofs.leaf.Statement.{statement}
@@ -38,7 +38,6 @@ returns : tie.Need-returns
 unfolding expr.atExpLeaf plan choose chosen
 returns c =
     let pre0 = c .before .before .before .before .before .before .before .before .before .before .before .before .before .before .before .pre .0 in
-    let pre1 = c .before .before .before .before .before .before .before .before .before .before .before .before .before .before .before .pre .1 in
     let if1 = c .before .before .before .before .before .before .before .before .if1 .taken in
     let bump = c .before .before .before .before .before .before .bump .ensures in
     let close = c .before .before .close .ensures in
@@ -65,7 +64,6 @@ returns-2 : tie.Need-returns-2
 unfolding expr.atExpLeaf plan choose chosen
 returns-2 c =
     let pre0 = c .before .before .before .before .before .before .before .before .before .before .before .before .before .before .before .before .pre .0 in
-    let pre1 = c .before .before .before .before .before .before .before .before .before .before .before .before .before .before .before .before .pre .1 in
     let if1 = c .before .before .before .before .before .before .before .before .before .if1 .left in
     let if2 = c .before .before .before .before .before .before .before .before .if2 .taken in
     let bump2 = c .before .before .before .before .before .before .bump2 .ensures in
@@ -97,7 +95,6 @@ returns-3 : tie.Need-returns-3
 unfolding expr.atExpLeaf plan choose chosen
 returns-3 c =
     let pre0 = c .before .before .before .before .before .before .before .before .before .before .before .before .before .before .before .before .before .before .pre .0 in
-    let pre1 = c .before .before .before .before .before .before .before .before .before .before .before .before .before .before .before .before .before .before .pre .1 in
     let if1 = c .before .before .before .before .before .before .before .before .before .before .before .if1 .left in
     let if2 = c .before .before .before .before .before .before .before .before .before .before .if2 .left in
     let s-con = c .before .before .before .before .before .before .before .before .before .s-con .ensures in
@@ -124,7 +121,6 @@ returns-4 : tie.Need-returns-4
 unfolding expr.atExpLeaf plan choose chosen
 returns-4 c =
     let pre0 = c .before .before .before .before .before .before .before .before .before .before .before .before .before .before .before .before .before .before .pre .0 in
-    let pre1 = c .before .before .before .before .before .before .before .before .before .before .before .before .before .before .before .before .before .before .pre .1 in
     let if1 = c .before .before .before .before .before .before .before .before .before .before .before .if1 .left in
     let if2 = c .before .before .before .before .before .before .before .before .before .before .if2 .left in
     let s-con = c .before .before .before .before .before .before .before .before .before .s-con .ensures in
@@ -167,7 +163,6 @@ returns-5 : tie.Need-returns-5
 unfolding expr.atExpLeaf plan choose chosen
 returns-5 c =
     let pre0 = c .before .before .before .before .before .before .before .before .before .before .before .before .before .before .before .before .before .before .before .before .before .before .before .before .before .pre .0 in
-    let pre1 = c .before .before .before .before .before .before .before .before .before .before .before .before .before .before .before .before .before .before .before .before .before .before .before .before .before .pre .1 in
     let if1 = c .before .before .before .before .before .before .before .before .before .before .before .before .before .before .before .before .before .before .if1 .left in
     let if2 = c .before .before .before .before .before .before .before .before .before .before .before .before .before .before .before .before .before .if2 .left in
     let s-con = c .before .before .before .before .before .before .before .before .before .before .before .before .before .before .before .before .s-con .ensures in
@@ -184,7 +179,6 @@ returns-6 : tie.Need-returns-6
 unfolding expr.atExpLeaf plan choose chosen
 returns-6 c =
     let pre0 = c .before .before .before .before .before .before .before .before .before .before .before .before .before .pre .0 in
-    let pre1 = c .before .before .before .before .before .before .before .before .before .before .before .before .before .pre .1 in
     let if1 = c .before .before .before .before .before .before .if1 .left in
     let if2 = c .before .before .before .before .before .if2 .left in
     let s-con = c .before .before .before .before .s-con .ensures in

@@ -1,8 +1,8 @@
 -- by tools/prove
-use Rattle.grammar.specs.Exp as expr
 use Rattle.parser.specs.Runs.{kind-is, kind-not}
 use Rattle.parser.specs.Plans.{plan, choose, chosen, always, s-true, s-false, s-report, s-end}
 use native.Mathlib.Omega.{arith}
+use Rattle.grammar.specs.Exp as expr
 use lib.ListN.{length}
 use borrow.Author.Needs.{needs}
 use Rattle.exp_parts.proofs.need_parens.Statement.{statement}

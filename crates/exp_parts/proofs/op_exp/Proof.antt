@@ -1,8 +1,8 @@
 -- by tools/prove
-use Rattle.grammar.specs.Exp as expr
 use Rattle.parser.specs.Runs.{runs-in, kind-is, kind-not, ok-bumps, ok-state}
 use Rattle.parser.specs.Plans.{plan, choose, chosen, in-steps, s-look, s-true, s-false, s-bump, s-close, s-by, settled, s-end}
 use mathlib.Core.Path.{_≡_, refl, _∙_}
+use Rattle.grammar.specs.Exp as expr
 use lib.ListN.{length}
 use borrow.Author.Needs.{needs}
 use Rattle.exp_parts.proofs.op_exp.Statement.{statement}
@@ -62,7 +62,6 @@ returns : tie.Need-returns
 unfolding expr.opExp plan choose chosen
 returns c =
     let pre0 = c .before .before .before .before .before .before .before .before .before .before .before .before .before .before .before .before .before .before .before .before .before .pre .0 in
-    let pre1 = c .before .before .before .before .before .before .before .before .before .before .before .before .before .before .before .before .before .before .before .before .before .pre .1 in
     let peek-n = rw (c .before .before .before .before .before .before .before .before .before .before .before .before .enum-told .given .1) at (c .before .before .before .before .before .before .before .before .before .before .before .before .before .before .peek-n .ensures) in
     let path-infix = c .before .before .before .before .before .before .before .before .before .path-infix .ensures in
     let state = c .before .before .before .before .state .ensures in
@@ -99,7 +98,6 @@ returns-2 : tie.Need-returns-2
 unfolding expr.opExp plan choose chosen
 returns-2 c =
     let pre0 = c .before .before .before .before .before .before .before .before .before .before .before .before .before .before .before .before .before .before .before .before .before .before .before .pre .0 in
-    let pre1 = c .before .before .before .before .before .before .before .before .before .before .before .before .before .before .before .before .before .before .before .before .before .before .before .pre .1 in
     let peek-n = rw (c .before .before .before .before .before .before .before .before .before .before .before .before .before .before .k .given .1) at (c .before .before .before .before .before .before .before .before .before .before .before .before .before .before .before .before .peek-n .ensures) in
     let if1 = c .before .before .before .before .before .before .before .before .before .before .before .before .if1 .taken in
     let bump = c .before .before .before .before .before .before .before .before .before .before .bump .ensures in
@@ -137,7 +135,6 @@ returns-3 : tie.Need-returns-3
 unfolding expr.opExp plan choose chosen
 returns-3 c =
     let pre0 = c .before .before .before .before .before .before .before .before .before .before .before .before .before .before .before .before .before .before .before .before .before .before .before .before .pre .0 in
-    let pre1 = c .before .before .before .before .before .before .before .before .before .before .before .before .before .before .before .before .before .before .before .before .before .before .before .before .pre .1 in
     let peek-n = rw (c .before .before .before .before .before .before .before .before .before .before .before .before .before .before .before .k .given .1) at (c .before .before .before .before .before .before .before .before .before .before .before .before .before .before .before .before .before .peek-n .ensures) in
     let if1 = c .before .before .before .before .before .before .before .before .before .before .before .before .before .if1 .left in
     let if2 = c .before .before .before .before .before .before .before .before .before .before .before .before .if2 .taken in
@@ -176,7 +173,6 @@ returns-4 : tie.Need-returns-4
 unfolding expr.opExp plan choose chosen
 returns-4 c =
     let pre0 = c .before .before .before .before .before .before .before .before .before .before .before .before .before .before .before .before .before .before .before .before .before .before .before .before .pre .0 in
-    let pre1 = c .before .before .before .before .before .before .before .before .before .before .before .before .before .before .before .before .before .before .before .before .before .before .before .before .pre .1 in
     let peek-n = rw (c .before .before .before .before .before .before .before .before .before .before .before .before .before .before .before .k .given .1) at (c .before .before .before .before .before .before .before .before .before .before .before .before .before .before .before .before .before .peek-n .ensures) in
     let if1 = c .before .before .before .before .before .before .before .before .before .before .before .before .before .if1 .left in
     let if2 = c .before .before .before .before .before .before .before .before .before .before .before .before .if2 .left in

@@ -1,9 +1,9 @@
 -- by tools/prove
-use Rattle.grammar.specs.Exp as expr
 use Rattle.parser.specs.Runs.{kind-at, kind-off, ok-bumps, ok-tells}
 use Rattle.parser.specs.Plans.{plan, choose, chosen, in-steps, s-kind, s-true, s-false, s-bump, s-close, s-report, s-end}
 use native.Mathlib.Omega.{arith}
 use mathlib.Core.Path.{_≡_, refl, _∙_}
+use Rattle.grammar.specs.Exp as expr
 use lib.ListN.{length}
 use borrow.Author.Needs.{needs}
 use Rattle.exp_parts.proofs.paren_end.Statement.{statement}
@@ -41,7 +41,6 @@ returns : tie.Need-returns
 unfolding expr.parenEnd plan choose chosen
 returns c =
     let pre0 = c .before .before .before .before .before .before .before .before .before .before .before .before .before .before .before .before .pre .0 in
-    let pre1 = c .before .before .before .before .before .before .before .before .before .before .before .before .before .before .before .before .pre .1 in
     let at = c .before .before .before .before .before .before .before .before .before .at .ensures in
     let if1 = c .before .before .before .before .before .before .before .before .if1 .taken in
     let bump = c .before .before .before .before .before .before .bump .ensures in
@@ -75,7 +74,6 @@ returns-2 : tie.Need-returns-2
 unfolding expr.parenEnd plan choose chosen
 returns-2 c =
     let pre0 = c .before .before .before .before .before .before .before .before .before .before .before .before .before .before .before .before .pre .0 in
-    let pre1 = c .before .before .before .before .before .before .before .before .before .before .before .before .before .before .before .before .pre .1 in
     let at = c .before .before .before .before .before .before .before .before .before .at .ensures in
     let if1 = c .before .before .before .before .before .before .before .before .if1 .left in
     let report = c .before .before .before .before .before .before .report .ensures in

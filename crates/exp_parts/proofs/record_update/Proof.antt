@@ -1,8 +1,8 @@
 -- by tools/prove
-use Rattle.grammar.specs.Exp as expr
 use Rattle.parser.specs.Runs.{runs-in, kind-at, kind-off, ok-bumps, ok-marks, small-len}
 use Rattle.parser.specs.Plans.{plan, choose, chosen, by-steps, s-kind, s-true, s-false, s-bump, s-close, s-mark, s-deep, s-by, s-end}
 use mathlib.Core.Path.{_≡_, refl, _∙_}
+use Rattle.grammar.specs.Exp as expr
 use lib.ListN.{length}
 use borrow.Author.Needs.{needs}
 use Rattle.exp_parts.proofs.record_update.Statement.{statement}

@@ -1,8 +1,8 @@
 -- by tools/prove
-use Rattle.grammar.specs.Exp as expr
 use Rattle.parser.specs.Runs.{runs-always}
 use Rattle.parser.specs.Plans.{plan, choose, chosen, always, s-refuse, s-by, s-end}
 use mathlib.Core.Path.{sym}
+use Rattle.grammar.specs.Exp as expr
 use lib.ListN.{length}
 use borrow.Author.Needs.{needs}
 use Rattle.exp_parts.proofs.should_break_exp.Statement.{statement}

@@ -1,8 +1,8 @@
 -- by tools/prove
-use Rattle.grammar.specs.Dec as decl
 use Rattle.parser.specs.Runs.{runs-always, ok-bumps}
 use Rattle.parser.specs.Plans.{plan, choose, chosen, in-steps, s-bump, s-close, s-by, s-run, s-end}
 use mathlib.Core.Path.{_≡_, refl, _∙_}
+use Rattle.grammar.specs.Dec as decl
 use lib.ListN.{length}
 use borrow.Author.Needs.{needs}
 use Rattle.fix_parts.proofs.infixr_dec.Statement.{statement}
@@ -16,13 +16,13 @@ use Rattle.parser.proofs.close.Reads as close-reads
 
 bump-requires : tie.Need-bump-requires
 bump-requires c κs =
-    let pre0 = c .before .before .before .before .before .before .before .pre .0 in
+    let pre0 = c .before .before .before .before .before .before .pre .0 in
     (pre0 .reads, pre0 .logs)
 
 fixity-requires : tie.Need-fixity-requires
 fixity-requires c κs =
     let pre0 = c .before .before .before .before .before .before .before .before .before .before .before .before .before .pre .0 in
-    let bump = c .before .before .before .before .before .bump .ensures in
+    let bump = c .before .before .before .before .before .before .bump .ensures in
     let bump-ok = ok-bumps bump pre0 in
     bump-ok
 
@@ -34,31 +34,26 @@ names-requires c κs =
 
 close-requires : tie.Need-close-requires
 close-requires c κs =
-    let pre1 = c .before .before .before .before .before .before .before .before .before .before .before .before .before .before .before .before .before .before .before .before .before .before .before .before .before .before .before .before .pre .1 in
-    let names = c .before .before .before .before .before .names .ensures in
+    let pre1 = c .before .before .before .before .before .before .before .before .before .before .before .before .before .before .before .before .before .before .before .before .before .before .before .before .before .before .pre .1 in
+    let names = c .before .before .before .names .ensures in
     let names-ok = names .ok in
     (names-ok .logs, pre1)
 
 same-length : tie.Need-same-length
 same-length c =
-    c .before .before .before .before .before .before .before .before .names .kept .1 .1 .1 .0
+    c .before .before .close .kept .0 ∙ c .before .before .before .before .before .before .names .kept .1 .1 .1 .1 .0 ∙ c .before .before .before .before .before .before .before .before .before .before .before .before .before .before .before .fixity .kept .1 .1 .1 .1 .0 ∙ c .before .before .before .before .before .before .before .before .before .before .before .before .before .before .before .before .before .before .before .before .before .before .bump .kept .1 .0
 
 same-length-2 : tie.Need-same-length-2
 same-length-2 c =
-    c .before .before .close .kept .0 ∙ c .before .before .before .before .before .before .before .before .names .kept .1 .1 .1 .1 .0 ∙ c .before .before .before .before .before .before .before .before .before .before .before .before .before .before .before .before .before .fixity .kept .1 .1 .1 .1 .0 ∙ c .before .before .before .before .before .before .before .before .before .before .before .before .before .before .before .before .before .before .before .before .before .before .before .bump .kept .1 .0
-
-same-length-3 : tie.Need-same-length-3
-same-length-3 c =
-    c .before .before .before .before .before .before .before .before .before .before .before .before .before .before .before .before .before .fixity .kept .1 .1 .1 .1 .1 .0
+    c .before .before .before .before .before .before .before .before .before .before .before .before .before .before .before .fixity .kept .1 .1 .1 .1 .1 .0
 
 returns : tie.Need-returns
 unfolding decl.infixrDec plan choose chosen
 returns c =
-    let pre0 = c .before .before .before .before .before .before .before .before .before .before .before .before .before .before .before .before .before .before .before .before .before .before .before .before .before .before .before .before .before .before .before .pre .0 in
-    let pre1 = c .before .before .before .before .before .before .before .before .before .before .before .before .before .before .before .before .before .before .before .before .before .before .before .before .before .before .before .before .before .before .before .pre .1 in
-    let bump = c .before .before .before .before .before .before .before .before .before .before .before .before .before .before .before .before .before .before .before .before .before .before .before .bump .ensures in
-    let fixity = c .before .before .before .before .before .before .before .before .before .before .before .before .before .before .before .before .before .fixity .ensures in
-    let names = c .before .before .before .before .before .before .before .before .names .ensures in
+    let pre0 = c .before .before .before .before .before .before .before .before .before .before .before .before .before .before .before .before .before .before .before .before .before .before .before .before .before .before .before .before .before .pre .0 in
+    let bump = c .before .before .before .before .before .before .before .before .before .before .before .before .before .before .before .before .before .before .before .before .before .before .bump .ensures in
+    let fixity = c .before .before .before .before .before .before .before .before .before .before .before .before .before .before .before .fixity .ensures in
+    let names = c .before .before .before .before .before .before .names .ensures in
     let close = c .before .before .close .ensures in
     in-steps pre0 (s-bump bump (s-by _ (runs-always fixity) (s-run names (s-close close s-end))))
 
@@ -72,5 +67,4 @@ infixr-dec-spec =
     close-requires
     same-length
     same-length-2
-    same-length-3
     returns)

@@ -1,12 +1,12 @@
 -- by tools/prove
-use Rattle.grammar.specs.Pat as pats
 use Rattle.laws.specs.Progress.{at-pat-advances}
 use Rattle.parser.specs.View.{mem, errOf}
 use Rattle.parser.specs.Runs.{runs-in, Loops, turns, loop-starts, loop-goes, loop-falls, loop-ends}
-use borrow.Author.Needs.{needs}
 use mathlib.Core.Path.{_≡_, refl, _∙_}
-use lib.ListN.{length}
 use mathlib.Core.Bool.{true}
+use Rattle.grammar.specs.Pat as pats
+use borrow.Author.Needs.{needs}
+use lib.ListN.{length}
 use Rattle.fun_parts.proofs.at_pats.Statement.{statement}
 use Rattle.fun_parts.proofs.at_pats.Tie as tie
 use Rattle.fun_parts.proofs.at_pats.Reads as reads

@@ -1,9 +1,9 @@
 -- by tools/prove
-use Rattle.grammar.specs.Dec as decl
 use Rattle.parser.specs.Runs.{runs-in}
 use Rattle.parser.specs.Plans.{plan, choose, chosen, in-steps, s-close, s-by, s-end}
 use Rattle.parser.specs.Backs.{s-attempt, ok-since as since-ok}
 use mathlib.Core.Path.{_≡_, refl, _∙_}
+use Rattle.grammar.specs.Dec as decl
 use lib.ListN.{length}
 use borrow.Author.Needs.{needs}
 use Rattle.fun_parts.proofs.fun_head.Statement.{statement}
@@ -66,7 +66,6 @@ returns : tie.Need-returns
 unfolding decl.funHead plan choose chosen
 returns c =
     let pre0 = c .before .before .before .before .before .before .before .before .before .before .before .before .before .before .before .before .before .before .before .before .before .before .before .before .pre .0 in
-    let pre1 = c .before .before .before .before .before .before .before .before .before .before .before .before .before .before .before .before .before .before .before .before .before .before .before .before .pre .1 in
     let infix-head = c .before .before .before .before .before .before .before .before .before .before .before .before .before .before .before .infix-head .ensures in
     let ok-since = rw (c .before .before .before .before .before .before .before .before .kept .given .1) at (c .before .before .before .before .before .before .before .before .before .before .ok-since .ensures) in
     let other-head = c .before .before .before .before .other-head .ensures in
@@ -84,7 +83,6 @@ returns-2 : tie.Need-returns-2
 unfolding decl.funHead plan choose chosen
 returns-2 c =
     let pre0 = c .before .before .before .before .before .before .before .before .before .before .before .before .before .before .before .before .before .before .before .before .before .pre .0 in
-    let pre1 = c .before .before .before .before .before .before .before .before .before .before .before .before .before .before .before .before .before .before .before .before .before .pre .1 in
     let infix-head = c .before .before .before .before .before .before .before .before .before .before .before .before .infix-head .ensures in
     let ok-since = rw (c .before .before .before .before .before .kept2 .given .1) at (c .before .before .before .before .before .before .before .ok-since .ensures) in
     let close = c .before .before .close .ensures in

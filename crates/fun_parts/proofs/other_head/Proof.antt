@@ -1,9 +1,9 @@
 -- by tools/prove
-use Rattle.grammar.specs.Dec as decl
-use Rattle.parser.specs.Runs.{runs-in, runs-always, kind-is, kind-not, ok-bumps}
-use Rattle.parser.specs.Plans.{plan, choose, chosen, in-steps, s-look, s-true, s-false, s-bump, s-close, s-by, s-end}
+use Rattle.parser.specs.Runs.{runs-in, runs-always, kind-is, kind-not, ok-bumps, ok-eats}
+use Rattle.parser.specs.Plans.{plan, choose, chosen, in-steps, s-look, s-true, s-false, s-bump, s-close, s-by, s-eats, s-end}
 use native.Mathlib.Omega.{arith}
 use mathlib.Core.Path.{_≡_, refl, _∙_}
+use Rattle.grammar.specs.Dec as decl
 use lib.ListN.{length}
 use borrow.Author.Needs.{needs}
 use Rattle.fun_parts.proofs.other_head.Statement.{statement}
@@ -59,7 +59,6 @@ returns : tie.Need-returns
 unfolding decl.otherHead plan choose chosen
 returns c =
     let pre0 = c .before .before .before .before .before .before .before .before .before .before .before .before .before .before .before .before .before .before .before .before .pre .0 in
-    let pre1 = c .before .before .before .before .before .before .before .before .before .before .before .before .before .before .before .before .before .before .before .before .pre .1 in
     let peek = rw (c .before .before .before .before .before .before .before .before .before .before .before .enum-told .given .1) at (c .before .before .before .before .before .before .before .before .before .before .before .before .before .peek .ensures) in
     let prefix-name = c .before .before .before .before .before .before .before .before .prefix-name .ensures in
     let close = c .before .before .close .ensures in
@@ -83,35 +82,36 @@ want-requires c κs =
     let if1 = c .before .before .before .before .before .before .before .before .before .before .before .before .before .if1 .taken in
     let infix-head = c .before .before .before .before .before .before .infix-head .ensures in
     let infix-head-ok = infix-head .ok in
-    (infix-head-ok, omega arith)
+    (infix-head-ok .reads, infix-head-ok .logs, infix-head-ok .holds, omega arith)
 
 close-requires-2 : tie.Need-close-requires-2
 close-requires-2 c κs =
     let pre1 = c .before .before .before .before .before .before .before .before .before .before .before .before .before .before .before .before .before .before .before .before .before .before .before .before .before .before .before .before .before .before .pre .1 in
+    let infix-head = c .before .before .before .before .before .before .before .before .before .before .before .before .infix-head .ensures in
+    let infix-head-ok = infix-head .ok in
     let want = c .before .before .before .before .before .want .ensures in
-    let want-ok = want .ok in
+    let want-ok = ok-eats want infix-head-ok in
     (want-ok .logs, pre1)
 
 same-length-3 : tie.Need-same-length-3
 same-length-3 c =
-    c .before .before .close2 .kept .0 ∙ c .before .before .before .before .before .before .before .before .want .kept .1 .1 .1 .1 .0 ∙ c .before .before .before .before .before .before .before .before .before .before .before .before .before .before .before .infix-head .kept .1 .1 .1 .1 .0 ∙ c .before .before .before .before .before .before .before .before .before .before .before .before .before .before .before .before .before .before .before .before .bump .kept .1 .0
+    c .before .before .close2 .kept .0 ∙ c .before .before .before .before .before .before .before .before .want .kept .1 .0 ∙ c .before .before .before .before .before .before .before .before .before .before .before .before .before .before .before .infix-head .kept .1 .1 .1 .1 .0 ∙ c .before .before .before .before .before .before .before .before .before .before .before .before .before .before .before .before .before .before .before .before .bump .kept .1 .0
 
 same-length-4 : tie.Need-same-length-4
 same-length-4 c =
-    c .before .before .before .before .before .before .before .before .want .kept .1 .1 .1 .1 .1 .0 ∙ c .before .before .before .before .before .before .before .before .before .before .before .before .before .before .before .infix-head .kept .1 .1 .1 .1 .1 .0
+    c .before .before .before .before .before .before .before .before .want .kept .1 .1 .0 ∙ c .before .before .before .before .before .before .before .before .before .before .before .before .before .before .before .infix-head .kept .1 .1 .1 .1 .1 .0
 
 returns-2 : tie.Need-returns-2
 unfolding decl.otherHead plan choose chosen
 returns-2 c =
     let pre0 = c .before .before .before .before .before .before .before .before .before .before .before .before .before .before .before .before .before .before .before .before .before .before .before .before .before .before .before .before .before .before .before .before .before .pre .0 in
-    let pre1 = c .before .before .before .before .before .before .before .before .before .before .before .before .before .before .before .before .before .before .before .before .before .before .before .before .before .before .before .before .before .before .before .before .before .pre .1 in
     let peek = rw (c .before .before .before .before .before .before .before .before .before .before .before .before .before .before .before .before .before .before .before .before .before .before .before .before .k .given .1) at (c .before .before .before .before .before .before .before .before .before .before .before .before .before .before .before .before .before .before .before .before .before .before .before .before .before .before .peek .ensures) in
     let if1 = c .before .before .before .before .before .before .before .before .before .before .before .before .before .before .before .before .before .before .before .before .before .before .if1 .taken in
     let bump = c .before .before .before .before .before .before .before .before .before .before .before .before .before .before .before .before .before .before .before .before .bump .ensures in
     let infix-head = c .before .before .before .before .before .before .before .before .before .before .before .before .before .before .before .infix-head .ensures in
     let want = c .before .before .before .before .before .before .before .before .want .ensures in
     let close2 = c .before .before .close2 .ensures in
-    in-steps pre0 (s-look peek (s-true _ _ (kind-is if1) (s-bump bump (s-by _ (runs-in infix-head) (s-by _ (runs-always want) (s-close close2 s-end))))))
+    in-steps pre0 (s-look peek (s-true _ _ (kind-is if1) (s-bump bump (s-by _ (runs-in infix-head) (s-eats _ _ _ want (s-close close2 s-end))))))
 
 prefix-op-requires : tie.Need-prefix-op-requires
 prefix-op-requires c κs =
@@ -137,7 +137,6 @@ returns-3 : tie.Need-returns-3
 unfolding decl.otherHead plan choose chosen
 returns-3 c =
     let pre0 = c .before .before .before .before .before .before .before .before .before .before .before .before .before .before .before .before .before .before .before .before .before .before .before .pre .0 in
-    let pre1 = c .before .before .before .before .before .before .before .before .before .before .before .before .before .before .before .before .before .before .before .before .before .before .before .pre .1 in
     let peek = rw (c .before .before .before .before .before .before .before .before .before .before .before .before .before .before .k .given .1) at (c .before .before .before .before .before .before .before .before .before .before .before .before .before .before .before .before .peek .ensures) in
     let if1 = c .before .before .before .before .before .before .before .before .before .before .before .before .if1 .left in
     let if2 = c .before .before .before .before .before .before .before .before .before .before .before .if2 .taken in
@@ -169,7 +168,6 @@ returns-4 : tie.Need-returns-4
 unfolding decl.otherHead plan choose chosen
 returns-4 c =
     let pre0 = c .before .before .before .before .before .before .before .before .before .before .before .before .before .before .before .before .before .before .before .before .before .before .before .pre .0 in
-    let pre1 = c .before .before .before .before .before .before .before .before .before .before .before .before .before .before .before .before .before .before .before .before .before .before .before .pre .1 in
     let peek = rw (c .before .before .before .before .before .before .before .before .before .before .before .before .before .before .k .given .1) at (c .before .before .before .before .before .before .before .before .before .before .before .before .before .before .before .before .peek .ensures) in
     let if1 = c .before .before .before .before .before .before .before .before .before .before .before .before .if1 .left in
     let if2 = c .before .before .before .before .before .before .before .before .before .before .before .if2 .left in

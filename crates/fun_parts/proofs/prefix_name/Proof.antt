@@ -1,8 +1,8 @@
 -- by tools/prove
-use Rattle.grammar.specs.Dec as decl
 use Rattle.parser.specs.Runs.{test-true, test-false, ok-tells, small-index}
 use Rattle.parser.specs.Plans.{plan, choose, chosen, always, s-look, s-index, s-fixed, s-true, s-false, s-bump, s-report, s-end}
 use native.Mathlib.Omega.{arith}
+use Rattle.grammar.specs.Dec as decl
 use lib.ListN.{length}
 use borrow.Author.Needs.{needs}
 use Rattle.fun_parts.proofs.prefix_name.Statement.{statement}

@@ -1,9 +1,9 @@
 -- by tools/prove
-use Rattle.grammar.specs.Dec as decl
 use Rattle.parser.specs.Runs.{test-true, test-false, ok-bumps, ok-tells}
 use Rattle.parser.specs.Plans.{plan, choose, chosen, always, s-look, s-fixed, s-true, s-false, s-bump, s-report, s-end}
 use native.Mathlib.Omega.{arith}
 use mathlib.Core.Path.{_≡_, refl, _∙_}
+use Rattle.grammar.specs.Dec as decl
 use lib.ListN.{length}
 use borrow.Author.Needs.{needs}
 use Rattle.fun_parts.proofs.prefix_op.Statement.{statement}

@@ -1,9 +1,9 @@
 -- by tools/prove
-use Rattle.grammar.specs.Dec as decl
 use Rattle.parser.specs.Runs.{runs-in, kind-at, kind-off, ok-bumps}
 use Rattle.parser.specs.Plans.{plan, choose, chosen, by-steps, s-kind, s-true, s-false, s-bump, s-report, s-by, s-run, s-end}
 use native.Mathlib.Omega.{arith}
 use mathlib.Core.Path.{_≡_, refl, _∙_}
+use Rattle.grammar.specs.Dec as decl
 use lib.ListN.{length}
 use borrow.Author.Needs.{needs}
 use Rattle.fun_parts.proofs.rec_pat.Statement.{statement}

@@ -1,10 +1,10 @@
 -- by tools/prove
-use Rattle.grammar.specs.Dec as decl
 use Rattle.laws.specs.Progress.{attr-turn-advances}
 use Rattle.parser.specs.View.{mem}
 use Rattle.parser.specs.Runs.{kind-at, kind-off, Loops, turns, loop-starts, loop-goes, loop-falls, loop-ends}
 use Rattle.parser.specs.Plans.{plan, choose, chosen, in-steps, s-kind, s-true, s-false, s-bump, s-end}
 use mathlib.Core.Path.{_≡_, refl, _∙_}
+use Rattle.grammar.specs.Dec as decl
 use lib.ListN.{length}
 use Rattle.import_parts.proofs.attrs.Statement.{statement}
 use Rattle.import_parts.proofs.attrs.Tie as tie

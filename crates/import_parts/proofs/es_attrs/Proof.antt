@@ -1,9 +1,9 @@
 -- by tools/prove
-use Rattle.grammar.specs.Dec as decl
-use Rattle.parser.specs.Runs.{runs-always, kind-at, kind-off, ok-bumps, ok-marks, small-len}
-use Rattle.parser.specs.Plans.{plan, choose, chosen, by-steps, s-kind, s-true, s-false, s-bump, s-close, s-mark, s-deep, s-by, s-run, s-end}
+use Rattle.parser.specs.Runs.{kind-at, kind-off, ok-bumps, ok-marks, ok-eats, small-len}
+use Rattle.parser.specs.Plans.{plan, choose, chosen, by-steps, s-kind, s-true, s-false, s-bump, s-close, s-mark, s-deep, s-eats, s-run, s-end}
 use native.Mathlib.Omega.{arith}
 use mathlib.Core.Path.{_≡_, refl, _∙_}
+use Rattle.grammar.specs.Dec as decl
 use lib.ListN.{length}
 use borrow.Author.Needs.{needs}
 use Rattle.import_parts.proofs.es_attrs.Statement.{statement}
@@ -70,24 +70,26 @@ want-requires c κs =
     let if2 = c .before .before .before .before .before .before .before .before .before .before .before .before .if2 .left in
     let attrs = c .before .before .before .before .attrs .ensures in
     let attrs-ok = attrs .ok in
-    (attrs-ok, omega arith)
+    (attrs-ok .reads, attrs-ok .logs, attrs-ok .holds, omega arith)
 
 close-requires : tie.Need-close-requires
 close-requires c κs =
     let pre0 = c .before .before .before .before .before .before .before .before .before .before .before .before .before .before .before .before .before .before .before .before .before .before .before .before .before .before .before .pre in
     let mark = c .before .before .before .before .before .before .before .before .before .before .before .before .before .before .before .before .before .mark .ensures in
     let mark-ok = ok-marks mark pre0 in
+    let attrs = c .before .before .before .before .before .before .before .before .before .before .attrs .ensures in
+    let attrs-ok = attrs .ok in
     let want = c .before .before .before .before .before .want .ensures in
-    let want-ok = want .ok in
+    let want-ok = ok-eats want attrs-ok in
     (want-ok .logs, small-len mark-ok)
 
 same-length : tie.Need-same-length
 same-length c =
-    c .before .before .close .kept .0 ∙ c .before .before .before .before .before .before .before .before .want .kept .1 .1 .1 .1 .0 ∙ c .before .before .before .before .before .before .before .before .before .before .before .before .before .attrs .kept .1 .1 .1 .1 .0 ∙ c .before .before .before .before .before .before .before .before .before .before .before .before .before .before .before .before .before .before .bump .kept .1 .0
+    c .before .before .close .kept .0 ∙ c .before .before .before .before .before .before .before .before .want .kept .1 .0 ∙ c .before .before .before .before .before .before .before .before .before .before .before .before .before .attrs .kept .1 .1 .1 .1 .0 ∙ c .before .before .before .before .before .before .before .before .before .before .before .before .before .before .before .before .before .before .bump .kept .1 .0
 
 same-length-2 : tie.Need-same-length-2
 same-length-2 c =
-    c .before .before .before .before .before .before .before .before .want .kept .1 .1 .1 .1 .1 .0
+    c .before .before .before .before .before .before .before .before .want .kept .1 .1 .0
 
 returns-2 : tie.Need-returns-2
 unfolding decl.esImportAttrs plan choose chosen
@@ -101,7 +103,7 @@ returns-2 c =
     let attrs = c .before .before .before .before .before .before .before .before .before .before .before .before .before .attrs .ensures in
     let want = c .before .before .before .before .before .before .before .before .want .ensures in
     let close = c .before .before .close .ensures in
-    by-steps pre0 (λ b. s-kind (s-true _ _ (kind-at _ _ _ _ at if1) (s-mark if2 mark (s-bump bump (s-run attrs (s-by _ (runs-always want) (s-close close s-end)))))))
+    by-steps pre0 (λ b. s-kind (s-true _ _ (kind-at _ _ _ _ at if1) (s-mark if2 mark (s-bump bump (s-run attrs (s-eats _ _ _ want (s-close close s-end)))))))
 
 returns-3 : tie.Need-returns-3
 unfolding decl.esImportAttrs plan choose chosen

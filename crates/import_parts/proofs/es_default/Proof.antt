@@ -1,8 +1,8 @@
 -- by tools/prove
-use Rattle.grammar.specs.Dec as decl
 use Rattle.parser.specs.Runs.{kind-at, kind-off, ok-bumps}
 use Rattle.parser.specs.Plans.{plan, choose, chosen, always, s-kind, s-true, s-false, s-bump, s-end}
 use mathlib.Core.Path.{_≡_, refl, _∙_}
+use Rattle.grammar.specs.Dec as decl
 use lib.ListN.{length}
 use borrow.Author.Needs.{needs}
 use Rattle.import_parts.proofs.es_default.Statement.{statement}

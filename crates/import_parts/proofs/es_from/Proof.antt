@@ -1,9 +1,9 @@
 -- by tools/prove
 use Rattle.grammar.specs.Bytes.{ascii}
-use Rattle.grammar.specs.Dec as decl
 use Rattle.parser.specs.Runs.{kind-at, kind-off, ok-bumps}
 use Rattle.parser.specs.Plans.{plan, choose, chosen, always, s-says, s-kind, s-true, s-false, s-bump, s-report, s-end}
 use native.Mathlib.Omega.{arith}
+use Rattle.grammar.specs.Dec as decl
 use lib.ListN.{length}
 use borrow.Author.Needs.{needs}
 use Rattle.import_parts.proofs.es_from.Statement.{statement}

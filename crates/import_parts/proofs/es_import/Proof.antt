@@ -1,9 +1,9 @@
 -- by tools/prove
-use Rattle.grammar.specs.Dec as decl
 use Rattle.parser.specs.Runs.{runs-in, runs-always, kind-at, kind-off, ok-bumps}
-use Rattle.parser.specs.Plans.{plan, choose, chosen, by-steps, s-kind, s-true, s-false, s-bump, s-by, s-end}
+use Rattle.parser.specs.Plans.{plan, choose, chosen, by-steps, s-kind, s-true, s-false, s-bump, s-by, s-eats, s-end}
 use native.Mathlib.Omega.{arith}
 use mathlib.Core.Path.{_≡_, refl, _∙_}
+use Rattle.grammar.specs.Dec as decl
 use lib.ListN.{length}
 use borrow.Author.Needs.{needs}
 use Rattle.import_parts.proofs.es_import.Statement.{statement}
@@ -84,15 +84,15 @@ want-requires c κs =
     let if1 = c .before .before .before .before .before .before .before .before .before .before .before .before .before .before .before .before .before .before .before .before .before .before .before .if1 .left in
     let es-from = c .before .before .before .before .before .before .es-from .ensures in
     let es-from-ok = es-from .ok in
-    (es-from-ok, omega arith)
+    (es-from-ok .reads, es-from-ok .logs, es-from-ok .holds, omega arith)
 
 same-length-3 : tie.Need-same-length-3
 same-length-3 c =
-    c .before .before .before .before .want .kept .1 .1 .1 .1 .0 ∙ c .before .before .before .before .before .before .before .before .before .before .before .es-from .kept .1 .1 .1 .1 .0 ∙ c .before .before .before .before .before .before .before .before .before .before .before .before .before .before .before .before .before .before .es-specs .kept .1 .1 .1 .1 .0 ∙ c .before .before .before .before .before .before .before .before .before .before .before .before .before .before .before .before .before .before .before .before .before .before .before .before .before .es-default .kept .1 .1 .1 .1 .0 ∙ c .before .before .before .before .before .before .before .before .before .before .before .before .before .before .before .before .before .before .before .before .before .before .before .before .before .before .before .before .before .before .before .before .before .before .es-attrs .kept .1 .1 .1 .1 .0 ∙ c .before .before .before .before .before .before .before .before .before .before .before .before .before .before .before .before .before .before .before .before .before .before .before .before .before .before .before .before .before .before .before .before .before .before .before .before .before .before .before .bump .kept .1 .0
+    c .before .before .before .before .want .kept .1 .0 ∙ c .before .before .before .before .before .before .before .before .before .before .before .es-from .kept .1 .1 .1 .1 .0 ∙ c .before .before .before .before .before .before .before .before .before .before .before .before .before .before .before .before .before .before .es-specs .kept .1 .1 .1 .1 .0 ∙ c .before .before .before .before .before .before .before .before .before .before .before .before .before .before .before .before .before .before .before .before .before .before .before .before .before .es-default .kept .1 .1 .1 .1 .0 ∙ c .before .before .before .before .before .before .before .before .before .before .before .before .before .before .before .before .before .before .before .before .before .before .before .before .before .before .before .before .before .before .before .before .before .before .es-attrs .kept .1 .1 .1 .1 .0 ∙ c .before .before .before .before .before .before .before .before .before .before .before .before .before .before .before .before .before .before .before .before .before .before .before .before .before .before .before .before .before .before .before .before .before .before .before .before .before .before .before .bump .kept .1 .0
 
 same-length-4 : tie.Need-same-length-4
 same-length-4 c =
-    c .before .before .before .before .want .kept .1 .1 .1 .1 .1 .0 ∙ c .before .before .before .before .before .before .before .before .before .before .before .es-from .kept .1 .1 .1 .1 .1 .0 ∙ c .before .before .before .before .before .before .before .before .before .before .before .before .before .before .before .before .before .before .es-specs .kept .1 .1 .1 .1 .1 .0 ∙ c .before .before .before .before .before .before .before .before .before .before .before .before .before .before .before .before .before .before .before .before .before .before .before .before .before .es-default .kept .1 .1 .1 .1 .1 .0 ∙ c .before .before .before .before .before .before .before .before .before .before .before .before .before .before .before .before .before .before .before .before .before .before .before .before .before .before .before .before .before .before .before .before .before .before .es-attrs .kept .1 .1 .1 .1 .1 .0
+    c .before .before .before .before .want .kept .1 .1 .0 ∙ c .before .before .before .before .before .before .before .before .before .before .before .es-from .kept .1 .1 .1 .1 .1 .0 ∙ c .before .before .before .before .before .before .before .before .before .before .before .before .before .before .before .before .before .before .es-specs .kept .1 .1 .1 .1 .1 .0 ∙ c .before .before .before .before .before .before .before .before .before .before .before .before .before .before .before .before .before .before .before .before .before .before .before .before .before .es-default .kept .1 .1 .1 .1 .1 .0 ∙ c .before .before .before .before .before .before .before .before .before .before .before .before .before .before .before .before .before .before .before .before .before .before .before .before .before .before .before .before .before .before .before .before .before .before .es-attrs .kept .1 .1 .1 .1 .1 .0
 
 returns-2 : tie.Need-returns-2
 unfolding decl.esImport plan choose chosen
@@ -106,7 +106,7 @@ returns-2 c =
     let es-specs = c .before .before .before .before .before .before .before .before .before .before .before .before .before .before .before .before .before .before .es-specs .ensures in
     let es-from = c .before .before .before .before .before .before .before .before .before .before .before .es-from .ensures in
     let want = c .before .before .before .before .want .ensures in
-    by-steps pre0 (λ b. s-bump bump (s-by _ (runs-in es-attrs) (s-kind (s-false _ _ (kind-off _ _ _ _ at if1) (s-by _ (runs-always es-default) (s-by _ (runs-in es-specs) (s-by _ (runs-always es-from) (s-by _ (runs-always want) s-end))))))))
+    by-steps pre0 (λ b. s-bump bump (s-by _ (runs-in es-attrs) (s-kind (s-false _ _ (kind-off _ _ _ _ at if1) (s-by _ (runs-always es-default) (s-by _ (runs-in es-specs) (s-by _ (runs-always es-from) (s-eats _ _ _ want s-end))))))))
 
 pub es-import-spec : {M : Type 1} → statement M
 es-import-spec =

@@ -1,16 +1,16 @@
 -- by tools/prove
+use Rattle.laws.specs.Progress.{end-turn-advances}
+use Rattle.parser.specs.View.{mem}
+use Rattle.parser.specs.Runs.{runs-in, kind-at, kind-off, ok-bumps, ok-adds, ok-marks, ok-refused, small-len, Loops, turns, loop-starts, loop-goes, loop-falls, loop-ends}
+use Rattle.parser.specs.Plans.{plan, choose, chosen, in-steps, s-kind, s-true, s-false, s-bump, s-close, s-mark, s-deep, s-by, s-eats, eats-settled, s-end}
+use native.Mathlib.Omega.{arith}
+use mathlib.Core.Path.{_≡_, refl, _∙_}
+use mathlib.Core.Bool.{true}
 use Rattle.grammar.specs.Util as util
 use Rattle.grammar.specs.Dec as decl
 use Rattle.grammar.specs.SyntaxKind as SK
-use Rattle.laws.specs.Progress.{end-turn-advances}
-use Rattle.parser.specs.View.{mem}
-use Rattle.parser.specs.Runs.{runs-in, runs-always, kind-at, kind-off, ok-bumps, ok-adds, ok-marks, ok-refused, small-len, Loops, turns, loop-starts, loop-goes, loop-falls, loop-ends}
-use Rattle.parser.specs.Plans.{plan, choose, chosen, in-steps, s-kind, s-true, s-false, s-bump, s-close, s-mark, s-deep, s-by, settled, s-end}
 use borrow.Author.Needs.{needs}
-use native.Mathlib.Omega.{arith}
-use mathlib.Core.Path.{_≡_, refl, _∙_}
 use lib.ListN.{length}
-use mathlib.Core.Bool.{true}
 use Rattle.import_parts.proofs.es_list.Statement.{statement}
 use Rattle.import_parts.proofs.es_list.Tie as tie
 use Rattle.import_parts.proofs.es_list.Reads as reads
@@ -74,7 +74,7 @@ eat-requires c κs =
     let if2 = c .before .before .before .if2 .taken in
     let refuse = c .before .before .refuse .ensures in
     let refuse-ok = ok-refused _ refuse inv in
-    (refuse-ok, omega arith)
+    (refuse-ok .reads, refuse-ok .logs, refuse-ok .holds, omega arith)
 
 state-requires : tie.Need-state-requires Inv-loop μ-loop
 state-requires c κs =
@@ -82,11 +82,11 @@ state-requires c κs =
 
 same-length-3 : tie.Need-same-length-3 Inv-loop μ-loop
 same-length-3 c =
-    c .before .before .before .before .before .eat .kept .1 .1 .1 .1 .0 ∙ c .before .before .before .before .before .before .before .before .before .before .before .before .loop .inv .1
+    c .before .before .before .before .before .eat .kept .1 .0 ∙ c .before .before .before .before .before .before .before .before .before .before .before .before .loop .inv .1
 
 same-length-4 : tie.Need-same-length-4 Inv-loop μ-loop
 same-length-4 c =
-    c .before .before .before .before .before .eat .kept .1 .1 .1 .1 .1 .0 ∙ c .before .before .before .before .before .before .before .before .before .before .before .before .loop .inv .2
+    c .before .before .before .before .before .eat .kept .1 .1 .0 ∙ c .before .before .before .before .before .before .before .before .before .before .before .before .loop .inv .2
 
 returns-2 : tie.Need-returns-2 Inv-loop μ-loop
 unfolding util.endTurn util.endItem plan choose chosen
@@ -98,7 +98,7 @@ returns-2 c =
     let refuse = c .before .before .before .before .before .before .before .before .refuse .ensures in
     let eat = c .before .before .before .before .before .eat .ensures in
     let state = c .state .ensures in
-    loop-ends (end-turn-advances true SK.EsImportSpecArg SK.Comma SK.RCurly decl.esImportSpec _ _) inv (in-steps (inv .ok) {n = (c .before .before .before .before .before .before .before .before .before .before .before .before .before .before .before .before .before .before .before .args .left)} {b = (c .before .before .before .before .before .before .before .before .before .before .before .before .before .before .before .before .before .before .before .args .b)} (s-kind (s-false _ _ (kind-off _ _ _ _ at if1) (s-deep if2 refuse (s-by _ (settled state (runs-always eat)) s-end)))))
+    loop-ends (end-turn-advances true SK.EsImportSpecArg SK.Comma SK.RCurly decl.esImportSpec _ _) inv (in-steps (inv .ok) {n = (c .before .before .before .before .before .before .before .before .before .before .before .before .before .before .before .before .before .before .before .args .left)} {b = (c .before .before .before .before .before .before .before .before .before .before .before .before .before .before .before .before .before .before .before .args .b)} (s-kind (s-false _ _ (kind-off _ _ _ _ at if1) (s-deep if2 refuse (s-eats _ _ _ (eats-settled state eat) s-end)))))
 
 mark-requires : tie.Need-mark-requires Inv-loop μ-loop
 mark-requires c κs =
@@ -189,7 +189,7 @@ eat-requires-2 c κs =
     let if3 = c .before .before .before .before .before .before .if3 .left in
     let close2 = c .before .before .before .before .close2 .ensures in
     let close2-ok = ok-adds close2 es-spec-ok in
-    (close2-ok, omega arith)
+    (close2-ok .reads, close2-ok .logs, close2-ok .holds, omega arith)
 
 state-requires-2 : tie.Need-state-requires-2 Inv-loop μ-loop
 state-requires-2 c κs =
@@ -197,11 +197,11 @@ state-requires-2 c κs =
 
 same-length-5 : tie.Need-same-length-5 Inv-loop μ-loop
 same-length-5 c =
-    c .before .before .before .before .before .eat2 .kept .1 .1 .1 .1 .0 ∙ c .before .before .before .before .before .before .before .before .before .before .close2 .kept .0 ∙ c .before .before .before .before .before .before .before .before .before .before .before .before .before .before .before .before .before .before .es-spec .kept .1 .1 .1 .1 .0 ∙ c .before .before .before .before .before .before .before .before .before .before .before .before .before .before .before .before .before .before .before .before .before .before .before .before .before .loop .inv .1
+    c .before .before .before .before .before .eat2 .kept .1 .0 ∙ c .before .before .before .before .before .before .before .before .before .before .close2 .kept .0 ∙ c .before .before .before .before .before .before .before .before .before .before .before .before .before .before .before .before .before .before .es-spec .kept .1 .1 .1 .1 .0 ∙ c .before .before .before .before .before .before .before .before .before .before .before .before .before .before .before .before .before .before .before .before .before .before .before .before .before .loop .inv .1
 
 same-length-6 : tie.Need-same-length-6 Inv-loop μ-loop
 same-length-6 c =
-    c .before .before .before .before .before .eat2 .kept .1 .1 .1 .1 .1 .0 ∙ c .before .before .before .before .before .before .before .before .before .before .before .before .before .before .before .before .before .before .es-spec .kept .1 .1 .1 .1 .1 .0 ∙ c .before .before .before .before .before .before .before .before .before .before .before .before .before .before .before .before .before .before .before .before .before .before .before .before .before .loop .inv .2
+    c .before .before .before .before .before .eat2 .kept .1 .1 .0 ∙ c .before .before .before .before .before .before .before .before .before .before .before .before .before .before .before .before .before .before .es-spec .kept .1 .1 .1 .1 .1 .0 ∙ c .before .before .before .before .before .before .before .before .before .before .before .before .before .before .before .before .before .before .before .before .before .before .before .before .before .loop .inv .2
 
 returns-3 : tie.Need-returns-3 Inv-loop μ-loop
 unfolding util.endTurn util.endItem plan choose chosen
@@ -217,7 +217,7 @@ returns-3 c =
     let close2 = c .before .before .before .before .before .before .before .before .before .before .close2 .ensures in
     let eat2 = c .before .before .before .before .before .eat2 .ensures in
     let state2 = c .state2 .ensures in
-    loop-ends (end-turn-advances true SK.EsImportSpecArg SK.Comma SK.RCurly decl.esImportSpec _ _) inv (in-steps (inv .ok) {n = (c .before .before .before .before .before .before .before .before .before .before .before .before .before .before .before .before .before .before .before .before .before .before .before .before .before .before .before .before .before .before .before .before .args .left)} {b = (c .before .before .before .before .before .before .before .before .before .before .before .before .before .before .before .before .before .before .before .before .before .before .before .before .before .before .before .before .before .before .before .before .args .b)} (s-kind (s-false _ _ (kind-off _ _ _ _ at if1) (s-mark if2 mark (s-by _ (runs-in es-spec) (s-kind (s-false _ _ (kind-off _ _ _ _ at2 if3) (s-close close2 (s-by _ (settled state2 (runs-always eat2)) s-end)))))))))
+    loop-ends (end-turn-advances true SK.EsImportSpecArg SK.Comma SK.RCurly decl.esImportSpec _ _) inv (in-steps (inv .ok) {n = (c .before .before .before .before .before .before .before .before .before .before .before .before .before .before .before .before .before .before .before .before .before .before .before .before .before .before .before .before .before .before .before .before .args .left)} {b = (c .before .before .before .before .before .before .before .before .before .before .before .before .before .before .before .before .before .before .before .before .before .before .before .before .before .before .before .before .before .before .before .before .args .b)} (s-kind (s-false _ _ (kind-off _ _ _ _ at if1) (s-mark if2 mark (s-by _ (runs-in es-spec) (s-kind (s-false _ _ (kind-off _ _ _ _ at2 if3) (s-close close2 (s-eats _ _ _ (eats-settled state2 eat2) s-end)))))))))
 
 pub es-list-spec : {M : Type 1} → statement M
 es-list-spec =

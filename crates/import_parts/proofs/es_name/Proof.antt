@@ -1,8 +1,8 @@
 -- by tools/prove
-use Rattle.grammar.specs.Dec as decl
 use Rattle.parser.specs.Runs.{test-true, test-false}
 use Rattle.parser.specs.Plans.{plan, choose, chosen, always, s-look, s-true, s-false, s-bump, s-report, s-end}
 use native.Mathlib.Omega.{arith}
+use Rattle.grammar.specs.Dec as decl
 use lib.ListN.{length}
 use borrow.Author.Needs.{needs}
 use Rattle.import_parts.proofs.es_name.Statement.{statement}

@@ -8,9 +8,6 @@ use Rattle.listing.proofs.list_answer.Tie as tie
 slice-aggregate-say : tie.Need-slice-aggregate-say
 slice-aggregate-say c = search needs
 
-cast-say : tie.Need-cast-say
-cast-say c = search needs
-
 say-requires : tie.Need-say-requires
 say-requires c κs = search needs
 
@@ -43,7 +40,6 @@ list-answer-spec =
     tie.close
     (tie.spec
     slice-aggregate-say
-    cast-say
     say-requires
     returns
     slice-aggregate-list-nodes

@@ -1,13 +1,9 @@
 -- by tools/prove
 use Rattle.grammar.specs.Rule.{PatPrec as Prec}
-use Rattle.grammar.specs.Util as util
-use Rattle.grammar.specs.Pat as pat
-use Rattle.grammar.specs.Root as root
-use Rattle.grammar.specs.SyntaxKind as SK
 use Rattle.laws.specs.Progress.{end-turn-advances, pat-step-advances}
 use Rattle.parser.specs.View.{mem, errOf}
-use Rattle.parser.specs.Runs.{runs-in, runs-always, kind-at, kind-off, kind-is, kind-not, test-true, test-false, ok-bumps, ok-tells, ok-marks, ok-state, small-len, small-index, Loops, turns, loop-starts, loop-goes, loop-falls, loop-ends}
-use Rattle.parser.specs.Plans.{plan, choose, chosen, in-steps, by-steps, s-rule, s-look, s-index, s-kind, s-fixed, s-true, s-false, s-bump, s-close, s-report, s-mark, s-deep, s-by, s-run, settled, s-end}
+use Rattle.parser.specs.Runs.{runs-in, runs-always, kind-at, kind-off, kind-is, kind-not, test-true, test-false, ok-bumps, ok-tells, ok-marks, ok-eats, ok-state, small-len, small-index, Loops, turns, loop-starts, loop-goes, loop-falls, loop-ends}
+use Rattle.parser.specs.Plans.{plan, choose, chosen, in-steps, by-steps, s-rule, s-look, s-index, s-kind, s-fixed, s-true, s-false, s-bump, s-close, s-report, s-mark, s-deep, s-by, s-eats, s-run, settled, eats-settled, s-end}
 use Rattle.pat_parts.specs.Prec.{precOf}
 use borrow.Author.Needs.{needs}
 use native.Mathlib.Omega.{arith}
@@ -15,6 +11,10 @@ use mathlib.Core.Path.{_≡_, refl, _∙_}
 use lib.ListN.{length}
 use Prim.Native.Nat.{_+_, _-_, _*_}
 use mathlib.Core.Bool.{true}
+use Rattle.grammar.specs.Util as util
+use Rattle.grammar.specs.Pat as pat
+use Rattle.grammar.specs.Root as root
+use Rattle.grammar.specs.SyntaxKind as SK
 use Prim.Native.Nat.{ℕ, _<_}
 use borrow.Fn.Kinds.{In}
 use borrow.Fn.PlainCycle.{Measures, is, falls, and}
@@ -399,96 +399,115 @@ vector-at t = and 6 vector-kinds.ps (is 6 vector-kinds.ps μ-vector t) vector.Pr
 abbrev vector-below : ℕ → In 6 vector-kinds.ps
 vector-below t = and 6 vector-kinds.ps (falls 6 vector-kinds.ps _<_ μ-vector t) vector.Pre
 
-arg-item-refuse-requires : (t : ℕ) → arg-item-lts.Need-refuse-requires (
-  refuse-reads.Asked,
-  refuse-reads.Learnt,
-  mark-reads.Asked,
-  mark-reads.Learnt,
-  pat-must-below t,
-  pat-must.Post,
-  at-reads.Asked,
-  at-reads.Learnt,
-  bump-reads.Asked,
-  bump-reads.Learnt,
-  close-reads.Asked,
-  close-reads.Learnt,
-) (arg-item-at t) arg-item.Post
+-- what the calls of a function ask and say
+abbrev arg-item-told : ℕ → arg-item-lts.Claims
+arg-item-told t = (refuse-reads.Asked, refuse-reads.Learnt, mark-reads.Asked, mark-reads.Learnt, pat-must-below t, pat-must.Post, at-reads.Asked, at-reads.Learnt, bump-reads.Asked, bump-reads.Learnt, close-reads.Asked, close-reads.Learnt)
+
+abbrev arg-turn-told : ℕ → arg-turn-lts.Claims
+arg-turn-told t = (at-reads.Asked, at-reads.Learnt, bump-reads.Asked, bump-reads.Learnt, arg-item-below t, arg-item.Post, eat-reads.Asked, eat-reads.Learnt, state-reads.Asked, state-reads.Learnt)
+
+abbrev args-told : ℕ → args-lts.Claims
+args-told t = (arg-turn-below t, arg-turn.Post)
+
+abbrev as-pat-tl-told : ℕ → as-pat-tl-lts.Claims
+as-pat-tl-told t = (at-reads.Asked, at-reads.Learnt, refuse-reads.Asked, refuse-reads.Learnt, mark-reads.Asked, mark-reads.Learnt, bump-reads.Asked, bump-reads.Learnt, pat-must-below t, pat-must.Post, close-reads.Asked, close-reads.Learnt)
+
+abbrev as-step-told : ℕ → as-step-lts.Claims
+as-step-told t = (is-infix-reads.Asked, is-infix-reads.Learnt, refuse-reads.Asked, refuse-reads.Learnt, mark-reads.Asked, mark-reads.Learnt, as-pat-tl-below t, as-pat-tl.Post, close-reads.Asked, close-reads.Learnt, report-reads.Asked, report-reads.Learnt)
+
+abbrev at-head-told : ℕ → at-head-lts.Claims
+at-head-told t = (s-con-reads.Asked, s-con-reads.Learnt, bump-reads.Asked, bump-reads.Learnt, close-reads.Asked, close-reads.Learnt, path-infix-reads.Asked, path-infix-reads.Learnt, state-reads.Asked, state-reads.Learnt, name-star-reads.Asked, name-star-reads.Learnt, con-path-reads.Asked, con-path-reads.Learnt, rest-below t, rest.Post)
+
+abbrev at-must-told : ℕ → at-must-lts.Claims
+at-must-told t = (at-pat-below t, at-pat.Post, report-reads.Asked, report-reads.Learnt)
+
+abbrev at-pat-told : ℕ → at-pat-lts.Claims
+at-pat-told t = (peek-reads.Asked, peek-reads.Learnt, refuse-reads.Asked, refuse-reads.Learnt, mark-reads.Asked, mark-reads.Learnt, at-head-below t, at-head.Post)
+
+abbrev at-round-told : ℕ → at-round-lts.Claims
+at-round-told t = (at-reads.Asked, at-reads.Learnt, bump-reads.Asked, bump-reads.Learnt, close-reads.Asked, close-reads.Learnt, pat-arg-below t, pat-arg.Post, args-below t, args.Post)
+
+abbrev atom-told : ℕ → atom-lts.Claims
+atom-told t = (at-pat-below t, at-pat.Post, tail-below t, tail.Post)
+
+abbrev con-told : ℕ → con-lts.Claims
+con-told t = (con-head-below t, con-head.Post, tail-below t, tail.Post, op-tail-below t, op-tail.Post)
+
+abbrev con-head-told : ℕ → con-head-lts.Claims
+con-head-told t = (refuse-reads.Asked, refuse-reads.Learnt, mark-reads.Asked, mark-reads.Learnt, con-name-reads.Asked, con-name-reads.Learnt, state-reads.Asked, state-reads.Learnt, con-turn-below t, con-turn.Post)
+
+abbrev con-turn-told : ℕ → con-turn-lts.Claims
+con-turn-told t = (peek-reads.Asked, peek-reads.Learnt, close-reads.Asked, close-reads.Learnt, name-star-reads.Asked, name-star-reads.Learnt, fixity-at-reads.Asked, fixity-at-reads.Learnt, at-must-below t, at-must.Post, con-op-reads.Asked, con-op-reads.Learnt, arg-reads.Asked, arg-reads.Learnt)
+
+abbrev inf-pat-told : ℕ → inf-pat-lts.Claims
+inf-pat-told t = (refuse-reads.Asked, refuse-reads.Learnt, mark-reads.Asked, mark-reads.Learnt, bump-reads.Asked, bump-reads.Learnt, pat-must-below t, pat-must.Post, close-reads.Asked, close-reads.Learnt)
+
+abbrev op-step-told : ℕ → op-step-lts.Claims
+op-step-told t = (fixity-at-reads.Asked, fixity-at-reads.Learnt, index-reads.Asked, index-reads.Learnt, report-reads.Asked, report-reads.Learnt, should-break-pat-reads.Asked, should-break-pat-reads.Learnt, inf-pat-below t, inf-pat.Post)
+
+abbrev op-tail-told : ℕ → op-tail-lts.Claims
+op-tail-told t = (fixity-at-reads.Asked, fixity-at-reads.Learnt, inf-pat-below t, inf-pat.Post)
+
+abbrev or-step-told : ℕ → or-step-lts.Claims
+or-step-told t = (is-min-reads.Asked, is-min-reads.Learnt, refuse-reads.Asked, refuse-reads.Learnt, mark-reads.Asked, mark-reads.Learnt, bump-reads.Asked, bump-reads.Learnt, pat-must-below t, pat-must.Post, close-reads.Asked, close-reads.Learnt)
+
+abbrev pat-arg-told : ℕ → pat-arg-lts.Claims
+pat-arg-told t = (refuse-reads.Asked, refuse-reads.Learnt, mark-reads.Asked, mark-reads.Learnt, pat-must-below t, pat-must.Post, at-reads.Asked, at-reads.Learnt, eat-reads.Asked, eat-reads.Learnt, state-reads.Asked, state-reads.Learnt, close-reads.Asked, close-reads.Learnt)
+
+abbrev pat-must-told : ℕ → pat-must-lts.Claims
+pat-must-told t = (pat-prec-below t, pat-prec.Post, report-reads.Asked, report-reads.Learnt)
+
+abbrev pat-prec-told : ℕ → pat-prec-lts.Claims
+pat-prec-told t = (peek-reads.Asked, peek-reads.Learnt, atom-below t, atom.Post, name-star-reads.Asked, name-star-reads.Learnt, con-below t, con.Post, peek-n-reads.Asked, peek-n-reads.Learnt)
+
+abbrev rest-told : ℕ → rest-lts.Claims
+rest-told t = (bump-reads.Asked, bump-reads.Learnt, rows-below t, rows.Post, close-reads.Asked, close-reads.Learnt, at-round-below t, at-round.Post, args-below t, args.Post, vector-below t, vector.Post)
+
+abbrev row-told : ℕ → row-lts.Claims
+row-told t = (refuse-reads.Asked, refuse-reads.Learnt, mark-reads.Asked, mark-reads.Learnt, at-reads.Asked, at-reads.Learnt, bump-reads.Asked, bump-reads.Learnt, close-reads.Asked, close-reads.Learnt, at-n-reads.Asked, at-n-reads.Learnt, lab-reads.Asked, lab-reads.Learnt, eat-reads.Asked, eat-reads.Learnt, state-reads.Asked, state-reads.Learnt, pat-must-below t, pat-must.Post, eat-name-star-reads.Asked, eat-name-star-reads.Learnt, ty-annotation-reads.Asked, ty-annotation-reads.Learnt, as-pat-tl-below t, as-pat-tl.Post)
+
+abbrev row-item-told : ℕ → row-item-lts.Claims
+row-item-told t = (refuse-reads.Asked, refuse-reads.Learnt, mark-reads.Asked, mark-reads.Learnt, row-below t, row.Post, at-reads.Asked, at-reads.Learnt, bump-reads.Asked, bump-reads.Learnt, close-reads.Asked, close-reads.Learnt)
+
+abbrev row-turn-told : ℕ → row-turn-lts.Claims
+row-turn-told t = (at-reads.Asked, at-reads.Learnt, bump-reads.Asked, bump-reads.Learnt, row-item-below t, row-item.Post, eat-reads.Asked, eat-reads.Learnt, state-reads.Asked, state-reads.Learnt)
+
+abbrev rows-told : ℕ → rows-lts.Claims
+rows-told t = (row-turn-below t, row-turn.Post)
+
+abbrev step-told : ℕ → step-lts.Claims
+step-told t = (peek-reads.Asked, peek-reads.Learnt, name-star-reads.Asked, name-star-reads.Learnt, op-step-below t, op-step.Post, or-step-below t, or-step.Post, ascription-reads.Asked, ascription-reads.Learnt, typed-step-reads.Asked, typed-step-reads.Learnt, as-step-below t, as-step.Post)
+
+abbrev tail-told : ℕ → tail-lts.Claims
+tail-told t = (step-below t, step.Post)
+
+abbrev vector-told : ℕ → vector-lts.Claims
+vector-told t = (refuse-reads.Asked, refuse-reads.Learnt, mark-reads.Asked, mark-reads.Learnt, eat-reads.Asked, eat-reads.Learnt, state-reads.Asked, state-reads.Learnt, args-below t, args.Post, close-reads.Asked, close-reads.Learnt)
+
+arg-item-refuse-requires : (t : ℕ) → arg-item-lts.Need-refuse-requires (arg-item-told t) (arg-item-at t) arg-item.Post
 arg-item-refuse-requires t c κs =
     tt
 
-arg-item-returns : (t : ℕ) → arg-item-lts.Need-returns (
-  refuse-reads.Asked,
-  refuse-reads.Learnt,
-  mark-reads.Asked,
-  mark-reads.Learnt,
-  pat-must-below t,
-  pat-must.Post,
-  at-reads.Asked,
-  at-reads.Learnt,
-  bump-reads.Asked,
-  bump-reads.Learnt,
-  close-reads.Asked,
-  close-reads.Learnt,
-) (arg-item-at t) arg-item.Post
+arg-item-returns : (t : ℕ) → arg-item-lts.Need-returns (arg-item-told t) (arg-item-at t) arg-item.Post
 unfolding util.endItem plan choose chosen
 arg-item-returns t c =
-    let falls = c .before .before .before .before .before .before .before .before .pre .0 in
     let pre0 = c .before .before .before .before .before .before .before .before .pre .1 in
     let if1 = c .before .if1 .taken in
     let refuse = c .refuse .ensures in
     by-steps pre0 (λ b. s-deep if1 refuse s-end)
 
-arg-item-mark-requires : (t : ℕ) → arg-item-lts.Need-mark-requires (
-  refuse-reads.Asked,
-  refuse-reads.Learnt,
-  mark-reads.Asked,
-  mark-reads.Learnt,
-  pat-must-below t,
-  pat-must.Post,
-  at-reads.Asked,
-  at-reads.Learnt,
-  bump-reads.Asked,
-  bump-reads.Learnt,
-  close-reads.Asked,
-  close-reads.Learnt,
-) (arg-item-at t) arg-item.Post
+arg-item-mark-requires : (t : ℕ) → arg-item-lts.Need-mark-requires (arg-item-told t) (arg-item-at t) arg-item.Post
 arg-item-mark-requires t c κs =
     tt
 
-arg-item-sub-pat-must : (t : ℕ) → arg-item-lts.Need-sub-pat-must (
-  refuse-reads.Asked,
-  refuse-reads.Learnt,
-  mark-reads.Asked,
-  mark-reads.Learnt,
-  pat-must-below t,
-  pat-must.Post,
-  at-reads.Asked,
-  at-reads.Learnt,
-  bump-reads.Asked,
-  bump-reads.Learnt,
-  close-reads.Asked,
-  close-reads.Learnt,
-) (arg-item-at t) arg-item.Post
+arg-item-sub-pat-must : (t : ℕ) → arg-item-lts.Need-sub-pat-must (arg-item-told t) (arg-item-at t) arg-item.Post
 arg-item-sub-pat-must t c =
     let falls = c .before .before .before .before .before .before .before .before .before .before .pre .0 in
     let pre0 = c .before .before .before .before .before .before .before .before .before .before .pre .1 in
     let if1 = c .before .before .before .if1 .left in
     search needs
 
-arg-item-pat-must-requires : (t : ℕ) → arg-item-lts.Need-pat-must-requires (
-  refuse-reads.Asked,
-  refuse-reads.Learnt,
-  mark-reads.Asked,
-  mark-reads.Learnt,
-  pat-must-below t,
-  pat-must.Post,
-  at-reads.Asked,
-  at-reads.Learnt,
-  bump-reads.Asked,
-  bump-reads.Learnt,
-  close-reads.Asked,
-  close-reads.Learnt,
-) (arg-item-at t) arg-item.Post
+arg-item-pat-must-requires : (t : ℕ) → arg-item-lts.Need-pat-must-requires (arg-item-told t) (arg-item-at t) arg-item.Post
 arg-item-pat-must-requires t c κs =
     let falls = c .before .before .before .before .before .before .before .before .before .before .pre .0 in
     let pre0 = c .before .before .before .before .before .before .before .before .before .before .pre .1 in
@@ -497,58 +516,19 @@ arg-item-pat-must-requires t c κs =
     let mark-ok = ok-marks mark pre0 in
     (omega arith, mark-ok)
 
-arg-item-at-requires : (t : ℕ) → arg-item-lts.Need-at-requires (
-  refuse-reads.Asked,
-  refuse-reads.Learnt,
-  mark-reads.Asked,
-  mark-reads.Learnt,
-  pat-must-below t,
-  pat-must.Post,
-  at-reads.Asked,
-  at-reads.Learnt,
-  bump-reads.Asked,
-  bump-reads.Learnt,
-  close-reads.Asked,
-  close-reads.Learnt,
-) (arg-item-at t) arg-item.Post
+arg-item-at-requires : (t : ℕ) → arg-item-lts.Need-at-requires (arg-item-told t) (arg-item-at t) arg-item.Post
 arg-item-at-requires t c κs =
     let pat-must = c .before .before .before .before .pat-must .ensures in
     let pat-must-ok = pat-must .ok in
     pat-must-ok .reads
 
-arg-item-bump-requires : (t : ℕ) → arg-item-lts.Need-bump-requires (
-  refuse-reads.Asked,
-  refuse-reads.Learnt,
-  mark-reads.Asked,
-  mark-reads.Learnt,
-  pat-must-below t,
-  pat-must.Post,
-  at-reads.Asked,
-  at-reads.Learnt,
-  bump-reads.Asked,
-  bump-reads.Learnt,
-  close-reads.Asked,
-  close-reads.Learnt,
-) (arg-item-at t) arg-item.Post
+arg-item-bump-requires : (t : ℕ) → arg-item-lts.Need-bump-requires (arg-item-told t) (arg-item-at t) arg-item.Post
 arg-item-bump-requires t c κs =
     let pat-must = c .before .before .before .before .before .before .before .pat-must .ensures in
     let pat-must-ok = pat-must .ok in
     (pat-must-ok .reads, pat-must-ok .logs)
 
-arg-item-close-requires : (t : ℕ) → arg-item-lts.Need-close-requires (
-  refuse-reads.Asked,
-  refuse-reads.Learnt,
-  mark-reads.Asked,
-  mark-reads.Learnt,
-  pat-must-below t,
-  pat-must.Post,
-  at-reads.Asked,
-  at-reads.Learnt,
-  bump-reads.Asked,
-  bump-reads.Learnt,
-  close-reads.Asked,
-  close-reads.Learnt,
-) (arg-item-at t) arg-item.Post
+arg-item-close-requires : (t : ℕ) → arg-item-lts.Need-close-requires (arg-item-told t) (arg-item-at t) arg-item.Post
 arg-item-close-requires t c κs =
     let pre0 = c .before .before .before .before .before .before .before .before .before .before .before .before .before .before .before .before .before .before .before .before .before .before .pre .1 in
     let mark = c .before .before .before .before .before .before .before .before .before .before .before .before .before .before .mark .ensures in
@@ -559,57 +539,17 @@ arg-item-close-requires t c κs =
     let bump-ok = ok-bumps bump pat-must-ok in
     (bump-ok .logs, small-len mark-ok)
 
-arg-item-same-length : (t : ℕ) → arg-item-lts.Need-same-length (
-  refuse-reads.Asked,
-  refuse-reads.Learnt,
-  mark-reads.Asked,
-  mark-reads.Learnt,
-  pat-must-below t,
-  pat-must.Post,
-  at-reads.Asked,
-  at-reads.Learnt,
-  bump-reads.Asked,
-  bump-reads.Learnt,
-  close-reads.Asked,
-  close-reads.Learnt,
-) (arg-item-at t) arg-item.Post
+arg-item-same-length : (t : ℕ) → arg-item-lts.Need-same-length (arg-item-told t) (arg-item-at t) arg-item.Post
 arg-item-same-length t c =
     c .before .before .close .kept .0 ∙ c .before .before .before .before .before .before .bump .kept .1 .0 ∙ c .before .before .before .before .before .before .before .before .before .before .before .before .before .before .pat-must .kept .1 .1 .1 .1 .0
 
-arg-item-same-length-2 : (t : ℕ) → arg-item-lts.Need-same-length-2 (
-  refuse-reads.Asked,
-  refuse-reads.Learnt,
-  mark-reads.Asked,
-  mark-reads.Learnt,
-  pat-must-below t,
-  pat-must.Post,
-  at-reads.Asked,
-  at-reads.Learnt,
-  bump-reads.Asked,
-  bump-reads.Learnt,
-  close-reads.Asked,
-  close-reads.Learnt,
-) (arg-item-at t) arg-item.Post
+arg-item-same-length-2 : (t : ℕ) → arg-item-lts.Need-same-length-2 (arg-item-told t) (arg-item-at t) arg-item.Post
 arg-item-same-length-2 t c =
     c .before .before .before .before .before .before .before .before .before .before .before .before .before .before .pat-must .kept .1 .1 .1 .1 .1 .0
 
-arg-item-returns-2 : (t : ℕ) → arg-item-lts.Need-returns-2 (
-  refuse-reads.Asked,
-  refuse-reads.Learnt,
-  mark-reads.Asked,
-  mark-reads.Learnt,
-  pat-must-below t,
-  pat-must.Post,
-  at-reads.Asked,
-  at-reads.Learnt,
-  bump-reads.Asked,
-  bump-reads.Learnt,
-  close-reads.Asked,
-  close-reads.Learnt,
-) (arg-item-at t) arg-item.Post
+arg-item-returns-2 : (t : ℕ) → arg-item-lts.Need-returns-2 (arg-item-told t) (arg-item-at t) arg-item.Post
 unfolding util.endItem plan choose chosen
 arg-item-returns-2 t c =
-    let falls = c .before .before .before .before .before .before .before .before .before .before .before .before .before .before .before .before .before .before .before .before .before .before .before .before .before .pre .0 in
     let pre0 = c .before .before .before .before .before .before .before .before .before .before .before .before .before .before .before .before .before .before .before .before .before .before .before .before .before .pre .1 in
     let if1 = c .before .before .before .before .before .before .before .before .before .before .before .before .before .before .before .before .before .before .if1 .left in
     let mark = c .before .before .before .before .before .before .before .before .before .before .before .before .before .before .before .before .before .mark .ensures in
@@ -620,20 +560,7 @@ arg-item-returns-2 t c =
     let close = c .before .before .close .ensures in
     by-steps pre0 (λ b. s-mark if1 mark (s-by _ (runs-in pat-must) (s-kind (s-true _ _ (kind-at _ _ _ _ at if2) (s-bump bump (s-close close s-end))))))
 
-arg-item-close-requires-2 : (t : ℕ) → arg-item-lts.Need-close-requires-2 (
-  refuse-reads.Asked,
-  refuse-reads.Learnt,
-  mark-reads.Asked,
-  mark-reads.Learnt,
-  pat-must-below t,
-  pat-must.Post,
-  at-reads.Asked,
-  at-reads.Learnt,
-  bump-reads.Asked,
-  bump-reads.Learnt,
-  close-reads.Asked,
-  close-reads.Learnt,
-) (arg-item-at t) arg-item.Post
+arg-item-close-requires-2 : (t : ℕ) → arg-item-lts.Need-close-requires-2 (arg-item-told t) (arg-item-at t) arg-item.Post
 arg-item-close-requires-2 t c κs =
     let pre0 = c .before .before .before .before .before .before .before .before .before .before .before .before .before .before .before .before .before .before .pre .1 in
     let mark = c .before .before .before .before .before .before .before .before .before .before .mark .ensures in
@@ -642,57 +569,17 @@ arg-item-close-requires-2 t c κs =
     let pat-must-ok = pat-must .ok in
     (pat-must-ok .logs, small-len mark-ok)
 
-arg-item-same-length-3 : (t : ℕ) → arg-item-lts.Need-same-length-3 (
-  refuse-reads.Asked,
-  refuse-reads.Learnt,
-  mark-reads.Asked,
-  mark-reads.Learnt,
-  pat-must-below t,
-  pat-must.Post,
-  at-reads.Asked,
-  at-reads.Learnt,
-  bump-reads.Asked,
-  bump-reads.Learnt,
-  close-reads.Asked,
-  close-reads.Learnt,
-) (arg-item-at t) arg-item.Post
+arg-item-same-length-3 : (t : ℕ) → arg-item-lts.Need-same-length-3 (arg-item-told t) (arg-item-at t) arg-item.Post
 arg-item-same-length-3 t c =
     c .before .before .close2 .kept .0 ∙ c .before .before .before .before .before .before .before .before .before .before .pat-must .kept .1 .1 .1 .1 .0
 
-arg-item-same-length-4 : (t : ℕ) → arg-item-lts.Need-same-length-4 (
-  refuse-reads.Asked,
-  refuse-reads.Learnt,
-  mark-reads.Asked,
-  mark-reads.Learnt,
-  pat-must-below t,
-  pat-must.Post,
-  at-reads.Asked,
-  at-reads.Learnt,
-  bump-reads.Asked,
-  bump-reads.Learnt,
-  close-reads.Asked,
-  close-reads.Learnt,
-) (arg-item-at t) arg-item.Post
+arg-item-same-length-4 : (t : ℕ) → arg-item-lts.Need-same-length-4 (arg-item-told t) (arg-item-at t) arg-item.Post
 arg-item-same-length-4 t c =
     c .before .before .before .before .before .before .before .before .before .before .pat-must .kept .1 .1 .1 .1 .1 .0
 
-arg-item-returns-3 : (t : ℕ) → arg-item-lts.Need-returns-3 (
-  refuse-reads.Asked,
-  refuse-reads.Learnt,
-  mark-reads.Asked,
-  mark-reads.Learnt,
-  pat-must-below t,
-  pat-must.Post,
-  at-reads.Asked,
-  at-reads.Learnt,
-  bump-reads.Asked,
-  bump-reads.Learnt,
-  close-reads.Asked,
-  close-reads.Learnt,
-) (arg-item-at t) arg-item.Post
+arg-item-returns-3 : (t : ℕ) → arg-item-lts.Need-returns-3 (arg-item-told t) (arg-item-at t) arg-item.Post
 unfolding util.endItem plan choose chosen
 arg-item-returns-3 t c =
-    let falls = c .before .before .before .before .before .before .before .before .before .before .before .before .before .before .before .before .before .before .before .before .before .pre .0 in
     let pre0 = c .before .before .before .before .before .before .before .before .before .before .before .before .before .before .before .before .before .before .before .before .before .pre .1 in
     let if1 = c .before .before .before .before .before .before .before .before .before .before .before .before .before .before .if1 .left in
     let mark = c .before .before .before .before .before .before .before .before .before .before .before .before .before .mark .ensures in
@@ -702,87 +589,30 @@ arg-item-returns-3 t c =
     let close2 = c .before .before .close2 .ensures in
     by-steps pre0 (λ b. s-mark if1 mark (s-by _ (runs-in pat-must) (s-kind (s-false _ _ (kind-off _ _ _ _ at if2) (s-close close2 s-end)))))
 
-arg-turn-at-requires : (t : ℕ) → arg-turn-lts.Need-at-requires (
-  at-reads.Asked,
-  at-reads.Learnt,
-  bump-reads.Asked,
-  bump-reads.Learnt,
-  arg-item-below t,
-  arg-item.Post,
-  eat-reads.Asked,
-  eat-reads.Learnt,
-  state-reads.Asked,
-  state-reads.Learnt,
-) (arg-turn-at t) arg-turn.Post
+arg-turn-at-requires : (t : ℕ) → arg-turn-lts.Need-at-requires (arg-turn-told t) (arg-turn-at t) arg-turn.Post
 arg-turn-at-requires t c κs =
     let pre0 = c .before .before .before .before .before .before .pre .1 .0 in
     pre0 .reads
 
-arg-turn-bump-requires : (t : ℕ) → arg-turn-lts.Need-bump-requires (
-  at-reads.Asked,
-  at-reads.Learnt,
-  bump-reads.Asked,
-  bump-reads.Learnt,
-  arg-item-below t,
-  arg-item.Post,
-  eat-reads.Asked,
-  eat-reads.Learnt,
-  state-reads.Asked,
-  state-reads.Learnt,
-) (arg-turn-at t) arg-turn.Post
+arg-turn-bump-requires : (t : ℕ) → arg-turn-lts.Need-bump-requires (arg-turn-told t) (arg-turn-at t) arg-turn.Post
 arg-turn-bump-requires t c κs =
     let pre0 = c .before .before .before .before .before .before .before .before .before .pre .1 .0 in
     (pre0 .reads, pre0 .logs)
 
-arg-turn-same-length : (t : ℕ) → arg-turn-lts.Need-same-length (
-  at-reads.Asked,
-  at-reads.Learnt,
-  bump-reads.Asked,
-  bump-reads.Learnt,
-  arg-item-below t,
-  arg-item.Post,
-  eat-reads.Asked,
-  eat-reads.Learnt,
-  state-reads.Asked,
-  state-reads.Learnt,
-) (arg-turn-at t) arg-turn.Post
+arg-turn-same-length : (t : ℕ) → arg-turn-lts.Need-same-length (arg-turn-told t) (arg-turn-at t) arg-turn.Post
 arg-turn-same-length t c =
     c .before .before .bump .kept .1 .0
 
-arg-turn-returns : (t : ℕ) → arg-turn-lts.Need-returns (
-  at-reads.Asked,
-  at-reads.Learnt,
-  bump-reads.Asked,
-  bump-reads.Learnt,
-  arg-item-below t,
-  arg-item.Post,
-  eat-reads.Asked,
-  eat-reads.Learnt,
-  state-reads.Asked,
-  state-reads.Learnt,
-) (arg-turn-at t) arg-turn.Post
+arg-turn-returns : (t : ℕ) → arg-turn-lts.Need-returns (arg-turn-told t) (arg-turn-at t) arg-turn.Post
 unfolding util.endTurn plan choose chosen
 arg-turn-returns t c =
-    let falls = c .before .before .before .before .before .before .before .before .before .before .before .before .pre .0 in
     let pre0 = c .before .before .before .before .before .before .before .before .before .before .before .before .pre .1 .0 in
-    let pre1 = c .before .before .before .before .before .before .before .before .before .before .before .before .pre .1 .1 in
     let at = c .before .before .before .before .before .at .ensures in
     let if1 = c .before .before .before .before .if1 .taken in
     let bump = c .before .before .bump .ensures in
     by-steps pre0 (λ b. s-kind (s-true _ _ (kind-at _ _ _ _ at if1) (s-bump bump s-end)))
 
-arg-turn-arg-item-requires : (t : ℕ) → arg-turn-lts.Need-arg-item-requires (
-  at-reads.Asked,
-  at-reads.Learnt,
-  bump-reads.Asked,
-  bump-reads.Learnt,
-  arg-item-below t,
-  arg-item.Post,
-  eat-reads.Asked,
-  eat-reads.Learnt,
-  state-reads.Asked,
-  state-reads.Learnt,
-) (arg-turn-at t) arg-turn.Post
+arg-turn-arg-item-requires : (t : ℕ) → arg-turn-lts.Need-arg-item-requires (arg-turn-told t) (arg-turn-at t) arg-turn.Post
 arg-turn-arg-item-requires t c κs =
     let falls = c .before .before .before .before .before .before .before .before .before .before .pre .0 in
     let pre0 = c .before .before .before .before .before .before .before .before .before .before .pre .1 .0 in
@@ -790,18 +620,7 @@ arg-turn-arg-item-requires t c κs =
     let if1 = c .before .before .if1 .left in
     (omega arith, pre0)
 
-arg-turn-enum-known-item : (t : ℕ) → arg-turn-lts.Need-enum-known-item (
-  at-reads.Asked,
-  at-reads.Learnt,
-  bump-reads.Asked,
-  bump-reads.Learnt,
-  arg-item-below t,
-  arg-item.Post,
-  eat-reads.Asked,
-  eat-reads.Learnt,
-  state-reads.Asked,
-  state-reads.Learnt,
-) (arg-turn-at t) arg-turn.Post
+arg-turn-enum-known-item : (t : ℕ) → arg-turn-lts.Need-enum-known-item (arg-turn-told t) (arg-turn-at t) arg-turn.Post
 arg-turn-enum-known-item t c =
     let falls = c .before .before .before .before .before .before .before .before .before .before .before .before .before .before .before .before .pre .0 in
     let pre0 = c .before .before .before .before .before .before .before .before .before .before .before .before .before .before .before .before .pre .1 .0 in
@@ -809,18 +628,7 @@ arg-turn-enum-known-item t c =
     let if1 = c .before .before .before .before .before .before .before .before .if1 .left in
     search needs
 
-arg-turn-enum-known-item-2 : (t : ℕ) → arg-turn-lts.Need-enum-known-item-2 (
-  at-reads.Asked,
-  at-reads.Learnt,
-  bump-reads.Asked,
-  bump-reads.Learnt,
-  arg-item-below t,
-  arg-item.Post,
-  eat-reads.Asked,
-  eat-reads.Learnt,
-  state-reads.Asked,
-  state-reads.Learnt,
-) (arg-turn-at t) arg-turn.Post
+arg-turn-enum-known-item-2 : (t : ℕ) → arg-turn-lts.Need-enum-known-item-2 (arg-turn-told t) (arg-turn-at t) arg-turn.Post
 arg-turn-enum-known-item-2 t c =
     let falls = c .before .before .before .before .before .before .before .before .before .before .before .before .before .before .before .before .pre .0 in
     let pre0 = c .before .before .before .before .before .before .before .before .before .before .before .before .before .before .before .before .pre .1 .0 in
@@ -828,18 +636,7 @@ arg-turn-enum-known-item-2 t c =
     let if1 = c .before .before .before .before .before .before .before .before .if1 .left in
     search needs
 
-arg-turn-eat-requires : (t : ℕ) → arg-turn-lts.Need-eat-requires (
-  at-reads.Asked,
-  at-reads.Learnt,
-  bump-reads.Asked,
-  bump-reads.Learnt,
-  arg-item-below t,
-  arg-item.Post,
-  eat-reads.Asked,
-  eat-reads.Learnt,
-  state-reads.Asked,
-  state-reads.Learnt,
-) (arg-turn-at t) arg-turn.Post
+arg-turn-eat-requires : (t : ℕ) → arg-turn-lts.Need-eat-requires (arg-turn-told t) (arg-turn-at t) arg-turn.Post
 arg-turn-eat-requires t c κs =
     let falls = c .before .before .before .before .before .before .before .before .before .before .before .before .before .before .before .before .before .before .before .before .pre .0 in
     let pre1 = c .before .before .before .before .before .before .before .before .before .before .before .before .before .before .before .before .before .before .before .before .pre .1 .1 in
@@ -847,128 +644,47 @@ arg-turn-eat-requires t c κs =
     let if1 = c .before .before .before .before .before .before .before .before .before .before .before .before .if1 .left in
     let arg-item = rw (c .before .before .before .item2 .given .1) at (c .before .before .before .before .before .before .before .before .before .arg-item .ensures) in
     let arg-item-ok = arg-item .ok in
-    (arg-item-ok, omega arith)
+    (arg-item-ok .reads, arg-item-ok .logs, arg-item-ok .holds, omega arith)
 
-arg-turn-state-requires : (t : ℕ) → arg-turn-lts.Need-state-requires (
-  at-reads.Asked,
-  at-reads.Learnt,
-  bump-reads.Asked,
-  bump-reads.Learnt,
-  arg-item-below t,
-  arg-item.Post,
-  eat-reads.Asked,
-  eat-reads.Learnt,
-  state-reads.Asked,
-  state-reads.Learnt,
-) (arg-turn-at t) arg-turn.Post
+arg-turn-state-requires : (t : ℕ) → arg-turn-lts.Need-state-requires (arg-turn-told t) (arg-turn-at t) arg-turn.Post
 arg-turn-state-requires t c κs =
     tt
 
-arg-turn-same-length-2 : (t : ℕ) → arg-turn-lts.Need-same-length-2 (
-  at-reads.Asked,
-  at-reads.Learnt,
-  bump-reads.Asked,
-  bump-reads.Learnt,
-  arg-item-below t,
-  arg-item.Post,
-  eat-reads.Asked,
-  eat-reads.Learnt,
-  state-reads.Asked,
-  state-reads.Learnt,
-) (arg-turn-at t) arg-turn.Post
+arg-turn-same-length-2 : (t : ℕ) → arg-turn-lts.Need-same-length-2 (arg-turn-told t) (arg-turn-at t) arg-turn.Post
 arg-turn-same-length-2 t c =
     c .before .before .before .before .before .before .before .arg-item .kept .1 .1 .1 .1 .0
 
-arg-turn-same-length-3 : (t : ℕ) → arg-turn-lts.Need-same-length-3 (
-  at-reads.Asked,
-  at-reads.Learnt,
-  bump-reads.Asked,
-  bump-reads.Learnt,
-  arg-item-below t,
-  arg-item.Post,
-  eat-reads.Asked,
-  eat-reads.Learnt,
-  state-reads.Asked,
-  state-reads.Learnt,
-) (arg-turn-at t) arg-turn.Post
+arg-turn-same-length-3 : (t : ℕ) → arg-turn-lts.Need-same-length-3 (arg-turn-told t) (arg-turn-at t) arg-turn.Post
 arg-turn-same-length-3 t c =
     c .before .before .before .before .before .before .before .arg-item .kept .1 .1 .1 .1 .1 .0
 
-arg-turn-returns-2 : (t : ℕ) → arg-turn-lts.Need-returns-2 (
-  at-reads.Asked,
-  at-reads.Learnt,
-  bump-reads.Asked,
-  bump-reads.Learnt,
-  arg-item-below t,
-  arg-item.Post,
-  eat-reads.Asked,
-  eat-reads.Learnt,
-  state-reads.Asked,
-  state-reads.Learnt,
-) (arg-turn-at t) arg-turn.Post
+arg-turn-returns-2 : (t : ℕ) → arg-turn-lts.Need-returns-2 (arg-turn-told t) (arg-turn-at t) arg-turn.Post
 unfolding util.endTurn plan choose chosen
 arg-turn-returns-2 t c =
-    let falls = c .before .before .before .before .before .before .before .before .before .before .before .before .before .before .before .before .before .before .pre .0 in
     let pre0 = c .before .before .before .before .before .before .before .before .before .before .before .before .before .before .before .before .before .before .pre .1 .0 in
-    let pre1 = c .before .before .before .before .before .before .before .before .before .before .before .before .before .before .before .before .before .before .pre .1 .1 in
     let at = c .before .before .before .before .before .before .before .before .before .before .before .at .ensures in
     let if1 = c .before .before .before .before .before .before .before .before .before .before .if1 .left in
     let arg-item = rw (c .before .item .given .1) at (c .before .before .before .before .before .before .before .arg-item .ensures) in
     by-steps pre0 (λ b. s-kind (s-false _ _ (kind-off _ _ _ _ at if1) (s-by _ (runs-in arg-item) s-end)))
 
-arg-turn-same-length-4 : (t : ℕ) → arg-turn-lts.Need-same-length-4 (
-  at-reads.Asked,
-  at-reads.Learnt,
-  bump-reads.Asked,
-  bump-reads.Learnt,
-  arg-item-below t,
-  arg-item.Post,
-  eat-reads.Asked,
-  eat-reads.Learnt,
-  state-reads.Asked,
-  state-reads.Learnt,
-) (arg-turn-at t) arg-turn.Post
+arg-turn-same-length-4 : (t : ℕ) → arg-turn-lts.Need-same-length-4 (arg-turn-told t) (arg-turn-at t) arg-turn.Post
 arg-turn-same-length-4 t c =
-    c .before .before .before .before .before .eat .kept .1 .1 .1 .1 .0 ∙ c .before .before .before .before .before .before .before .before .before .before .before .before .before .before .before .arg-item .kept .1 .1 .1 .1 .0
+    c .before .before .before .before .before .eat .kept .1 .0 ∙ c .before .before .before .before .before .before .before .before .before .before .before .before .before .before .before .arg-item .kept .1 .1 .1 .1 .0
 
-arg-turn-same-length-5 : (t : ℕ) → arg-turn-lts.Need-same-length-5 (
-  at-reads.Asked,
-  at-reads.Learnt,
-  bump-reads.Asked,
-  bump-reads.Learnt,
-  arg-item-below t,
-  arg-item.Post,
-  eat-reads.Asked,
-  eat-reads.Learnt,
-  state-reads.Asked,
-  state-reads.Learnt,
-) (arg-turn-at t) arg-turn.Post
+arg-turn-same-length-5 : (t : ℕ) → arg-turn-lts.Need-same-length-5 (arg-turn-told t) (arg-turn-at t) arg-turn.Post
 arg-turn-same-length-5 t c =
-    c .before .before .before .before .before .eat .kept .1 .1 .1 .1 .1 .0 ∙ c .before .before .before .before .before .before .before .before .before .before .before .before .before .before .before .arg-item .kept .1 .1 .1 .1 .1 .0
+    c .before .before .before .before .before .eat .kept .1 .1 .0 ∙ c .before .before .before .before .before .before .before .before .before .before .before .before .before .before .before .arg-item .kept .1 .1 .1 .1 .1 .0
 
-arg-turn-returns-3 : (t : ℕ) → arg-turn-lts.Need-returns-3 (
-  at-reads.Asked,
-  at-reads.Learnt,
-  bump-reads.Asked,
-  bump-reads.Learnt,
-  arg-item-below t,
-  arg-item.Post,
-  eat-reads.Asked,
-  eat-reads.Learnt,
-  state-reads.Asked,
-  state-reads.Learnt,
-) (arg-turn-at t) arg-turn.Post
+arg-turn-returns-3 : (t : ℕ) → arg-turn-lts.Need-returns-3 (arg-turn-told t) (arg-turn-at t) arg-turn.Post
 unfolding util.endTurn plan choose chosen
 arg-turn-returns-3 t c =
-    let falls = c .before .before .before .before .before .before .before .before .before .before .before .before .before .before .before .before .before .before .before .before .before .before .before .before .before .before .pre .0 in
     let pre0 = c .before .before .before .before .before .before .before .before .before .before .before .before .before .before .before .before .before .before .before .before .before .before .before .before .before .before .pre .1 .0 in
-    let pre1 = c .before .before .before .before .before .before .before .before .before .before .before .before .before .before .before .before .before .before .before .before .before .before .before .before .before .before .pre .1 .1 in
     let at = c .before .before .before .before .before .before .before .before .before .before .before .before .before .before .before .before .before .before .before .at .ensures in
     let if1 = c .before .before .before .before .before .before .before .before .before .before .before .before .before .before .before .before .before .before .if1 .left in
     let arg-item = rw (c .before .before .before .before .before .before .before .before .before .item2 .given .1) at (c .before .before .before .before .before .before .before .before .before .before .before .before .before .before .before .arg-item .ensures) in
     let eat = c .before .before .before .before .before .eat .ensures in
     let state = c .state .ensures in
-    by-steps pre0 (λ b. s-kind (s-false _ _ (kind-off _ _ _ _ at if1) (s-by _ (runs-in arg-item) (s-by _ (settled state (runs-always eat)) s-end))))
+    by-steps pre0 (λ b. s-kind (s-false _ _ (kind-off _ _ _ _ at if1) (s-by _ (runs-in arg-item) (s-eats _ _ _ (eats-settled state eat) s-end))))
 
 abbrev args-Inv-loop : args-lts.InvT-loop
 args-Inv-loop text toks env table scratch₀ finds₀ left end e b s1₀ scratch finds s1 =
@@ -979,10 +695,7 @@ args-μ-loop text toks env table scratch₀ finds₀ left end e b s1₀ scratch 
 
 args-loop-holds :
     (t : ℕ) →
-    args-lts.Need-loop-holds
-    (arg-turn-below t, arg-turn.Post)
-    (args-at t)
-    args.Post
+    args-lts.Need-loop-holds (args-told t) (args-at t) args.Post
     args-Inv-loop
     args-μ-loop
 args-loop-holds t c =
@@ -991,10 +704,7 @@ args-loop-holds t c =
     let pre1 = c .before .before .before .before .before .before .pre .1 .1 in
     (loop-starts pre0, refl, refl)
 
-args-arg-turn-requires : (t : ℕ) → args-lts.Need-arg-turn-requires (
-  arg-turn-below t,
-  arg-turn.Post,
-) (args-at t) args.Post args-Inv-loop args-μ-loop
+args-arg-turn-requires : (t : ℕ) → args-lts.Need-arg-turn-requires (args-told t) (args-at t) args.Post args-Inv-loop args-μ-loop
 args-arg-turn-requires t c κs =
     let falls = c .before .before .before .before .before .before .before .before .before .pre .0 in
     let pre1 = c .before .before .before .before .before .before .before .before .before .pre .1 .1 in
@@ -1003,10 +713,7 @@ args-arg-turn-requires t c κs =
 
 args-enum-known-turn :
     (t : ℕ) →
-    args-lts.Need-enum-known-turn
-    (arg-turn-below t, arg-turn.Post)
-    (args-at t)
-    args.Post
+    args-lts.Need-enum-known-turn (args-told t) (args-at t) args.Post
     args-Inv-loop
     args-μ-loop
 args-enum-known-turn t c =
@@ -1017,10 +724,7 @@ args-enum-known-turn t c =
 
 args-loop-less :
     (t : ℕ) →
-    args-lts.Need-loop-less
-    (arg-turn-below t, arg-turn.Post)
-    (args-at t)
-    args.Post
+    args-lts.Need-loop-less (args-told t) (args-at t) args.Post
     args-Inv-loop
     args-μ-loop
 args-loop-less t c =
@@ -1029,10 +733,7 @@ args-loop-less t c =
 
 args-loop-again :
     (t : ℕ) →
-    args-lts.Need-loop-again
-    (arg-turn-below t, arg-turn.Post)
-    (args-at t)
-    args.Post
+    args-lts.Need-loop-again (args-told t) (args-at t) args.Post
     args-Inv-loop
     args-μ-loop
 args-loop-again t c =
@@ -1040,10 +741,7 @@ args-loop-again t c =
     let arg-turn = rw (c .before .turn .given .1) at (c .before .before .before .before .before .before .before .arg-turn .ensures) in
     (loop-goes (end-turn-advances true _ _ _ _ _ _) inv (runs-in arg-turn), c .before .before .before .before .before .before .before .arg-turn .kept .1 .1 .1 .1 .0 ∙ c .before .before .before .before .before .before .before .before .before .before .loop .inv .1, c .before .before .before .before .before .before .before .arg-turn .kept .1 .1 .1 .1 .1 .0 ∙ c .before .before .before .before .before .before .before .before .before .before .loop .inv .2)
 
-args-enum-known-turn-2 : (t : ℕ) → args-lts.Need-enum-known-turn-2 (
-  arg-turn-below t,
-  arg-turn.Post,
-) (args-at t) args.Post args-Inv-loop args-μ-loop
+args-enum-known-turn-2 : (t : ℕ) → args-lts.Need-enum-known-turn-2 (args-told t) (args-at t) args.Post args-Inv-loop args-μ-loop
 args-enum-known-turn-2 t c =
     let falls = c .before .before .before .before .before .before .before .before .before .before .before .before .before .before .before .pre .0 in
     let pre0 = c .before .before .before .before .before .before .before .before .before .before .before .before .before .before .before .pre .1 .0 in
@@ -1052,10 +750,7 @@ args-enum-known-turn-2 t c =
 
 args-same-length :
     (t : ℕ) →
-    args-lts.Need-same-length
-    (arg-turn-below t, arg-turn.Post)
-    (args-at t)
-    args.Post
+    args-lts.Need-same-length (args-told t) (args-at t) args.Post
     args-Inv-loop
     args-μ-loop
 args-same-length t c =
@@ -1063,10 +758,7 @@ args-same-length t c =
 
 args-same-length-2 :
     (t : ℕ) →
-    args-lts.Need-same-length-2
-    (arg-turn-below t, arg-turn.Post)
-    (args-at t)
-    args.Post
+    args-lts.Need-same-length-2 (args-told t) (args-at t) args.Post
     args-Inv-loop
     args-μ-loop
 args-same-length-2 t c =
@@ -1074,10 +766,7 @@ args-same-length-2 t c =
 
 args-returns :
     (t : ℕ) →
-    args-lts.Need-returns
-    (arg-turn-below t, arg-turn.Post)
-    (args-at t)
-    args.Post
+    args-lts.Need-returns (args-told t) (args-at t) args.Post
     args-Inv-loop
     args-μ-loop
 args-returns t c =
@@ -1085,58 +774,18 @@ args-returns t c =
     let arg-turn = rw (c .before .turn2 .given .1) at (c .before .before .before .before .before .before .before .arg-turn .ensures) in
     loop-ends (end-turn-advances true _ _ _ _ _ _) inv (runs-in arg-turn)
 
-as-pat-tl-at-requires : (t : ℕ) → as-pat-tl-lts.Need-at-requires (
-  at-reads.Asked,
-  at-reads.Learnt,
-  refuse-reads.Asked,
-  refuse-reads.Learnt,
-  mark-reads.Asked,
-  mark-reads.Learnt,
-  bump-reads.Asked,
-  bump-reads.Learnt,
-  pat-must-below t,
-  pat-must.Post,
-  close-reads.Asked,
-  close-reads.Learnt,
-) (as-pat-tl-at t) as-pat-tl.Post
+as-pat-tl-at-requires : (t : ℕ) → as-pat-tl-lts.Need-at-requires (as-pat-tl-told t) (as-pat-tl-at t) as-pat-tl.Post
 as-pat-tl-at-requires t c κs =
     let pre0 = c .before .before .before .before .before .before .pre .1 in
     pre0 .reads
 
-as-pat-tl-refuse-requires : (t : ℕ) → as-pat-tl-lts.Need-refuse-requires (
-  at-reads.Asked,
-  at-reads.Learnt,
-  refuse-reads.Asked,
-  refuse-reads.Learnt,
-  mark-reads.Asked,
-  mark-reads.Learnt,
-  bump-reads.Asked,
-  bump-reads.Learnt,
-  pat-must-below t,
-  pat-must.Post,
-  close-reads.Asked,
-  close-reads.Learnt,
-) (as-pat-tl-at t) as-pat-tl.Post
+as-pat-tl-refuse-requires : (t : ℕ) → as-pat-tl-lts.Need-refuse-requires (as-pat-tl-told t) (as-pat-tl-at t) as-pat-tl.Post
 as-pat-tl-refuse-requires t c κs =
     tt
 
-as-pat-tl-returns : (t : ℕ) → as-pat-tl-lts.Need-returns (
-  at-reads.Asked,
-  at-reads.Learnt,
-  refuse-reads.Asked,
-  refuse-reads.Learnt,
-  mark-reads.Asked,
-  mark-reads.Learnt,
-  bump-reads.Asked,
-  bump-reads.Learnt,
-  pat-must-below t,
-  pat-must.Post,
-  close-reads.Asked,
-  close-reads.Learnt,
-) (as-pat-tl-at t) as-pat-tl.Post
+as-pat-tl-returns : (t : ℕ) → as-pat-tl-lts.Need-returns (as-pat-tl-told t) (as-pat-tl-at t) as-pat-tl.Post
 unfolding pat.asPatTl plan choose chosen
 as-pat-tl-returns t c =
-    let falls = c .before .before .before .before .before .before .before .before .before .before .pre .0 in
     let pre0 = c .before .before .before .before .before .before .before .before .before .before .pre .1 in
     let at = c .before .before .before .at .ensures in
     let if1 = c .before .before .if1 .taken in
@@ -1144,57 +793,18 @@ as-pat-tl-returns t c =
     let refuse = c .refuse .ensures in
     by-steps pre0 (λ b. s-kind (s-true _ _ (kind-at _ _ _ _ at if1) (s-deep if2 refuse s-end)))
 
-as-pat-tl-mark-requires : (t : ℕ) → as-pat-tl-lts.Need-mark-requires (
-  at-reads.Asked,
-  at-reads.Learnt,
-  refuse-reads.Asked,
-  refuse-reads.Learnt,
-  mark-reads.Asked,
-  mark-reads.Learnt,
-  bump-reads.Asked,
-  bump-reads.Learnt,
-  pat-must-below t,
-  pat-must.Post,
-  close-reads.Asked,
-  close-reads.Learnt,
-) (as-pat-tl-at t) as-pat-tl.Post
+as-pat-tl-mark-requires : (t : ℕ) → as-pat-tl-lts.Need-mark-requires (as-pat-tl-told t) (as-pat-tl-at t) as-pat-tl.Post
 as-pat-tl-mark-requires t c κs =
     tt
 
-as-pat-tl-bump-requires : (t : ℕ) → as-pat-tl-lts.Need-bump-requires (
-  at-reads.Asked,
-  at-reads.Learnt,
-  refuse-reads.Asked,
-  refuse-reads.Learnt,
-  mark-reads.Asked,
-  mark-reads.Learnt,
-  bump-reads.Asked,
-  bump-reads.Learnt,
-  pat-must-below t,
-  pat-must.Post,
-  close-reads.Asked,
-  close-reads.Learnt,
-) (as-pat-tl-at t) as-pat-tl.Post
+as-pat-tl-bump-requires : (t : ℕ) → as-pat-tl-lts.Need-bump-requires (as-pat-tl-told t) (as-pat-tl-at t) as-pat-tl.Post
 as-pat-tl-bump-requires t c κs =
     let pre0 = c .before .before .before .before .before .before .before .before .before .before .before .pre .1 in
     let mark = c .before .mark .ensures in
     let mark-ok = ok-marks mark pre0 in
     (mark-ok .reads, mark-ok .logs)
 
-as-pat-tl-sub-pat-must : (t : ℕ) → as-pat-tl-lts.Need-sub-pat-must (
-  at-reads.Asked,
-  at-reads.Learnt,
-  refuse-reads.Asked,
-  refuse-reads.Learnt,
-  mark-reads.Asked,
-  mark-reads.Learnt,
-  bump-reads.Asked,
-  bump-reads.Learnt,
-  pat-must-below t,
-  pat-must.Post,
-  close-reads.Asked,
-  close-reads.Learnt,
-) (as-pat-tl-at t) as-pat-tl.Post
+as-pat-tl-sub-pat-must : (t : ℕ) → as-pat-tl-lts.Need-sub-pat-must (as-pat-tl-told t) (as-pat-tl-at t) as-pat-tl.Post
 as-pat-tl-sub-pat-must t c =
     let falls = c .before .before .before .before .before .before .before .before .before .before .before .before .before .before .before .before .pre .0 in
     let pre0 = c .before .before .before .before .before .before .before .before .before .before .before .before .before .before .before .before .pre .1 in
@@ -1202,20 +812,7 @@ as-pat-tl-sub-pat-must t c =
     let if2 = c .before .before .before .before .before .before .before .if2 .left in
     search needs
 
-as-pat-tl-pat-must-requires : (t : ℕ) → as-pat-tl-lts.Need-pat-must-requires (
-  at-reads.Asked,
-  at-reads.Learnt,
-  refuse-reads.Asked,
-  refuse-reads.Learnt,
-  mark-reads.Asked,
-  mark-reads.Learnt,
-  bump-reads.Asked,
-  bump-reads.Learnt,
-  pat-must-below t,
-  pat-must.Post,
-  close-reads.Asked,
-  close-reads.Learnt,
-) (as-pat-tl-at t) as-pat-tl.Post
+as-pat-tl-pat-must-requires : (t : ℕ) → as-pat-tl-lts.Need-pat-must-requires (as-pat-tl-told t) (as-pat-tl-at t) as-pat-tl.Post
 as-pat-tl-pat-must-requires t c κs =
     let falls = c .before .before .before .before .before .before .before .before .before .before .before .before .before .before .before .before .pre .0 in
     let pre0 = c .before .before .before .before .before .before .before .before .before .before .before .before .before .before .before .before .pre .1 in
@@ -1227,20 +824,7 @@ as-pat-tl-pat-must-requires t c κs =
     let bump-ok = ok-bumps bump mark-ok in
     (omega arith, bump-ok)
 
-as-pat-tl-close-requires : (t : ℕ) → as-pat-tl-lts.Need-close-requires (
-  at-reads.Asked,
-  at-reads.Learnt,
-  refuse-reads.Asked,
-  refuse-reads.Learnt,
-  mark-reads.Asked,
-  mark-reads.Learnt,
-  bump-reads.Asked,
-  bump-reads.Learnt,
-  pat-must-below t,
-  pat-must.Post,
-  close-reads.Asked,
-  close-reads.Learnt,
-) (as-pat-tl-at t) as-pat-tl.Post
+as-pat-tl-close-requires : (t : ℕ) → as-pat-tl-lts.Need-close-requires (as-pat-tl-told t) (as-pat-tl-at t) as-pat-tl.Post
 as-pat-tl-close-requires t c κs =
     let pre0 = c .before .before .before .before .before .before .before .before .before .before .before .before .before .before .before .before .before .before .before .before .before .before .pre .1 in
     let mark = c .before .before .before .before .before .before .before .before .before .before .before .before .mark .ensures in
@@ -1249,57 +833,17 @@ as-pat-tl-close-requires t c κs =
     let pat-must-ok = pat-must .ok in
     (pat-must-ok .logs, small-len mark-ok)
 
-as-pat-tl-same-length : (t : ℕ) → as-pat-tl-lts.Need-same-length (
-  at-reads.Asked,
-  at-reads.Learnt,
-  refuse-reads.Asked,
-  refuse-reads.Learnt,
-  mark-reads.Asked,
-  mark-reads.Learnt,
-  bump-reads.Asked,
-  bump-reads.Learnt,
-  pat-must-below t,
-  pat-must.Post,
-  close-reads.Asked,
-  close-reads.Learnt,
-) (as-pat-tl-at t) as-pat-tl.Post
+as-pat-tl-same-length : (t : ℕ) → as-pat-tl-lts.Need-same-length (as-pat-tl-told t) (as-pat-tl-at t) as-pat-tl.Post
 as-pat-tl-same-length t c =
     c .before .before .close .kept .0 ∙ c .before .before .before .before .before .before .before .before .pat-must .kept .1 .1 .1 .1 .0 ∙ c .before .before .before .before .before .before .before .before .before .before .before .before .before .bump .kept .1 .0
 
-as-pat-tl-same-length-2 : (t : ℕ) → as-pat-tl-lts.Need-same-length-2 (
-  at-reads.Asked,
-  at-reads.Learnt,
-  refuse-reads.Asked,
-  refuse-reads.Learnt,
-  mark-reads.Asked,
-  mark-reads.Learnt,
-  bump-reads.Asked,
-  bump-reads.Learnt,
-  pat-must-below t,
-  pat-must.Post,
-  close-reads.Asked,
-  close-reads.Learnt,
-) (as-pat-tl-at t) as-pat-tl.Post
+as-pat-tl-same-length-2 : (t : ℕ) → as-pat-tl-lts.Need-same-length-2 (as-pat-tl-told t) (as-pat-tl-at t) as-pat-tl.Post
 as-pat-tl-same-length-2 t c =
     c .before .before .before .before .before .before .before .before .pat-must .kept .1 .1 .1 .1 .1 .0
 
-as-pat-tl-returns-2 : (t : ℕ) → as-pat-tl-lts.Need-returns-2 (
-  at-reads.Asked,
-  at-reads.Learnt,
-  refuse-reads.Asked,
-  refuse-reads.Learnt,
-  mark-reads.Asked,
-  mark-reads.Learnt,
-  bump-reads.Asked,
-  bump-reads.Learnt,
-  pat-must-below t,
-  pat-must.Post,
-  close-reads.Asked,
-  close-reads.Learnt,
-) (as-pat-tl-at t) as-pat-tl.Post
+as-pat-tl-returns-2 : (t : ℕ) → as-pat-tl-lts.Need-returns-2 (as-pat-tl-told t) (as-pat-tl-at t) as-pat-tl.Post
 unfolding pat.asPatTl plan choose chosen
 as-pat-tl-returns-2 t c =
-    let falls = c .before .before .before .before .before .before .before .before .before .before .before .before .before .before .before .before .before .before .before .before .before .before .before .before .before .pre .0 in
     let pre0 = c .before .before .before .before .before .before .before .before .before .before .before .before .before .before .before .before .before .before .before .before .before .before .before .before .before .pre .1 in
     let at = c .before .before .before .before .before .before .before .before .before .before .before .before .before .before .before .before .before .before .at .ensures in
     let if1 = c .before .before .before .before .before .before .before .before .before .before .before .before .before .before .before .before .before .if1 .taken in
@@ -1310,141 +854,45 @@ as-pat-tl-returns-2 t c =
     let close = c .before .before .close .ensures in
     by-steps pre0 (λ b. s-kind (s-true _ _ (kind-at _ _ _ _ at if1) (s-mark if2 mark (s-bump bump (s-by _ (runs-in pat-must) (s-close close s-end))))))
 
-as-pat-tl-returns-3 : (t : ℕ) → as-pat-tl-lts.Need-returns-3 (
-  at-reads.Asked,
-  at-reads.Learnt,
-  refuse-reads.Asked,
-  refuse-reads.Learnt,
-  mark-reads.Asked,
-  mark-reads.Learnt,
-  bump-reads.Asked,
-  bump-reads.Learnt,
-  pat-must-below t,
-  pat-must.Post,
-  close-reads.Asked,
-  close-reads.Learnt,
-) (as-pat-tl-at t) as-pat-tl.Post
+as-pat-tl-returns-3 : (t : ℕ) → as-pat-tl-lts.Need-returns-3 (as-pat-tl-told t) (as-pat-tl-at t) as-pat-tl.Post
 unfolding pat.asPatTl plan choose chosen
 as-pat-tl-returns-3 t c =
-    let falls = c .before .before .before .before .before .before .before .before .pre .0 in
     let pre0 = c .before .before .before .before .before .before .before .before .pre .1 in
     let at = c .before .at .ensures in
     let if1 = c .if1 .left in
     by-steps pre0 (λ b. s-kind (s-false _ _ (kind-off _ _ _ _ at if1) s-end))
 
-as-step-is-infix-requires : (t : ℕ) → as-step-lts.Need-is-infix-requires (
-  is-infix-reads.Asked,
-  is-infix-reads.Learnt,
-  refuse-reads.Asked,
-  refuse-reads.Learnt,
-  mark-reads.Asked,
-  mark-reads.Learnt,
-  as-pat-tl-below t,
-  as-pat-tl.Post,
-  close-reads.Asked,
-  close-reads.Learnt,
-  report-reads.Asked,
-  report-reads.Learnt,
-) (as-step-at t) as-step.Post
+as-step-is-infix-requires : (t : ℕ) → as-step-lts.Need-is-infix-requires (as-step-told t) (as-step-at t) as-step.Post
 as-step-is-infix-requires t c κs =
     tt
 
-as-step-returns : (t : ℕ) → as-step-lts.Need-returns (
-  is-infix-reads.Asked,
-  is-infix-reads.Learnt,
-  refuse-reads.Asked,
-  refuse-reads.Learnt,
-  mark-reads.Asked,
-  mark-reads.Learnt,
-  as-pat-tl-below t,
-  as-pat-tl.Post,
-  close-reads.Asked,
-  close-reads.Learnt,
-  report-reads.Asked,
-  report-reads.Learnt,
-) (as-step-at t) as-step.Post
+as-step-returns : (t : ℕ) → as-step-lts.Need-returns (as-step-told t) (as-step-at t) as-step.Post
 unfolding pat.asStep plan choose chosen
 as-step-returns t c =
-    let falls = c .before .before .before .before .before .before .before .before .pre .0 in
     let pre0 = c .before .before .before .before .before .before .before .before .pre .1 .0 in
-    let pre1 = c .before .before .before .before .before .before .before .before .pre .1 .1 in
     let is-infix = c .before .is-infix .ensures in
     let if1 = c .if1 .taken in
     in-steps pre0 (s-true _ _ (test-true is-infix if1) s-end)
 
-as-step-refuse-requires : (t : ℕ) → as-step-lts.Need-refuse-requires (
-  is-infix-reads.Asked,
-  is-infix-reads.Learnt,
-  refuse-reads.Asked,
-  refuse-reads.Learnt,
-  mark-reads.Asked,
-  mark-reads.Learnt,
-  as-pat-tl-below t,
-  as-pat-tl.Post,
-  close-reads.Asked,
-  close-reads.Learnt,
-  report-reads.Asked,
-  report-reads.Learnt,
-) (as-step-at t) as-step.Post
+as-step-refuse-requires : (t : ℕ) → as-step-lts.Need-refuse-requires (as-step-told t) (as-step-at t) as-step.Post
 as-step-refuse-requires t c κs =
     tt
 
-as-step-returns-2 : (t : ℕ) → as-step-lts.Need-returns-2 (
-  is-infix-reads.Asked,
-  is-infix-reads.Learnt,
-  refuse-reads.Asked,
-  refuse-reads.Learnt,
-  mark-reads.Asked,
-  mark-reads.Learnt,
-  as-pat-tl-below t,
-  as-pat-tl.Post,
-  close-reads.Asked,
-  close-reads.Learnt,
-  report-reads.Asked,
-  report-reads.Learnt,
-) (as-step-at t) as-step.Post
+as-step-returns-2 : (t : ℕ) → as-step-lts.Need-returns-2 (as-step-told t) (as-step-at t) as-step.Post
 unfolding pat.asStep plan choose chosen
 as-step-returns-2 t c =
-    let falls = c .before .before .before .before .before .before .before .before .before .before .pre .0 in
     let pre0 = c .before .before .before .before .before .before .before .before .before .before .pre .1 .0 in
-    let pre1 = c .before .before .before .before .before .before .before .before .before .before .pre .1 .1 in
     let is-infix = c .before .before .before .is-infix .ensures in
     let if1 = c .before .before .if1 .left in
     let if2 = c .before .if2 .taken in
     let refuse = c .refuse .ensures in
     in-steps pre0 (s-false _ _ (test-false is-infix if1) (s-deep if2 refuse s-end))
 
-as-step-mark-requires : (t : ℕ) → as-step-lts.Need-mark-requires (
-  is-infix-reads.Asked,
-  is-infix-reads.Learnt,
-  refuse-reads.Asked,
-  refuse-reads.Learnt,
-  mark-reads.Asked,
-  mark-reads.Learnt,
-  as-pat-tl-below t,
-  as-pat-tl.Post,
-  close-reads.Asked,
-  close-reads.Learnt,
-  report-reads.Asked,
-  report-reads.Learnt,
-) (as-step-at t) as-step.Post
+as-step-mark-requires : (t : ℕ) → as-step-lts.Need-mark-requires (as-step-told t) (as-step-at t) as-step.Post
 as-step-mark-requires t c κs =
     tt
 
-as-step-sub-as-pat-tl : (t : ℕ) → as-step-lts.Need-sub-as-pat-tl (
-  is-infix-reads.Asked,
-  is-infix-reads.Learnt,
-  refuse-reads.Asked,
-  refuse-reads.Learnt,
-  mark-reads.Asked,
-  mark-reads.Learnt,
-  as-pat-tl-below t,
-  as-pat-tl.Post,
-  close-reads.Asked,
-  close-reads.Learnt,
-  report-reads.Asked,
-  report-reads.Learnt,
-) (as-step-at t) as-step.Post
+as-step-sub-as-pat-tl : (t : ℕ) → as-step-lts.Need-sub-as-pat-tl (as-step-told t) (as-step-at t) as-step.Post
 as-step-sub-as-pat-tl t c =
     let falls = c .before .before .before .before .before .before .before .before .before .before .before .before .pre .0 in
     let pre0 = c .before .before .before .before .before .before .before .before .before .before .before .before .pre .1 .0 in
@@ -1453,20 +901,7 @@ as-step-sub-as-pat-tl t c =
     let if2 = c .before .before .before .if2 .left in
     search needs
 
-as-step-as-pat-tl-requires : (t : ℕ) → as-step-lts.Need-as-pat-tl-requires (
-  is-infix-reads.Asked,
-  is-infix-reads.Learnt,
-  refuse-reads.Asked,
-  refuse-reads.Learnt,
-  mark-reads.Asked,
-  mark-reads.Learnt,
-  as-pat-tl-below t,
-  as-pat-tl.Post,
-  close-reads.Asked,
-  close-reads.Learnt,
-  report-reads.Asked,
-  report-reads.Learnt,
-) (as-step-at t) as-step.Post
+as-step-as-pat-tl-requires : (t : ℕ) → as-step-lts.Need-as-pat-tl-requires (as-step-told t) (as-step-at t) as-step.Post
 as-step-as-pat-tl-requires t c κs =
     let falls = c .before .before .before .before .before .before .before .before .before .before .before .before .pre .0 in
     let pre0 = c .before .before .before .before .before .before .before .before .before .before .before .before .pre .1 .0 in
@@ -1477,20 +912,7 @@ as-step-as-pat-tl-requires t c κs =
     let mark-ok = ok-marks mark pre0 in
     (omega arith, mark-ok)
 
-as-step-enum-known-got : (t : ℕ) → as-step-lts.Need-enum-known-got (
-  is-infix-reads.Asked,
-  is-infix-reads.Learnt,
-  refuse-reads.Asked,
-  refuse-reads.Learnt,
-  mark-reads.Asked,
-  mark-reads.Learnt,
-  as-pat-tl-below t,
-  as-pat-tl.Post,
-  close-reads.Asked,
-  close-reads.Learnt,
-  report-reads.Asked,
-  report-reads.Learnt,
-) (as-step-at t) as-step.Post
+as-step-enum-known-got : (t : ℕ) → as-step-lts.Need-enum-known-got (as-step-told t) (as-step-at t) as-step.Post
 as-step-enum-known-got t c =
     let falls = c .before .before .before .before .before .before .before .before .before .before .before .before .before .before .before .before .before .before .pre .0 in
     let pre0 = c .before .before .before .before .before .before .before .before .before .before .before .before .before .before .before .before .before .before .pre .1 .0 in
@@ -1499,40 +921,14 @@ as-step-enum-known-got t c =
     let if2 = c .before .before .before .before .before .before .before .before .before .if2 .left in
     search needs
 
-as-step-close-requires : (t : ℕ) → as-step-lts.Need-close-requires (
-  is-infix-reads.Asked,
-  is-infix-reads.Learnt,
-  refuse-reads.Asked,
-  refuse-reads.Learnt,
-  mark-reads.Asked,
-  mark-reads.Learnt,
-  as-pat-tl-below t,
-  as-pat-tl.Post,
-  close-reads.Asked,
-  close-reads.Learnt,
-  report-reads.Asked,
-  report-reads.Learnt,
-) (as-step-at t) as-step.Post
+as-step-close-requires : (t : ℕ) → as-step-lts.Need-close-requires (as-step-told t) (as-step-at t) as-step.Post
 as-step-close-requires t c κs =
     let pre1 = c .before .before .before .before .before .before .before .before .before .before .before .before .before .before .before .before .before .before .before .before .before .pre .1 .1 in
     let as-pat-tl = rw (c .before .before .got .given .1) at (c .before .before .before .before .before .before .before .before .as-pat-tl .ensures) in
     let as-pat-tl-ok = as-pat-tl .ok in
     (as-pat-tl-ok .logs, pre1)
 
-as-step-enum-known-got-2 : (t : ℕ) → as-step-lts.Need-enum-known-got-2 (
-  is-infix-reads.Asked,
-  is-infix-reads.Learnt,
-  refuse-reads.Asked,
-  refuse-reads.Learnt,
-  mark-reads.Asked,
-  mark-reads.Learnt,
-  as-pat-tl-below t,
-  as-pat-tl.Post,
-  close-reads.Asked,
-  close-reads.Learnt,
-  report-reads.Asked,
-  report-reads.Learnt,
-) (as-step-at t) as-step.Post
+as-step-enum-known-got-2 : (t : ℕ) → as-step-lts.Need-enum-known-got-2 (as-step-told t) (as-step-at t) as-step.Post
 as-step-enum-known-got-2 t c =
     let falls = c .before .before .before .before .before .before .before .before .before .before .before .before .before .before .before .before .before .before .pre .0 in
     let pre0 = c .before .before .before .before .before .before .before .before .before .before .before .before .before .before .before .before .before .before .pre .1 .0 in
@@ -1541,20 +937,7 @@ as-step-enum-known-got-2 t c =
     let if2 = c .before .before .before .before .before .before .before .before .before .if2 .left in
     search needs
 
-as-step-report-requires : (t : ℕ) → as-step-lts.Need-report-requires (
-  is-infix-reads.Asked,
-  is-infix-reads.Learnt,
-  refuse-reads.Asked,
-  refuse-reads.Learnt,
-  mark-reads.Asked,
-  mark-reads.Learnt,
-  as-pat-tl-below t,
-  as-pat-tl.Post,
-  close-reads.Asked,
-  close-reads.Learnt,
-  report-reads.Asked,
-  report-reads.Learnt,
-) (as-step-at t) as-step.Post
+as-step-report-requires : (t : ℕ) → as-step-lts.Need-report-requires (as-step-told t) (as-step-at t) as-step.Post
 as-step-report-requires t c κs =
     let falls = c .before .before .before .before .before .before .before .before .before .before .before .before .before .before .before .before .before .before .before .before .before .pre .0 in
     let pre1 = c .before .before .before .before .before .before .before .before .before .before .before .before .before .before .before .before .before .before .before .before .before .pre .1 .1 in
@@ -1564,20 +947,7 @@ as-step-report-requires t c κs =
     let as-pat-tl-ok = as-pat-tl .ok in
     (as-pat-tl-ok .holds, (let few = as-pat-tl-ok .reads .few in let inside = as-pat-tl-ok .reads .inside in omega arith), omega arith)
 
-as-step-close-requires-2 : (t : ℕ) → as-step-lts.Need-close-requires-2 (
-  is-infix-reads.Asked,
-  is-infix-reads.Learnt,
-  refuse-reads.Asked,
-  refuse-reads.Learnt,
-  mark-reads.Asked,
-  mark-reads.Learnt,
-  as-pat-tl-below t,
-  as-pat-tl.Post,
-  close-reads.Asked,
-  close-reads.Learnt,
-  report-reads.Asked,
-  report-reads.Learnt,
-) (as-step-at t) as-step.Post
+as-step-close-requires-2 : (t : ℕ) → as-step-lts.Need-close-requires-2 (as-step-told t) (as-step-at t) as-step.Post
 as-step-close-requires-2 t c κs =
     let pre1 = c .before .before .before .before .before .before .before .before .before .before .before .before .before .before .before .before .before .before .before .before .before .before .before .before .before .pre .1 .1 in
     let as-pat-tl = rw (c .before .before .before .before .before .before .got2 .given .1) at (c .before .before .before .before .before .before .before .before .before .before .before .before .as-pat-tl .ensures) in
@@ -1586,59 +956,18 @@ as-step-close-requires-2 t c κs =
     let report-ok = ok-tells report as-pat-tl-ok in
     (report-ok .logs, pre1)
 
-as-step-same-length : (t : ℕ) → as-step-lts.Need-same-length (
-  is-infix-reads.Asked,
-  is-infix-reads.Learnt,
-  refuse-reads.Asked,
-  refuse-reads.Learnt,
-  mark-reads.Asked,
-  mark-reads.Learnt,
-  as-pat-tl-below t,
-  as-pat-tl.Post,
-  close-reads.Asked,
-  close-reads.Learnt,
-  report-reads.Asked,
-  report-reads.Learnt,
-) (as-step-at t) as-step.Post
+as-step-same-length : (t : ℕ) → as-step-lts.Need-same-length (as-step-told t) (as-step-at t) as-step.Post
 as-step-same-length t c =
     c .before .before .close .kept .0 ∙ c .before .before .before .before .before .before .before .before .before .before .before .as-pat-tl .kept .1 .1 .1 .1 .0
 
-as-step-same-length-2 : (t : ℕ) → as-step-lts.Need-same-length-2 (
-  is-infix-reads.Asked,
-  is-infix-reads.Learnt,
-  refuse-reads.Asked,
-  refuse-reads.Learnt,
-  mark-reads.Asked,
-  mark-reads.Learnt,
-  as-pat-tl-below t,
-  as-pat-tl.Post,
-  close-reads.Asked,
-  close-reads.Learnt,
-  report-reads.Asked,
-  report-reads.Learnt,
-) (as-step-at t) as-step.Post
+as-step-same-length-2 : (t : ℕ) → as-step-lts.Need-same-length-2 (as-step-told t) (as-step-at t) as-step.Post
 as-step-same-length-2 t c =
     c .before .before .before .before .before .before .before .before .before .before .before .as-pat-tl .kept .1 .1 .1 .1 .1 .0
 
-as-step-returns-3 : (t : ℕ) → as-step-lts.Need-returns-3 (
-  is-infix-reads.Asked,
-  is-infix-reads.Learnt,
-  refuse-reads.Asked,
-  refuse-reads.Learnt,
-  mark-reads.Asked,
-  mark-reads.Learnt,
-  as-pat-tl-below t,
-  as-pat-tl.Post,
-  close-reads.Asked,
-  close-reads.Learnt,
-  report-reads.Asked,
-  report-reads.Learnt,
-) (as-step-at t) as-step.Post
+as-step-returns-3 : (t : ℕ) → as-step-lts.Need-returns-3 (as-step-told t) (as-step-at t) as-step.Post
 unfolding pat.asStep plan choose chosen
 as-step-returns-3 t c =
-    let falls = c .before .before .before .before .before .before .before .before .before .before .before .before .before .before .before .before .before .before .before .before .before .before .before .before .pre .0 in
     let pre0 = c .before .before .before .before .before .before .before .before .before .before .before .before .before .before .before .before .before .before .before .before .before .before .before .before .pre .1 .0 in
-    let pre1 = c .before .before .before .before .before .before .before .before .before .before .before .before .before .before .before .before .before .before .before .before .before .before .before .before .pre .1 .1 in
     let is-infix = c .before .before .before .before .before .before .before .before .before .before .before .before .before .before .before .before .before .is-infix .ensures in
     let if1 = c .before .before .before .before .before .before .before .before .before .before .before .before .before .before .before .before .if1 .left in
     let if2 = c .before .before .before .before .before .before .before .before .before .before .before .before .before .before .before .if2 .left in
@@ -1647,59 +976,18 @@ as-step-returns-3 t c =
     let close = c .before .before .close .ensures in
     in-steps pre0 (s-false _ _ (test-false is-infix if1) (s-mark if2 mark (s-by _ (runs-in as-pat-tl) (s-close close s-end))))
 
-as-step-same-length-3 : (t : ℕ) → as-step-lts.Need-same-length-3 (
-  is-infix-reads.Asked,
-  is-infix-reads.Learnt,
-  refuse-reads.Asked,
-  refuse-reads.Learnt,
-  mark-reads.Asked,
-  mark-reads.Learnt,
-  as-pat-tl-below t,
-  as-pat-tl.Post,
-  close-reads.Asked,
-  close-reads.Learnt,
-  report-reads.Asked,
-  report-reads.Learnt,
-) (as-step-at t) as-step.Post
+as-step-same-length-3 : (t : ℕ) → as-step-lts.Need-same-length-3 (as-step-told t) (as-step-at t) as-step.Post
 as-step-same-length-3 t c =
     c .before .before .close2 .kept .0 ∙ c .before .before .before .before .before .before .before .before .before .before .before .before .before .before .before .as-pat-tl .kept .1 .1 .1 .1 .0
 
-as-step-same-length-4 : (t : ℕ) → as-step-lts.Need-same-length-4 (
-  is-infix-reads.Asked,
-  is-infix-reads.Learnt,
-  refuse-reads.Asked,
-  refuse-reads.Learnt,
-  mark-reads.Asked,
-  mark-reads.Learnt,
-  as-pat-tl-below t,
-  as-pat-tl.Post,
-  close-reads.Asked,
-  close-reads.Learnt,
-  report-reads.Asked,
-  report-reads.Learnt,
-) (as-step-at t) as-step.Post
+as-step-same-length-4 : (t : ℕ) → as-step-lts.Need-same-length-4 (as-step-told t) (as-step-at t) as-step.Post
 as-step-same-length-4 t c =
     c .before .before .before .before .before .before .report .kept .0 ∙ c .before .before .before .before .before .before .before .before .before .before .before .before .before .before .before .as-pat-tl .kept .1 .1 .1 .1 .1 .0
 
-as-step-returns-4 : (t : ℕ) → as-step-lts.Need-returns-4 (
-  is-infix-reads.Asked,
-  is-infix-reads.Learnt,
-  refuse-reads.Asked,
-  refuse-reads.Learnt,
-  mark-reads.Asked,
-  mark-reads.Learnt,
-  as-pat-tl-below t,
-  as-pat-tl.Post,
-  close-reads.Asked,
-  close-reads.Learnt,
-  report-reads.Asked,
-  report-reads.Learnt,
-) (as-step-at t) as-step.Post
+as-step-returns-4 : (t : ℕ) → as-step-lts.Need-returns-4 (as-step-told t) (as-step-at t) as-step.Post
 unfolding pat.asStep plan choose chosen
 as-step-returns-4 t c =
-    let falls = c .before .before .before .before .before .before .before .before .before .before .before .before .before .before .before .before .before .before .before .before .before .before .before .before .before .before .before .before .pre .0 in
     let pre0 = c .before .before .before .before .before .before .before .before .before .before .before .before .before .before .before .before .before .before .before .before .before .before .before .before .before .before .before .before .pre .1 .0 in
-    let pre1 = c .before .before .before .before .before .before .before .before .before .before .before .before .before .before .before .before .before .before .before .before .before .before .before .before .before .before .before .before .pre .1 .1 in
     let is-infix = c .before .before .before .before .before .before .before .before .before .before .before .before .before .before .before .before .before .before .before .before .before .is-infix .ensures in
     let if1 = c .before .before .before .before .before .before .before .before .before .before .before .before .before .before .before .before .before .before .before .before .if1 .left in
     let if2 = c .before .before .before .before .before .before .before .before .before .before .before .before .before .before .before .before .before .before .before .if2 .left in
@@ -1709,67 +997,16 @@ as-step-returns-4 t c =
     let close2 = c .before .before .close2 .ensures in
     in-steps pre0 (s-false _ _ (test-false is-infix if1) (s-mark if2 mark (s-by _ (runs-in as-pat-tl) (s-report report (s-close close2 s-end)))))
 
-at-head-s-con-requires : (t : ℕ) → at-head-lts.Need-s-con-requires (
-  s-con-reads.Asked,
-  s-con-reads.Learnt,
-  bump-reads.Asked,
-  bump-reads.Learnt,
-  close-reads.Asked,
-  close-reads.Learnt,
-  path-infix-reads.Asked,
-  path-infix-reads.Learnt,
-  state-reads.Asked,
-  state-reads.Learnt,
-  name-star-reads.Asked,
-  name-star-reads.Learnt,
-  con-path-reads.Asked,
-  con-path-reads.Learnt,
-  rest-below t,
-  rest.Post,
-) (at-head-at t) at-head.Post
+at-head-s-con-requires : (t : ℕ) → at-head-lts.Need-s-con-requires (at-head-told t) (at-head-at t) at-head.Post
 at-head-s-con-requires t c κs =
     tt
 
-at-head-bump-requires : (t : ℕ) → at-head-lts.Need-bump-requires (
-  s-con-reads.Asked,
-  s-con-reads.Learnt,
-  bump-reads.Asked,
-  bump-reads.Learnt,
-  close-reads.Asked,
-  close-reads.Learnt,
-  path-infix-reads.Asked,
-  path-infix-reads.Learnt,
-  state-reads.Asked,
-  state-reads.Learnt,
-  name-star-reads.Asked,
-  name-star-reads.Learnt,
-  con-path-reads.Asked,
-  con-path-reads.Learnt,
-  rest-below t,
-  rest.Post,
-) (at-head-at t) at-head.Post
+at-head-bump-requires : (t : ℕ) → at-head-lts.Need-bump-requires (at-head-told t) (at-head-at t) at-head.Post
 at-head-bump-requires t c κs =
     let pre0 = c .before .before .before .before .before .before .before .before .before .pre .1 .0 in
     (pre0 .reads, pre0 .logs)
 
-at-head-close-requires : (t : ℕ) → at-head-lts.Need-close-requires (
-  s-con-reads.Asked,
-  s-con-reads.Learnt,
-  bump-reads.Asked,
-  bump-reads.Learnt,
-  close-reads.Asked,
-  close-reads.Learnt,
-  path-infix-reads.Asked,
-  path-infix-reads.Learnt,
-  state-reads.Asked,
-  state-reads.Learnt,
-  name-star-reads.Asked,
-  name-star-reads.Learnt,
-  con-path-reads.Asked,
-  con-path-reads.Learnt,
-  rest-below t,
-  rest.Post,
-) (at-head-at t) at-head.Post
+at-head-close-requires : (t : ℕ) → at-head-lts.Need-close-requires (at-head-told t) (at-head-at t) at-head.Post
 at-head-close-requires t c κs =
     let pre0 = c .before .before .before .before .before .before .before .before .before .before .before .before .before .pre .1 .0 in
     let pre1 = c .before .before .before .before .before .before .before .before .before .before .before .before .before .pre .1 .1 in
@@ -1777,96 +1014,26 @@ at-head-close-requires t c κs =
     let bump-ok = ok-bumps bump pre0 in
     (bump-ok .logs, pre1)
 
-at-head-same-length : (t : ℕ) → at-head-lts.Need-same-length (
-  s-con-reads.Asked,
-  s-con-reads.Learnt,
-  bump-reads.Asked,
-  bump-reads.Learnt,
-  close-reads.Asked,
-  close-reads.Learnt,
-  path-infix-reads.Asked,
-  path-infix-reads.Learnt,
-  state-reads.Asked,
-  state-reads.Learnt,
-  name-star-reads.Asked,
-  name-star-reads.Learnt,
-  con-path-reads.Asked,
-  con-path-reads.Learnt,
-  rest-below t,
-  rest.Post,
-) (at-head-at t) at-head.Post
+at-head-same-length : (t : ℕ) → at-head-lts.Need-same-length (at-head-told t) (at-head-at t) at-head.Post
 at-head-same-length t c =
     c .before .before .close .kept .0 ∙ c .before .before .before .before .before .before .bump .kept .1 .0
 
-at-head-returns : (t : ℕ) → at-head-lts.Need-returns (
-  s-con-reads.Asked,
-  s-con-reads.Learnt,
-  bump-reads.Asked,
-  bump-reads.Learnt,
-  close-reads.Asked,
-  close-reads.Learnt,
-  path-infix-reads.Asked,
-  path-infix-reads.Learnt,
-  state-reads.Asked,
-  state-reads.Learnt,
-  name-star-reads.Asked,
-  name-star-reads.Learnt,
-  con-path-reads.Asked,
-  con-path-reads.Learnt,
-  rest-below t,
-  rest.Post,
-) (at-head-at t) at-head.Post
+at-head-returns : (t : ℕ) → at-head-lts.Need-returns (at-head-told t) (at-head-at t) at-head.Post
 unfolding pat.atPatHead plan choose chosen
 at-head-returns t c =
-    let falls = c .before .before .before .before .before .before .before .before .before .before .before .before .before .before .before .before .pre .0 in
     let pre0 = c .before .before .before .before .before .before .before .before .before .before .before .before .before .before .before .before .pre .1 .0 in
-    let pre1 = c .before .before .before .before .before .before .before .before .before .before .before .before .before .before .before .before .pre .1 .1 in
     let s-con = c .before .before .before .before .before .before .before .before .before .s-con .ensures in
     let if1 = c .before .before .before .before .before .before .before .before .if1 .taken in
     let bump = c .before .before .before .before .before .before .bump .ensures in
     let close = c .before .before .close .ensures in
     in-steps pre0 (s-true _ _ (test-true s-con if1) (s-bump bump (s-close close s-end)))
 
-at-head-bump-requires-2 : (t : ℕ) → at-head-lts.Need-bump-requires-2 (
-  s-con-reads.Asked,
-  s-con-reads.Learnt,
-  bump-reads.Asked,
-  bump-reads.Learnt,
-  close-reads.Asked,
-  close-reads.Learnt,
-  path-infix-reads.Asked,
-  path-infix-reads.Learnt,
-  state-reads.Asked,
-  state-reads.Learnt,
-  name-star-reads.Asked,
-  name-star-reads.Learnt,
-  con-path-reads.Asked,
-  con-path-reads.Learnt,
-  rest-below t,
-  rest.Post,
-) (at-head-at t) at-head.Post
+at-head-bump-requires-2 : (t : ℕ) → at-head-lts.Need-bump-requires-2 (at-head-told t) (at-head-at t) at-head.Post
 at-head-bump-requires-2 t c κs =
     let pre0 = c .before .before .before .before .before .before .before .before .before .before .pre .1 .0 in
     (pre0 .reads, pre0 .logs)
 
-at-head-close-requires-2 : (t : ℕ) → at-head-lts.Need-close-requires-2 (
-  s-con-reads.Asked,
-  s-con-reads.Learnt,
-  bump-reads.Asked,
-  bump-reads.Learnt,
-  close-reads.Asked,
-  close-reads.Learnt,
-  path-infix-reads.Asked,
-  path-infix-reads.Learnt,
-  state-reads.Asked,
-  state-reads.Learnt,
-  name-star-reads.Asked,
-  name-star-reads.Learnt,
-  con-path-reads.Asked,
-  con-path-reads.Learnt,
-  rest-below t,
-  rest.Post,
-) (at-head-at t) at-head.Post
+at-head-close-requires-2 : (t : ℕ) → at-head-lts.Need-close-requires-2 (at-head-told t) (at-head-at t) at-head.Post
 at-head-close-requires-2 t c κs =
     let pre0 = c .before .before .before .before .before .before .before .before .before .before .before .before .before .before .pre .1 .0 in
     let pre1 = c .before .before .before .before .before .before .before .before .before .before .before .before .before .before .pre .1 .1 in
@@ -1874,50 +1041,14 @@ at-head-close-requires-2 t c κs =
     let bump2-ok = ok-bumps bump2 pre0 in
     (bump2-ok .logs, pre1)
 
-at-head-same-length-2 : (t : ℕ) → at-head-lts.Need-same-length-2 (
-  s-con-reads.Asked,
-  s-con-reads.Learnt,
-  bump-reads.Asked,
-  bump-reads.Learnt,
-  close-reads.Asked,
-  close-reads.Learnt,
-  path-infix-reads.Asked,
-  path-infix-reads.Learnt,
-  state-reads.Asked,
-  state-reads.Learnt,
-  name-star-reads.Asked,
-  name-star-reads.Learnt,
-  con-path-reads.Asked,
-  con-path-reads.Learnt,
-  rest-below t,
-  rest.Post,
-) (at-head-at t) at-head.Post
+at-head-same-length-2 : (t : ℕ) → at-head-lts.Need-same-length-2 (at-head-told t) (at-head-at t) at-head.Post
 at-head-same-length-2 t c =
     c .before .before .close2 .kept .0 ∙ c .before .before .before .before .before .before .bump2 .kept .1 .0
 
-at-head-returns-2 : (t : ℕ) → at-head-lts.Need-returns-2 (
-  s-con-reads.Asked,
-  s-con-reads.Learnt,
-  bump-reads.Asked,
-  bump-reads.Learnt,
-  close-reads.Asked,
-  close-reads.Learnt,
-  path-infix-reads.Asked,
-  path-infix-reads.Learnt,
-  state-reads.Asked,
-  state-reads.Learnt,
-  name-star-reads.Asked,
-  name-star-reads.Learnt,
-  con-path-reads.Asked,
-  con-path-reads.Learnt,
-  rest-below t,
-  rest.Post,
-) (at-head-at t) at-head.Post
+at-head-returns-2 : (t : ℕ) → at-head-lts.Need-returns-2 (at-head-told t) (at-head-at t) at-head.Post
 unfolding pat.atPatHead plan choose chosen
 at-head-returns-2 t c =
-    let falls = c .before .before .before .before .before .before .before .before .before .before .before .before .before .before .before .before .before .pre .0 in
     let pre0 = c .before .before .before .before .before .before .before .before .before .before .before .before .before .before .before .before .before .pre .1 .0 in
-    let pre1 = c .before .before .before .before .before .before .before .before .before .before .before .before .before .before .before .before .before .pre .1 .1 in
     let s-con = c .before .before .before .before .before .before .before .before .before .before .s-con .ensures in
     let if1 = c .before .before .before .before .before .before .before .before .before .if1 .left in
     let if2 = c .before .before .before .before .before .before .before .before .if2 .taken in
@@ -1925,67 +1056,16 @@ at-head-returns-2 t c =
     let close2 = c .before .before .close2 .ensures in
     in-steps pre0 (s-false _ _ (test-false s-con if1) (s-true _ _ (kind-is if2) (s-bump bump2 (s-close close2 s-end))))
 
-at-head-path-infix-requires : (t : ℕ) → at-head-lts.Need-path-infix-requires (
-  s-con-reads.Asked,
-  s-con-reads.Learnt,
-  bump-reads.Asked,
-  bump-reads.Learnt,
-  close-reads.Asked,
-  close-reads.Learnt,
-  path-infix-reads.Asked,
-  path-infix-reads.Learnt,
-  state-reads.Asked,
-  state-reads.Learnt,
-  name-star-reads.Asked,
-  name-star-reads.Learnt,
-  con-path-reads.Asked,
-  con-path-reads.Learnt,
-  rest-below t,
-  rest.Post,
-) (at-head-at t) at-head.Post
+at-head-path-infix-requires : (t : ℕ) → at-head-lts.Need-path-infix-requires (at-head-told t) (at-head-at t) at-head.Post
 at-head-path-infix-requires t c κs =
     let pre0 = c .before .before .before .before .before .before .before .before .before .before .before .before .pre .1 .0 in
     pre0
 
-at-head-state-requires : (t : ℕ) → at-head-lts.Need-state-requires (
-  s-con-reads.Asked,
-  s-con-reads.Learnt,
-  bump-reads.Asked,
-  bump-reads.Learnt,
-  close-reads.Asked,
-  close-reads.Learnt,
-  path-infix-reads.Asked,
-  path-infix-reads.Learnt,
-  state-reads.Asked,
-  state-reads.Learnt,
-  name-star-reads.Asked,
-  name-star-reads.Learnt,
-  con-path-reads.Asked,
-  con-path-reads.Learnt,
-  rest-below t,
-  rest.Post,
-) (at-head-at t) at-head.Post
+at-head-state-requires : (t : ℕ) → at-head-lts.Need-state-requires (at-head-told t) (at-head-at t) at-head.Post
 at-head-state-requires t c κs =
     tt
 
-at-head-close-requires-3 : (t : ℕ) → at-head-lts.Need-close-requires-3 (
-  s-con-reads.Asked,
-  s-con-reads.Learnt,
-  bump-reads.Asked,
-  bump-reads.Learnt,
-  close-reads.Asked,
-  close-reads.Learnt,
-  path-infix-reads.Asked,
-  path-infix-reads.Learnt,
-  state-reads.Asked,
-  state-reads.Learnt,
-  name-star-reads.Asked,
-  name-star-reads.Learnt,
-  con-path-reads.Asked,
-  con-path-reads.Learnt,
-  rest-below t,
-  rest.Post,
-) (at-head-at t) at-head.Post
+at-head-close-requires-3 : (t : ℕ) → at-head-lts.Need-close-requires-3 (at-head-told t) (at-head-at t) at-head.Post
 at-head-close-requires-3 t c κs =
     let pre1 = c .before .before .before .before .before .before .before .before .before .before .before .before .before .before .before .before .before .before .before .pre .1 .1 in
     let path-infix = c .before .before .before .before .before .before .path-infix .ensures in
@@ -1994,71 +1074,18 @@ at-head-close-requires-3 t c κs =
     let state-ok = ok-state state path-infix-ok in
     (state-ok .logs, pre1)
 
-at-head-same-length-3 : (t : ℕ) → at-head-lts.Need-same-length-3 (
-  s-con-reads.Asked,
-  s-con-reads.Learnt,
-  bump-reads.Asked,
-  bump-reads.Learnt,
-  close-reads.Asked,
-  close-reads.Learnt,
-  path-infix-reads.Asked,
-  path-infix-reads.Learnt,
-  state-reads.Asked,
-  state-reads.Learnt,
-  name-star-reads.Asked,
-  name-star-reads.Learnt,
-  con-path-reads.Asked,
-  con-path-reads.Learnt,
-  rest-below t,
-  rest.Post,
-) (at-head-at t) at-head.Post
+at-head-same-length-3 : (t : ℕ) → at-head-lts.Need-same-length-3 (at-head-told t) (at-head-at t) at-head.Post
 at-head-same-length-3 t c =
     c .before .before .close3 .kept .0 ∙ c .before .before .before .before .before .before .before .before .before .path-infix .kept .1 .1 .1 .1 .0
 
-at-head-same-length-4 : (t : ℕ) → at-head-lts.Need-same-length-4 (
-  s-con-reads.Asked,
-  s-con-reads.Learnt,
-  bump-reads.Asked,
-  bump-reads.Learnt,
-  close-reads.Asked,
-  close-reads.Learnt,
-  path-infix-reads.Asked,
-  path-infix-reads.Learnt,
-  state-reads.Asked,
-  state-reads.Learnt,
-  name-star-reads.Asked,
-  name-star-reads.Learnt,
-  con-path-reads.Asked,
-  con-path-reads.Learnt,
-  rest-below t,
-  rest.Post,
-) (at-head-at t) at-head.Post
+at-head-same-length-4 : (t : ℕ) → at-head-lts.Need-same-length-4 (at-head-told t) (at-head-at t) at-head.Post
 at-head-same-length-4 t c =
     c .before .before .before .before .before .before .before .before .before .path-infix .kept .1 .1 .1 .1 .1 .0
 
-at-head-returns-3 : (t : ℕ) → at-head-lts.Need-returns-3 (
-  s-con-reads.Asked,
-  s-con-reads.Learnt,
-  bump-reads.Asked,
-  bump-reads.Learnt,
-  close-reads.Asked,
-  close-reads.Learnt,
-  path-infix-reads.Asked,
-  path-infix-reads.Learnt,
-  state-reads.Asked,
-  state-reads.Learnt,
-  name-star-reads.Asked,
-  name-star-reads.Learnt,
-  con-path-reads.Asked,
-  con-path-reads.Learnt,
-  rest-below t,
-  rest.Post,
-) (at-head-at t) at-head.Post
+at-head-returns-3 : (t : ℕ) → at-head-lts.Need-returns-3 (at-head-told t) (at-head-at t) at-head.Post
 unfolding pat.atPatHead plan choose chosen
 at-head-returns-3 t c =
-    let falls = c .before .before .before .before .before .before .before .before .before .before .before .before .before .before .before .before .before .before .before .before .before .before .pre .0 in
     let pre0 = c .before .before .before .before .before .before .before .before .before .before .before .before .before .before .before .before .before .before .before .before .before .before .pre .1 .0 in
-    let pre1 = c .before .before .before .before .before .before .before .before .before .before .before .before .before .before .before .before .before .before .before .before .before .before .pre .1 .1 in
     let s-con = c .before .before .before .before .before .before .before .before .before .before .before .before .before .before .before .s-con .ensures in
     let if1 = c .before .before .before .before .before .before .before .before .before .before .before .before .before .before .if1 .left in
     let if2 = c .before .before .before .before .before .before .before .before .before .before .before .before .before .if2 .left in
@@ -2068,88 +1095,20 @@ at-head-returns-3 t c =
     let close3 = c .before .before .close3 .ensures in
     in-steps pre0 (s-false _ _ (test-false s-con if1) (s-false _ _ (kind-not if2) (s-true _ _ (kind-is if3) (s-by _ (settled state (runs-in path-infix)) (s-close close3 s-end)))))
 
-at-head-name-star-requires : (t : ℕ) → at-head-lts.Need-name-star-requires (
-  s-con-reads.Asked,
-  s-con-reads.Learnt,
-  bump-reads.Asked,
-  bump-reads.Learnt,
-  close-reads.Asked,
-  close-reads.Learnt,
-  path-infix-reads.Asked,
-  path-infix-reads.Learnt,
-  state-reads.Asked,
-  state-reads.Learnt,
-  name-star-reads.Asked,
-  name-star-reads.Learnt,
-  con-path-reads.Asked,
-  con-path-reads.Learnt,
-  rest-below t,
-  rest.Post,
-) (at-head-at t) at-head.Post
+at-head-name-star-requires : (t : ℕ) → at-head-lts.Need-name-star-requires (at-head-told t) (at-head-at t) at-head.Post
 at-head-name-star-requires t c κs =
     tt
 
-at-head-con-path-requires : (t : ℕ) → at-head-lts.Need-con-path-requires (
-  s-con-reads.Asked,
-  s-con-reads.Learnt,
-  bump-reads.Asked,
-  bump-reads.Learnt,
-  close-reads.Asked,
-  close-reads.Learnt,
-  path-infix-reads.Asked,
-  path-infix-reads.Learnt,
-  state-reads.Asked,
-  state-reads.Learnt,
-  name-star-reads.Asked,
-  name-star-reads.Learnt,
-  con-path-reads.Asked,
-  con-path-reads.Learnt,
-  rest-below t,
-  rest.Post,
-) (at-head-at t) at-head.Post
+at-head-con-path-requires : (t : ℕ) → at-head-lts.Need-con-path-requires (at-head-told t) (at-head-at t) at-head.Post
 at-head-con-path-requires t c κs =
     let pre0 = c .before .before .before .before .before .before .before .before .before .before .before .before .before .before .pre .1 .0 in
     pre0
 
-at-head-state-requires-2 : (t : ℕ) → at-head-lts.Need-state-requires-2 (
-  s-con-reads.Asked,
-  s-con-reads.Learnt,
-  bump-reads.Asked,
-  bump-reads.Learnt,
-  close-reads.Asked,
-  close-reads.Learnt,
-  path-infix-reads.Asked,
-  path-infix-reads.Learnt,
-  state-reads.Asked,
-  state-reads.Learnt,
-  name-star-reads.Asked,
-  name-star-reads.Learnt,
-  con-path-reads.Asked,
-  con-path-reads.Learnt,
-  rest-below t,
-  rest.Post,
-) (at-head-at t) at-head.Post
+at-head-state-requires-2 : (t : ℕ) → at-head-lts.Need-state-requires-2 (at-head-told t) (at-head-at t) at-head.Post
 at-head-state-requires-2 t c κs =
     tt
 
-at-head-close-requires-4 : (t : ℕ) → at-head-lts.Need-close-requires-4 (
-  s-con-reads.Asked,
-  s-con-reads.Learnt,
-  bump-reads.Asked,
-  bump-reads.Learnt,
-  close-reads.Asked,
-  close-reads.Learnt,
-  path-infix-reads.Asked,
-  path-infix-reads.Learnt,
-  state-reads.Asked,
-  state-reads.Learnt,
-  name-star-reads.Asked,
-  name-star-reads.Learnt,
-  con-path-reads.Asked,
-  con-path-reads.Learnt,
-  rest-below t,
-  rest.Post,
-) (at-head-at t) at-head.Post
+at-head-close-requires-4 : (t : ℕ) → at-head-lts.Need-close-requires-4 (at-head-told t) (at-head-at t) at-head.Post
 at-head-close-requires-4 t c κs =
     let pre1 = c .before .before .before .before .before .before .before .before .before .before .before .before .before .before .before .before .before .before .before .before .before .pre .1 .1 in
     let con-path = c .before .before .before .before .before .before .con-path .ensures in
@@ -2158,71 +1117,18 @@ at-head-close-requires-4 t c κs =
     let state2-ok = ok-state state2 con-path-ok in
     (state2-ok .logs, pre1)
 
-at-head-same-length-5 : (t : ℕ) → at-head-lts.Need-same-length-5 (
-  s-con-reads.Asked,
-  s-con-reads.Learnt,
-  bump-reads.Asked,
-  bump-reads.Learnt,
-  close-reads.Asked,
-  close-reads.Learnt,
-  path-infix-reads.Asked,
-  path-infix-reads.Learnt,
-  state-reads.Asked,
-  state-reads.Learnt,
-  name-star-reads.Asked,
-  name-star-reads.Learnt,
-  con-path-reads.Asked,
-  con-path-reads.Learnt,
-  rest-below t,
-  rest.Post,
-) (at-head-at t) at-head.Post
+at-head-same-length-5 : (t : ℕ) → at-head-lts.Need-same-length-5 (at-head-told t) (at-head-at t) at-head.Post
 at-head-same-length-5 t c =
     c .before .before .close4 .kept .0 ∙ c .before .before .before .before .before .before .before .before .before .con-path .kept .1 .1 .1 .1 .0
 
-at-head-same-length-6 : (t : ℕ) → at-head-lts.Need-same-length-6 (
-  s-con-reads.Asked,
-  s-con-reads.Learnt,
-  bump-reads.Asked,
-  bump-reads.Learnt,
-  close-reads.Asked,
-  close-reads.Learnt,
-  path-infix-reads.Asked,
-  path-infix-reads.Learnt,
-  state-reads.Asked,
-  state-reads.Learnt,
-  name-star-reads.Asked,
-  name-star-reads.Learnt,
-  con-path-reads.Asked,
-  con-path-reads.Learnt,
-  rest-below t,
-  rest.Post,
-) (at-head-at t) at-head.Post
+at-head-same-length-6 : (t : ℕ) → at-head-lts.Need-same-length-6 (at-head-told t) (at-head-at t) at-head.Post
 at-head-same-length-6 t c =
     c .before .before .before .before .before .before .before .before .before .con-path .kept .1 .1 .1 .1 .1 .0
 
-at-head-returns-4 : (t : ℕ) → at-head-lts.Need-returns-4 (
-  s-con-reads.Asked,
-  s-con-reads.Learnt,
-  bump-reads.Asked,
-  bump-reads.Learnt,
-  close-reads.Asked,
-  close-reads.Learnt,
-  path-infix-reads.Asked,
-  path-infix-reads.Learnt,
-  state-reads.Asked,
-  state-reads.Learnt,
-  name-star-reads.Asked,
-  name-star-reads.Learnt,
-  con-path-reads.Asked,
-  con-path-reads.Learnt,
-  rest-below t,
-  rest.Post,
-) (at-head-at t) at-head.Post
+at-head-returns-4 : (t : ℕ) → at-head-lts.Need-returns-4 (at-head-told t) (at-head-at t) at-head.Post
 unfolding pat.atPatHead plan choose chosen
 at-head-returns-4 t c =
-    let falls = c .before .before .before .before .before .before .before .before .before .before .before .before .before .before .before .before .before .before .before .before .before .before .before .before .pre .0 in
     let pre0 = c .before .before .before .before .before .before .before .before .before .before .before .before .before .before .before .before .before .before .before .before .before .before .before .before .pre .1 .0 in
-    let pre1 = c .before .before .before .before .before .before .before .before .before .before .before .before .before .before .before .before .before .before .before .before .before .before .before .before .pre .1 .1 in
     let s-con = c .before .before .before .before .before .before .before .before .before .before .before .before .before .before .before .before .before .s-con .ensures in
     let if1 = c .before .before .before .before .before .before .before .before .before .before .before .before .before .before .before .before .if1 .left in
     let if2 = c .before .before .before .before .before .before .before .before .before .before .before .before .before .before .before .if2 .left in
@@ -2234,24 +1140,7 @@ at-head-returns-4 t c =
     let close4 = c .before .before .close4 .ensures in
     in-steps pre0 (s-false _ _ (test-false s-con if1) (s-false _ _ (kind-not if2) (s-false _ _ (kind-not if3) (s-true _ _ (test-true name-star if4) (s-by _ (settled state2 (runs-in con-path)) (s-close close4 s-end))))))
 
-at-head-rest-requires : (t : ℕ) → at-head-lts.Need-rest-requires (
-  s-con-reads.Asked,
-  s-con-reads.Learnt,
-  bump-reads.Asked,
-  bump-reads.Learnt,
-  close-reads.Asked,
-  close-reads.Learnt,
-  path-infix-reads.Asked,
-  path-infix-reads.Learnt,
-  state-reads.Asked,
-  state-reads.Learnt,
-  name-star-reads.Asked,
-  name-star-reads.Learnt,
-  con-path-reads.Asked,
-  con-path-reads.Learnt,
-  rest-below t,
-  rest.Post,
-) (at-head-at t) at-head.Post
+at-head-rest-requires : (t : ℕ) → at-head-lts.Need-rest-requires (at-head-told t) (at-head-at t) at-head.Post
 at-head-rest-requires t c κs =
     let falls = c .before .before .before .before .before .before .before .before .before .before .before .before .before .before .pre .0 in
     let pre0 = c .before .before .before .before .before .before .before .before .before .before .before .before .before .before .pre .1 .0 in
@@ -2262,71 +1151,18 @@ at-head-rest-requires t c κs =
     let if4 = c .before .before .if4 .left in
     (omega arith, (pre0, pre1))
 
-at-head-same-length-7 : (t : ℕ) → at-head-lts.Need-same-length-7 (
-  s-con-reads.Asked,
-  s-con-reads.Learnt,
-  bump-reads.Asked,
-  bump-reads.Learnt,
-  close-reads.Asked,
-  close-reads.Learnt,
-  path-infix-reads.Asked,
-  path-infix-reads.Learnt,
-  state-reads.Asked,
-  state-reads.Learnt,
-  name-star-reads.Asked,
-  name-star-reads.Learnt,
-  con-path-reads.Asked,
-  con-path-reads.Learnt,
-  rest-below t,
-  rest.Post,
-) (at-head-at t) at-head.Post
+at-head-same-length-7 : (t : ℕ) → at-head-lts.Need-same-length-7 (at-head-told t) (at-head-at t) at-head.Post
 at-head-same-length-7 t c =
     c .before .before .before .before .rest .kept .1 .1 .1 .1 .0
 
-at-head-same-length-8 : (t : ℕ) → at-head-lts.Need-same-length-8 (
-  s-con-reads.Asked,
-  s-con-reads.Learnt,
-  bump-reads.Asked,
-  bump-reads.Learnt,
-  close-reads.Asked,
-  close-reads.Learnt,
-  path-infix-reads.Asked,
-  path-infix-reads.Learnt,
-  state-reads.Asked,
-  state-reads.Learnt,
-  name-star-reads.Asked,
-  name-star-reads.Learnt,
-  con-path-reads.Asked,
-  con-path-reads.Learnt,
-  rest-below t,
-  rest.Post,
-) (at-head-at t) at-head.Post
+at-head-same-length-8 : (t : ℕ) → at-head-lts.Need-same-length-8 (at-head-told t) (at-head-at t) at-head.Post
 at-head-same-length-8 t c =
     c .before .before .before .before .rest .kept .1 .1 .1 .1 .1 .0
 
-at-head-returns-5 : (t : ℕ) → at-head-lts.Need-returns-5 (
-  s-con-reads.Asked,
-  s-con-reads.Learnt,
-  bump-reads.Asked,
-  bump-reads.Learnt,
-  close-reads.Asked,
-  close-reads.Learnt,
-  path-infix-reads.Asked,
-  path-infix-reads.Learnt,
-  state-reads.Asked,
-  state-reads.Learnt,
-  name-star-reads.Asked,
-  name-star-reads.Learnt,
-  con-path-reads.Asked,
-  con-path-reads.Learnt,
-  rest-below t,
-  rest.Post,
-) (at-head-at t) at-head.Post
+at-head-returns-5 : (t : ℕ) → at-head-lts.Need-returns-5 (at-head-told t) (at-head-at t) at-head.Post
 unfolding pat.atPatHead plan choose chosen
 at-head-returns-5 t c =
-    let falls = c .before .before .before .before .before .before .before .before .before .before .before .before .before .before .before .before .before .before .before .pre .0 in
     let pre0 = c .before .before .before .before .before .before .before .before .before .before .before .before .before .before .before .before .before .before .before .pre .1 .0 in
-    let pre1 = c .before .before .before .before .before .before .before .before .before .before .before .before .before .before .before .before .before .before .before .pre .1 .1 in
     let s-con = c .before .before .before .before .before .before .before .before .before .before .before .before .s-con .ensures in
     let if1 = c .before .before .before .before .before .before .before .before .before .before .before .if1 .left in
     let if2 = c .before .before .before .before .before .before .before .before .before .before .if2 .left in
@@ -2336,246 +1172,111 @@ at-head-returns-5 t c =
     let rest = c .before .before .before .before .rest .ensures in
     in-steps pre0 (s-false _ _ (test-false s-con if1) (s-false _ _ (kind-not if2) (s-false _ _ (kind-not if3) (s-false _ _ (test-false name-star if4) (s-by _ rest s-end)))))
 
-at-must-at-pat-requires : (t : ℕ) → at-must-lts.Need-at-pat-requires (
-  at-pat-below t,
-  at-pat.Post,
-  report-reads.Asked,
-  report-reads.Learnt,
-) (at-must-at t) at-must.Post
+at-must-at-pat-requires : (t : ℕ) → at-must-lts.Need-at-pat-requires (at-must-told t) (at-must-at t) at-must.Post
 at-must-at-pat-requires t c κs =
     let falls = c .before .before .before .before .before .before .before .before .pre .0 in
     let pre0 = c .before .before .before .before .before .before .before .before .pre .1 in
     (omega arith, pre0)
 
-at-must-enum-known-got : (t : ℕ) → at-must-lts.Need-enum-known-got (
-  at-pat-below t,
-  at-pat.Post,
-  report-reads.Asked,
-  report-reads.Learnt,
-) (at-must-at t) at-must.Post
+at-must-enum-known-got : (t : ℕ) → at-must-lts.Need-enum-known-got (at-must-told t) (at-must-at t) at-must.Post
 at-must-enum-known-got t c =
     let falls = c .before .before .before .before .before .before .before .before .before .before .before .before .before .before .pre .0 in
     let pre0 = c .before .before .before .before .before .before .before .before .before .before .before .before .before .before .pre .1 in
     search needs
 
-at-must-enum-known-got-2 : (t : ℕ) → at-must-lts.Need-enum-known-got-2 (
-  at-pat-below t,
-  at-pat.Post,
-  report-reads.Asked,
-  report-reads.Learnt,
-) (at-must-at t) at-must.Post
+at-must-enum-known-got-2 : (t : ℕ) → at-must-lts.Need-enum-known-got-2 (at-must-told t) (at-must-at t) at-must.Post
 at-must-enum-known-got-2 t c =
     let falls = c .before .before .before .before .before .before .before .before .before .before .before .before .before .before .pre .0 in
     let pre0 = c .before .before .before .before .before .before .before .before .before .before .before .before .before .before .pre .1 in
     search needs
 
-at-must-report-requires : (t : ℕ) → at-must-lts.Need-report-requires (
-  at-pat-below t,
-  at-pat.Post,
-  report-reads.Asked,
-  report-reads.Learnt,
-) (at-must-at t) at-must.Post
+at-must-report-requires : (t : ℕ) → at-must-lts.Need-report-requires (at-must-told t) (at-must-at t) at-must.Post
 at-must-report-requires t c κs =
     let falls = c .before .before .before .before .before .before .before .before .before .before .before .before .before .before .before .before .before .pre .0 in
     let at-pat = rw (c .before .before .got2 .given .1) at (c .before .before .before .before .before .before .before .before .at-pat .ensures) in
     let at-pat-ok = at-pat true .ok in
     (at-pat-ok .holds, (let few = at-pat-ok .reads .few in let inside = at-pat-ok .reads .inside in omega arith), omega arith)
 
-at-must-same-length : (t : ℕ) → at-must-lts.Need-same-length (
-  at-pat-below t,
-  at-pat.Post,
-  report-reads.Asked,
-  report-reads.Learnt,
-) (at-must-at t) at-must.Post
+at-must-same-length : (t : ℕ) → at-must-lts.Need-same-length (at-must-told t) (at-must-at t) at-must.Post
 at-must-same-length t c =
     c .before .before .before .before .before .before .before .at-pat .kept .1 .1 .1 .1 .0
 
-at-must-same-length-2 : (t : ℕ) → at-must-lts.Need-same-length-2 (
-  at-pat-below t,
-  at-pat.Post,
-  report-reads.Asked,
-  report-reads.Learnt,
-) (at-must-at t) at-must.Post
+at-must-same-length-2 : (t : ℕ) → at-must-lts.Need-same-length-2 (at-must-told t) (at-must-at t) at-must.Post
 at-must-same-length-2 t c =
     c .before .before .before .before .before .before .before .at-pat .kept .1 .1 .1 .1 .1 .0
 
-at-must-returns : (t : ℕ) → at-must-lts.Need-returns (
-  at-pat-below t,
-  at-pat.Post,
-  report-reads.Asked,
-  report-reads.Learnt,
-) (at-must-at t) at-must.Post
+at-must-returns : (t : ℕ) → at-must-lts.Need-returns (at-must-told t) (at-must-at t) at-must.Post
 unfolding pat.atPatMust plan choose chosen
 at-must-returns t c =
-    let falls = c .before .before .before .before .before .before .before .before .before .before .before .before .before .before .before .before .pre .0 in
     let pre0 = c .before .before .before .before .before .before .before .before .before .before .before .before .before .before .before .before .pre .1 in
     let at-pat = rw (c .before .got .given .1) at (c .before .before .before .before .before .before .before .at-pat .ensures) in
     by-steps pre0 (λ b. s-by _ (runs-in (at-pat _)) s-end)
 
-at-must-same-length-3 : (t : ℕ) → at-must-lts.Need-same-length-3 (
-  at-pat-below t,
-  at-pat.Post,
-  report-reads.Asked,
-  report-reads.Learnt,
-) (at-must-at t) at-must.Post
+at-must-same-length-3 : (t : ℕ) → at-must-lts.Need-same-length-3 (at-must-told t) (at-must-at t) at-must.Post
 at-must-same-length-3 t c =
     c .before .before .before .before .before .before .before .before .before .before .before .at-pat .kept .1 .1 .1 .1 .0
 
-at-must-same-length-4 : (t : ℕ) → at-must-lts.Need-same-length-4 (
-  at-pat-below t,
-  at-pat.Post,
-  report-reads.Asked,
-  report-reads.Learnt,
-) (at-must-at t) at-must.Post
+at-must-same-length-4 : (t : ℕ) → at-must-lts.Need-same-length-4 (at-must-told t) (at-must-at t) at-must.Post
 at-must-same-length-4 t c =
     c .before .before .report .kept .0 ∙ c .before .before .before .before .before .before .before .before .before .before .before .at-pat .kept .1 .1 .1 .1 .1 .0
 
-at-must-returns-2 : (t : ℕ) → at-must-lts.Need-returns-2 (
-  at-pat-below t,
-  at-pat.Post,
-  report-reads.Asked,
-  report-reads.Learnt,
-) (at-must-at t) at-must.Post
+at-must-returns-2 : (t : ℕ) → at-must-lts.Need-returns-2 (at-must-told t) (at-must-at t) at-must.Post
 unfolding pat.atPatMust plan choose chosen
 at-must-returns-2 t c =
-    let falls = c .before .before .before .before .before .before .before .before .before .before .before .before .before .before .before .before .before .before .before .before .pre .0 in
     let pre0 = c .before .before .before .before .before .before .before .before .before .before .before .before .before .before .before .before .before .before .before .before .pre .1 in
     let at-pat = rw (c .before .before .before .before .before .got2 .given .1) at (c .before .before .before .before .before .before .before .before .before .before .before .at-pat .ensures) in
     let report = c .before .before .report .ensures in
     by-steps pre0 (λ b. s-by _ (runs-in (at-pat _)) (s-report report s-end))
 
-at-pat-peek-requires : (t : ℕ) → at-pat-lts.Need-peek-requires (
-  peek-reads.Asked,
-  peek-reads.Learnt,
-  refuse-reads.Asked,
-  refuse-reads.Learnt,
-  mark-reads.Asked,
-  mark-reads.Learnt,
-  at-head-below t,
-  at-head.Post,
-) (at-pat-at t) at-pat.Post
+at-pat-peek-requires : (t : ℕ) → at-pat-lts.Need-peek-requires (at-pat-told t) (at-pat-at t) at-pat.Post
 at-pat-peek-requires t c κs =
     let pre0 = c .before .before .before .before .before .before .pre .1 in
     pre0 .reads
 
-at-pat-enum-known-k : (t : ℕ) → at-pat-lts.Need-enum-known-k (
-  peek-reads.Asked,
-  peek-reads.Learnt,
-  refuse-reads.Asked,
-  refuse-reads.Learnt,
-  mark-reads.Asked,
-  mark-reads.Learnt,
-  at-head-below t,
-  at-head.Post,
-) (at-pat-at t) at-pat.Post
+at-pat-enum-known-k : (t : ℕ) → at-pat-lts.Need-enum-known-k (at-pat-told t) (at-pat-at t) at-pat.Post
 at-pat-enum-known-k t c =
     let falls = c .before .before .before .before .before .before .before .before .pre .0 in
     let pre0 = c .before .before .before .before .before .before .before .before .pre .1 in
     search needs
 
-at-pat-enum-told : (t : ℕ) → at-pat-lts.Need-enum-told (
-  peek-reads.Asked,
-  peek-reads.Learnt,
-  refuse-reads.Asked,
-  refuse-reads.Learnt,
-  mark-reads.Asked,
-  mark-reads.Learnt,
-  at-head-below t,
-  at-head.Post,
-) (at-pat-at t) at-pat.Post
+at-pat-enum-told : (t : ℕ) → at-pat-lts.Need-enum-told (at-pat-told t) (at-pat-at t) at-pat.Post
 at-pat-enum-told t c =
     let falls = c .before .before .before .before .before .before .before .before .pre .0 in
     let pre0 = c .before .before .before .before .before .before .before .before .pre .1 in
     search needs
 
-at-pat-returns : (t : ℕ) → at-pat-lts.Need-returns (
-  peek-reads.Asked,
-  peek-reads.Learnt,
-  refuse-reads.Asked,
-  refuse-reads.Learnt,
-  mark-reads.Asked,
-  mark-reads.Learnt,
-  at-head-below t,
-  at-head.Post,
-) (at-pat-at t) at-pat.Post
+at-pat-returns : (t : ℕ) → at-pat-lts.Need-returns (at-pat-told t) (at-pat-at t) at-pat.Post
 unfolding pat.atPat plan choose chosen
 at-pat-returns t c =
-    let falls = c .before .before .before .before .before .before .before .before .before .pre .0 in
     let pre0 = c .before .before .before .before .before .before .before .before .before .pre .1 in
     let peek = rw (c .enum-told .given .1) at (c .before .before .peek .ensures) in
     λ g. by-steps pre0 (λ b. s-look peek s-end)
 
-at-pat-refuse-requires : (t : ℕ) → at-pat-lts.Need-refuse-requires (
-  peek-reads.Asked,
-  peek-reads.Learnt,
-  refuse-reads.Asked,
-  refuse-reads.Learnt,
-  mark-reads.Asked,
-  mark-reads.Learnt,
-  at-head-below t,
-  at-head.Post,
-) (at-pat-at t) at-pat.Post
+at-pat-refuse-requires : (t : ℕ) → at-pat-lts.Need-refuse-requires (at-pat-told t) (at-pat-at t) at-pat.Post
 at-pat-refuse-requires t c κs =
     tt
 
-at-pat-returns-2 : (t : ℕ) → at-pat-lts.Need-returns-2 (
-  peek-reads.Asked,
-  peek-reads.Learnt,
-  refuse-reads.Asked,
-  refuse-reads.Learnt,
-  mark-reads.Asked,
-  mark-reads.Learnt,
-  at-head-below t,
-  at-head.Post,
-) (at-pat-at t) at-pat.Post
+at-pat-returns-2 : (t : ℕ) → at-pat-lts.Need-returns-2 (at-pat-told t) (at-pat-at t) at-pat.Post
 unfolding pat.atPat plan choose chosen
 at-pat-returns-2 t c =
-    let falls = c .before .before .before .before .before .before .before .before .before .before .before .before .pre .0 in
     let pre0 = c .before .before .before .before .before .before .before .before .before .before .before .before .pre .1 in
     let peek = rw (c .before .before .before .k .given .1) at (c .before .before .before .before .before .peek .ensures) in
     let if1 = c .before .if1 .taken in
     let refuse = c .refuse .ensures in
     λ g. by-steps pre0 (λ b. s-look peek (s-deep if1 refuse s-end))
 
-at-pat-mark-requires : (t : ℕ) → at-pat-lts.Need-mark-requires (
-  peek-reads.Asked,
-  peek-reads.Learnt,
-  refuse-reads.Asked,
-  refuse-reads.Learnt,
-  mark-reads.Asked,
-  mark-reads.Learnt,
-  at-head-below t,
-  at-head.Post,
-) (at-pat-at t) at-pat.Post
+at-pat-mark-requires : (t : ℕ) → at-pat-lts.Need-mark-requires (at-pat-told t) (at-pat-at t) at-pat.Post
 at-pat-mark-requires t c κs =
     tt
 
-at-pat-sub-at-head : (t : ℕ) → at-pat-lts.Need-sub-at-head (
-  peek-reads.Asked,
-  peek-reads.Learnt,
-  refuse-reads.Asked,
-  refuse-reads.Learnt,
-  mark-reads.Asked,
-  mark-reads.Learnt,
-  at-head-below t,
-  at-head.Post,
-) (at-pat-at t) at-pat.Post
+at-pat-sub-at-head : (t : ℕ) → at-pat-lts.Need-sub-at-head (at-pat-told t) (at-pat-at t) at-pat.Post
 at-pat-sub-at-head t c =
     let falls = c .before .before .before .before .before .before .before .before .before .before .before .before .before .before .pre .0 in
     let pre0 = c .before .before .before .before .before .before .before .before .before .before .before .before .before .before .pre .1 in
     let if1 = c .before .before .before .if1 .left in
     search needs
 
-at-pat-at-head-requires : (t : ℕ) → at-pat-lts.Need-at-head-requires (
-  peek-reads.Asked,
-  peek-reads.Learnt,
-  refuse-reads.Asked,
-  refuse-reads.Learnt,
-  mark-reads.Asked,
-  mark-reads.Learnt,
-  at-head-below t,
-  at-head.Post,
-) (at-pat-at t) at-pat.Post
+at-pat-at-head-requires : (t : ℕ) → at-pat-lts.Need-at-head-requires (at-pat-told t) (at-pat-at t) at-pat.Post
 at-pat-at-head-requires t c κs =
     let falls = c .before .before .before .before .before .before .before .before .before .before .before .before .before .before .pre .0 in
     let pre0 = c .before .before .before .before .before .before .before .before .before .before .before .before .before .before .pre .1 in
@@ -2584,45 +1285,17 @@ at-pat-at-head-requires t c κs =
     let mark-ok = ok-marks mark pre0 in
     (omega arith, (mark-ok, small-len mark-ok))
 
-at-pat-same-length : (t : ℕ) → at-pat-lts.Need-same-length (
-  peek-reads.Asked,
-  peek-reads.Learnt,
-  refuse-reads.Asked,
-  refuse-reads.Learnt,
-  mark-reads.Asked,
-  mark-reads.Learnt,
-  at-head-below t,
-  at-head.Post,
-) (at-pat-at t) at-pat.Post
+at-pat-same-length : (t : ℕ) → at-pat-lts.Need-same-length (at-pat-told t) (at-pat-at t) at-pat.Post
 at-pat-same-length t c =
     c .before .before .before .before .at-head .kept .1 .1 .1 .1 .0
 
-at-pat-same-length-2 : (t : ℕ) → at-pat-lts.Need-same-length-2 (
-  peek-reads.Asked,
-  peek-reads.Learnt,
-  refuse-reads.Asked,
-  refuse-reads.Learnt,
-  mark-reads.Asked,
-  mark-reads.Learnt,
-  at-head-below t,
-  at-head.Post,
-) (at-pat-at t) at-pat.Post
+at-pat-same-length-2 : (t : ℕ) → at-pat-lts.Need-same-length-2 (at-pat-told t) (at-pat-at t) at-pat.Post
 at-pat-same-length-2 t c =
     c .before .before .before .before .at-head .kept .1 .1 .1 .1 .1 .0
 
-at-pat-returns-3 : (t : ℕ) → at-pat-lts.Need-returns-3 (
-  peek-reads.Asked,
-  peek-reads.Learnt,
-  refuse-reads.Asked,
-  refuse-reads.Learnt,
-  mark-reads.Asked,
-  mark-reads.Learnt,
-  at-head-below t,
-  at-head.Post,
-) (at-pat-at t) at-pat.Post
+at-pat-returns-3 : (t : ℕ) → at-pat-lts.Need-returns-3 (at-pat-told t) (at-pat-at t) at-pat.Post
 unfolding pat.atPat plan choose chosen
 at-pat-returns-3 t c =
-    let falls = c .before .before .before .before .before .before .before .before .before .before .before .before .before .before .before .before .before .before .before .pre .0 in
     let pre0 = c .before .before .before .before .before .before .before .before .before .before .before .before .before .before .before .before .before .before .before .pre .1 in
     let peek = rw (c .before .before .before .before .before .before .before .before .before .before .k .given .1) at (c .before .before .before .before .before .before .before .before .before .before .before .before .peek .ensures) in
     let if1 = c .before .before .before .before .before .before .before .before .if1 .left in
@@ -2630,50 +1303,17 @@ at-pat-returns-3 t c =
     let at-head = c .before .before .before .before .at-head .ensures in
     λ g. by-steps pre0 (λ b. s-look peek (s-mark if1 mark (s-by _ at-head s-end)))
 
-at-round-at-requires : (t : ℕ) → at-round-lts.Need-at-requires (
-  at-reads.Asked,
-  at-reads.Learnt,
-  bump-reads.Asked,
-  bump-reads.Learnt,
-  close-reads.Asked,
-  close-reads.Learnt,
-  pat-arg-below t,
-  pat-arg.Post,
-  args-below t,
-  args.Post,
-) (at-round-at t) at-round.Post
+at-round-at-requires : (t : ℕ) → at-round-lts.Need-at-requires (at-round-told t) (at-round-at t) at-round.Post
 at-round-at-requires t c κs =
     let pre0 = c .before .before .before .before .before .before .pre .1 .0 in
     pre0 .reads
 
-at-round-bump-requires : (t : ℕ) → at-round-lts.Need-bump-requires (
-  at-reads.Asked,
-  at-reads.Learnt,
-  bump-reads.Asked,
-  bump-reads.Learnt,
-  close-reads.Asked,
-  close-reads.Learnt,
-  pat-arg-below t,
-  pat-arg.Post,
-  args-below t,
-  args.Post,
-) (at-round-at t) at-round.Post
+at-round-bump-requires : (t : ℕ) → at-round-lts.Need-bump-requires (at-round-told t) (at-round-at t) at-round.Post
 at-round-bump-requires t c κs =
     let pre0 = c .before .before .before .before .before .before .before .before .before .pre .1 .0 in
     (pre0 .reads, pre0 .logs)
 
-at-round-close-requires : (t : ℕ) → at-round-lts.Need-close-requires (
-  at-reads.Asked,
-  at-reads.Learnt,
-  bump-reads.Asked,
-  bump-reads.Learnt,
-  close-reads.Asked,
-  close-reads.Learnt,
-  pat-arg-below t,
-  pat-arg.Post,
-  args-below t,
-  args.Post,
-) (at-round-at t) at-round.Post
+at-round-close-requires : (t : ℕ) → at-round-lts.Need-close-requires (at-round-told t) (at-round-at t) at-round.Post
 at-round-close-requires t c κs =
     let pre0 = c .before .before .before .before .before .before .before .before .before .before .before .before .before .pre .1 .0 in
     let pre1 = c .before .before .before .before .before .before .before .before .before .before .before .before .before .pre .1 .1 in
@@ -2681,56 +1321,21 @@ at-round-close-requires t c κs =
     let bump-ok = ok-bumps bump pre0 in
     (bump-ok .logs, pre1)
 
-at-round-same-length : (t : ℕ) → at-round-lts.Need-same-length (
-  at-reads.Asked,
-  at-reads.Learnt,
-  bump-reads.Asked,
-  bump-reads.Learnt,
-  close-reads.Asked,
-  close-reads.Learnt,
-  pat-arg-below t,
-  pat-arg.Post,
-  args-below t,
-  args.Post,
-) (at-round-at t) at-round.Post
+at-round-same-length : (t : ℕ) → at-round-lts.Need-same-length (at-round-told t) (at-round-at t) at-round.Post
 at-round-same-length t c =
     c .before .before .close .kept .0 ∙ c .before .before .before .before .before .before .bump .kept .1 .0
 
-at-round-returns : (t : ℕ) → at-round-lts.Need-returns (
-  at-reads.Asked,
-  at-reads.Learnt,
-  bump-reads.Asked,
-  bump-reads.Learnt,
-  close-reads.Asked,
-  close-reads.Learnt,
-  pat-arg-below t,
-  pat-arg.Post,
-  args-below t,
-  args.Post,
-) (at-round-at t) at-round.Post
+at-round-returns : (t : ℕ) → at-round-lts.Need-returns (at-round-told t) (at-round-at t) at-round.Post
 unfolding pat.atPatLRound util.endSep plan choose chosen
 at-round-returns t c =
-    let falls = c .before .before .before .before .before .before .before .before .before .before .before .before .before .before .before .before .pre .0 in
     let pre0 = c .before .before .before .before .before .before .before .before .before .before .before .before .before .before .before .before .pre .1 .0 in
-    let pre1 = c .before .before .before .before .before .before .before .before .before .before .before .before .before .before .before .before .pre .1 .1 in
     let at = c .before .before .before .before .before .before .before .before .before .at .ensures in
     let if1 = c .before .before .before .before .before .before .before .before .if1 .taken in
     let bump = c .before .before .before .before .before .before .bump .ensures in
     let close = c .before .before .close .ensures in
     in-steps pre0 (s-kind (s-true _ _ (kind-at _ _ _ _ at if1) (s-bump bump (s-close close s-end))))
 
-at-round-pat-arg-requires : (t : ℕ) → at-round-lts.Need-pat-arg-requires (
-  at-reads.Asked,
-  at-reads.Learnt,
-  bump-reads.Asked,
-  bump-reads.Learnt,
-  close-reads.Asked,
-  close-reads.Learnt,
-  pat-arg-below t,
-  pat-arg.Post,
-  args-below t,
-  args.Post,
-) (at-round-at t) at-round.Post
+at-round-pat-arg-requires : (t : ℕ) → at-round-lts.Need-pat-arg-requires (at-round-told t) (at-round-at t) at-round.Post
 at-round-pat-arg-requires t c κs =
     let falls = c .before .before .before .before .before .before .before .before .before .before .pre .0 in
     let pre0 = c .before .before .before .before .before .before .before .before .before .before .pre .1 .0 in
@@ -2738,18 +1343,7 @@ at-round-pat-arg-requires t c κs =
     let if1 = c .before .before .if1 .left in
     (omega arith, pre0)
 
-at-round-enum-known-first : (t : ℕ) → at-round-lts.Need-enum-known-first (
-  at-reads.Asked,
-  at-reads.Learnt,
-  bump-reads.Asked,
-  bump-reads.Learnt,
-  close-reads.Asked,
-  close-reads.Learnt,
-  pat-arg-below t,
-  pat-arg.Post,
-  args-below t,
-  args.Post,
-) (at-round-at t) at-round.Post
+at-round-enum-known-first : (t : ℕ) → at-round-lts.Need-enum-known-first (at-round-told t) (at-round-at t) at-round.Post
 at-round-enum-known-first t c =
     let falls = c .before .before .before .before .before .before .before .before .before .before .before .before .before .before .before .before .pre .0 in
     let pre0 = c .before .before .before .before .before .before .before .before .before .before .before .before .before .before .before .before .pre .1 .0 in
@@ -2757,18 +1351,7 @@ at-round-enum-known-first t c =
     let if1 = c .before .before .before .before .before .before .before .before .if1 .left in
     search needs
 
-at-round-args-requires : (t : ℕ) → at-round-lts.Need-args-requires (
-  at-reads.Asked,
-  at-reads.Learnt,
-  bump-reads.Asked,
-  bump-reads.Learnt,
-  close-reads.Asked,
-  close-reads.Learnt,
-  pat-arg-below t,
-  pat-arg.Post,
-  args-below t,
-  args.Post,
-) (at-round-at t) at-round.Post
+at-round-args-requires : (t : ℕ) → at-round-lts.Need-args-requires (at-round-told t) (at-round-at t) at-round.Post
 at-round-args-requires t c κs =
     let falls = c .before .before .before .before .before .before .before .before .before .before .before .before .before .before .before .before .before .before .before .before .pre .0 in
     let pre1 = c .before .before .before .before .before .before .before .before .before .before .before .before .before .before .before .before .before .before .before .before .pre .1 .1 in
@@ -2778,36 +1361,14 @@ at-round-args-requires t c κs =
     let pat-arg-ok = pat-arg .ok in
     (omega arith, (pat-arg-ok, omega arith))
 
-at-round-close-requires-2 : (t : ℕ) → at-round-lts.Need-close-requires-2 (
-  at-reads.Asked,
-  at-reads.Learnt,
-  bump-reads.Asked,
-  bump-reads.Learnt,
-  close-reads.Asked,
-  close-reads.Learnt,
-  pat-arg-below t,
-  pat-arg.Post,
-  args-below t,
-  args.Post,
-) (at-round-at t) at-round.Post
+at-round-close-requires-2 : (t : ℕ) → at-round-lts.Need-close-requires-2 (at-round-told t) (at-round-at t) at-round.Post
 at-round-close-requires-2 t c κs =
     let pre1 = c .before .before .before .before .before .before .before .before .before .before .before .before .before .before .before .before .before .before .before .before .before .before .before .before .before .before .pre .1 .1 in
     let args2 = c .before .before .before .before .before .args2 .ensures in
     let args2-ok = args2 .ok in
     (args2-ok .logs, pre1)
 
-at-round-enum-known-first-2 : (t : ℕ) → at-round-lts.Need-enum-known-first-2 (
-  at-reads.Asked,
-  at-reads.Learnt,
-  bump-reads.Asked,
-  bump-reads.Learnt,
-  close-reads.Asked,
-  close-reads.Learnt,
-  pat-arg-below t,
-  pat-arg.Post,
-  args-below t,
-  args.Post,
-) (at-round-at t) at-round.Post
+at-round-enum-known-first-2 : (t : ℕ) → at-round-lts.Need-enum-known-first-2 (at-round-told t) (at-round-at t) at-round.Post
 at-round-enum-known-first-2 t c =
     let falls = c .before .before .before .before .before .before .before .before .before .before .before .before .before .before .before .before .pre .0 in
     let pre0 = c .before .before .before .before .before .before .before .before .before .before .before .before .before .before .before .before .pre .1 .0 in
@@ -2815,36 +1376,14 @@ at-round-enum-known-first-2 t c =
     let if1 = c .before .before .before .before .before .before .before .before .if1 .left in
     search needs
 
-at-round-bump-requires-2 : (t : ℕ) → at-round-lts.Need-bump-requires-2 (
-  at-reads.Asked,
-  at-reads.Learnt,
-  bump-reads.Asked,
-  bump-reads.Learnt,
-  close-reads.Asked,
-  close-reads.Learnt,
-  pat-arg-below t,
-  pat-arg.Post,
-  args-below t,
-  args.Post,
-) (at-round-at t) at-round.Post
+at-round-bump-requires-2 : (t : ℕ) → at-round-lts.Need-bump-requires-2 (at-round-told t) (at-round-at t) at-round.Post
 at-round-bump-requires-2 t c κs =
     let at = c .before .before .before .before .before .before .before .before .before .before .before .before .at .ensures in
     let pat-arg = rw (c .before .before .first2 .given .1) at (c .before .before .before .before .before .before .before .before .pat-arg .ensures) in
     let pat-arg-ok = pat-arg .ok in
     (pat-arg-ok .reads, pat-arg-ok .logs)
 
-at-round-close-requires-3 : (t : ℕ) → at-round-lts.Need-close-requires-3 (
-  at-reads.Asked,
-  at-reads.Learnt,
-  bump-reads.Asked,
-  bump-reads.Learnt,
-  close-reads.Asked,
-  close-reads.Learnt,
-  pat-arg-below t,
-  pat-arg.Post,
-  args-below t,
-  args.Post,
-) (at-round-at t) at-round.Post
+at-round-close-requires-3 : (t : ℕ) → at-round-lts.Need-close-requires-3 (at-round-told t) (at-round-at t) at-round.Post
 at-round-close-requires-3 t c κs =
     let pre1 = c .before .before .before .before .before .before .before .before .before .before .before .before .before .before .before .before .before .before .before .before .before .before .before .pre .1 .1 in
     let at = c .before .before .before .before .before .before .before .before .before .before .before .before .before .before .before .before .at .ensures in
@@ -2854,53 +1393,18 @@ at-round-close-requires-3 t c κs =
     let bump2-ok = ok-bumps bump2 pat-arg-ok in
     (bump2-ok .logs, pre1)
 
-at-round-same-length-2 : (t : ℕ) → at-round-lts.Need-same-length-2 (
-  at-reads.Asked,
-  at-reads.Learnt,
-  bump-reads.Asked,
-  bump-reads.Learnt,
-  close-reads.Asked,
-  close-reads.Learnt,
-  pat-arg-below t,
-  pat-arg.Post,
-  args-below t,
-  args.Post,
-) (at-round-at t) at-round.Post
+at-round-same-length-2 : (t : ℕ) → at-round-lts.Need-same-length-2 (at-round-told t) (at-round-at t) at-round.Post
 at-round-same-length-2 t c =
     c .before .before .close2 .kept .0 ∙ c .before .before .before .before .before .before .before .before .args2 .kept .1 .1 .1 .1 .0 ∙ c .before .before .before .before .before .before .before .before .before .before .before .before .before .before .before .before .before .before .pat-arg .kept .1 .1 .1 .1 .0
 
-at-round-same-length-3 : (t : ℕ) → at-round-lts.Need-same-length-3 (
-  at-reads.Asked,
-  at-reads.Learnt,
-  bump-reads.Asked,
-  bump-reads.Learnt,
-  close-reads.Asked,
-  close-reads.Learnt,
-  pat-arg-below t,
-  pat-arg.Post,
-  args-below t,
-  args.Post,
-) (at-round-at t) at-round.Post
+at-round-same-length-3 : (t : ℕ) → at-round-lts.Need-same-length-3 (at-round-told t) (at-round-at t) at-round.Post
 at-round-same-length-3 t c =
     c .before .before .before .before .before .before .before .before .args2 .kept .1 .1 .1 .1 .1 .0 ∙ c .before .before .before .before .before .before .before .before .before .before .before .before .before .before .before .before .before .before .pat-arg .kept .1 .1 .1 .1 .1 .0
 
-at-round-returns-2 : (t : ℕ) → at-round-lts.Need-returns-2 (
-  at-reads.Asked,
-  at-reads.Learnt,
-  bump-reads.Asked,
-  bump-reads.Learnt,
-  close-reads.Asked,
-  close-reads.Learnt,
-  pat-arg-below t,
-  pat-arg.Post,
-  args-below t,
-  args.Post,
-) (at-round-at t) at-round.Post
+at-round-returns-2 : (t : ℕ) → at-round-lts.Need-returns-2 (at-round-told t) (at-round-at t) at-round.Post
 unfolding pat.atPatLRound util.endSep plan choose chosen
 at-round-returns-2 t c =
-    let falls = c .before .before .before .before .before .before .before .before .before .before .before .before .before .before .before .before .before .before .before .before .before .before .before .before .before .before .before .before .before .pre .0 in
     let pre0 = c .before .before .before .before .before .before .before .before .before .before .before .before .before .before .before .before .before .before .before .before .before .before .before .before .before .before .before .before .before .pre .1 .0 in
-    let pre1 = c .before .before .before .before .before .before .before .before .before .before .before .before .before .before .before .before .before .before .before .before .before .before .before .before .before .before .before .before .before .pre .1 .1 in
     let at = c .before .before .before .before .before .before .before .before .before .before .before .before .before .before .before .before .before .before .before .before .before .before .at .ensures in
     let if1 = c .before .before .before .before .before .before .before .before .before .before .before .before .before .before .before .before .before .before .before .before .before .if1 .left in
     let pat-arg = rw (c .before .before .before .before .before .before .before .before .before .before .before .before .first .given .1) at (c .before .before .before .before .before .before .before .before .before .before .before .before .before .before .before .before .before .before .pat-arg .ensures) in
@@ -2908,53 +1412,18 @@ at-round-returns-2 t c =
     let close2 = c .before .before .close2 .ensures in
     in-steps pre0 (s-kind (s-false _ _ (kind-off _ _ _ _ at if1) (s-by _ (runs-in pat-arg) (s-run args2 (s-close close2 s-end)))))
 
-at-round-same-length-4 : (t : ℕ) → at-round-lts.Need-same-length-4 (
-  at-reads.Asked,
-  at-reads.Learnt,
-  bump-reads.Asked,
-  bump-reads.Learnt,
-  close-reads.Asked,
-  close-reads.Learnt,
-  pat-arg-below t,
-  pat-arg.Post,
-  args-below t,
-  args.Post,
-) (at-round-at t) at-round.Post
+at-round-same-length-4 : (t : ℕ) → at-round-lts.Need-same-length-4 (at-round-told t) (at-round-at t) at-round.Post
 at-round-same-length-4 t c =
     c .before .before .close3 .kept .0 ∙ c .before .before .before .before .before .before .bump2 .kept .1 .0 ∙ c .before .before .before .before .before .before .before .before .before .before .before .before .before .before .before .pat-arg .kept .1 .1 .1 .1 .0
 
-at-round-same-length-5 : (t : ℕ) → at-round-lts.Need-same-length-5 (
-  at-reads.Asked,
-  at-reads.Learnt,
-  bump-reads.Asked,
-  bump-reads.Learnt,
-  close-reads.Asked,
-  close-reads.Learnt,
-  pat-arg-below t,
-  pat-arg.Post,
-  args-below t,
-  args.Post,
-) (at-round-at t) at-round.Post
+at-round-same-length-5 : (t : ℕ) → at-round-lts.Need-same-length-5 (at-round-told t) (at-round-at t) at-round.Post
 at-round-same-length-5 t c =
     c .before .before .before .before .before .before .before .before .before .before .before .before .before .before .before .pat-arg .kept .1 .1 .1 .1 .1 .0
 
-at-round-returns-3 : (t : ℕ) → at-round-lts.Need-returns-3 (
-  at-reads.Asked,
-  at-reads.Learnt,
-  bump-reads.Asked,
-  bump-reads.Learnt,
-  close-reads.Asked,
-  close-reads.Learnt,
-  pat-arg-below t,
-  pat-arg.Post,
-  args-below t,
-  args.Post,
-) (at-round-at t) at-round.Post
+at-round-returns-3 : (t : ℕ) → at-round-lts.Need-returns-3 (at-round-told t) (at-round-at t) at-round.Post
 unfolding pat.atPatLRound util.endSep plan choose chosen
 at-round-returns-3 t c =
-    let falls = c .before .before .before .before .before .before .before .before .before .before .before .before .before .before .before .before .before .before .before .before .before .before .before .before .before .before .pre .0 in
     let pre0 = c .before .before .before .before .before .before .before .before .before .before .before .before .before .before .before .before .before .before .before .before .before .before .before .before .before .before .pre .1 .0 in
-    let pre1 = c .before .before .before .before .before .before .before .before .before .before .before .before .before .before .before .before .before .before .before .before .before .before .before .before .before .before .pre .1 .1 in
     let at = c .before .before .before .before .before .before .before .before .before .before .before .before .before .before .before .before .before .before .before .at .ensures in
     let if1 = c .before .before .before .before .before .before .before .before .before .before .before .before .before .before .before .before .before .before .if1 .left in
     let pat-arg = rw (c .before .before .before .before .before .before .before .before .before .first2 .given .1) at (c .before .before .before .before .before .before .before .before .before .before .before .before .before .before .before .pat-arg .ensures) in
@@ -2962,48 +1431,28 @@ at-round-returns-3 t c =
     let close3 = c .before .before .close3 .ensures in
     in-steps pre0 (s-kind (s-false _ _ (kind-off _ _ _ _ at if1) (s-by _ (runs-in pat-arg) (s-bump bump2 (s-close close3 s-end)))))
 
-atom-at-pat-requires : (t : ℕ) → atom-lts.Need-at-pat-requires (
-  at-pat-below t,
-  at-pat.Post,
-  tail-below t,
-  tail.Post,
-) (atom-at t) atom.Post
+atom-at-pat-requires : (t : ℕ) → atom-lts.Need-at-pat-requires (atom-told t) (atom-at t) atom.Post
 atom-at-pat-requires t c κs =
     let falls = c .before .before .before .before .before .before .before .before .pre .0 in
     let pre0 = c .before .before .before .before .before .before .before .before .pre .1 .0 in
     let pre1 = c .before .before .before .before .before .before .before .before .pre .1 .1 in
     (omega arith, pre0)
 
-atom-enum-known-got : (t : ℕ) → atom-lts.Need-enum-known-got (
-  at-pat-below t,
-  at-pat.Post,
-  tail-below t,
-  tail.Post,
-) (atom-at t) atom.Post
+atom-enum-known-got : (t : ℕ) → atom-lts.Need-enum-known-got (atom-told t) (atom-at t) atom.Post
 atom-enum-known-got t c =
     let falls = c .before .before .before .before .before .before .before .before .before .before .before .before .before .before .pre .0 in
     let pre0 = c .before .before .before .before .before .before .before .before .before .before .before .before .before .before .pre .1 .0 in
     let pre1 = c .before .before .before .before .before .before .before .before .before .before .before .before .before .before .pre .1 .1 in
     search needs
 
-atom-enum-known-got-2 : (t : ℕ) → atom-lts.Need-enum-known-got-2 (
-  at-pat-below t,
-  at-pat.Post,
-  tail-below t,
-  tail.Post,
-) (atom-at t) atom.Post
+atom-enum-known-got-2 : (t : ℕ) → atom-lts.Need-enum-known-got-2 (atom-told t) (atom-at t) atom.Post
 atom-enum-known-got-2 t c =
     let falls = c .before .before .before .before .before .before .before .before .before .before .before .before .before .before .pre .0 in
     let pre0 = c .before .before .before .before .before .before .before .before .before .before .before .before .before .before .pre .1 .0 in
     let pre1 = c .before .before .before .before .before .before .before .before .before .before .before .before .before .before .pre .1 .1 in
     search needs
 
-atom-tail-requires : (t : ℕ) → atom-lts.Need-tail-requires (
-  at-pat-below t,
-  at-pat.Post,
-  tail-below t,
-  tail.Post,
-) (atom-at t) atom.Post
+atom-tail-requires : (t : ℕ) → atom-lts.Need-tail-requires (atom-told t) (atom-at t) atom.Post
 atom-tail-requires t c κs =
     let falls = c .before .before .before .before .before .before .before .before .before .before .before .before .before .before .before .before .before .before .pre .0 in
     let pre1 = c .before .before .before .before .before .before .before .before .before .before .before .before .before .before .before .before .before .before .pre .1 .1 in
@@ -3011,121 +1460,59 @@ atom-tail-requires t c κs =
     let at-pat-ok = at-pat true .ok in
     (omega arith, (at-pat-ok, pre1))
 
-atom-same-length : (t : ℕ) → atom-lts.Need-same-length (
-  at-pat-below t,
-  at-pat.Post,
-  tail-below t,
-  tail.Post,
-) (atom-at t) atom.Post
+atom-same-length : (t : ℕ) → atom-lts.Need-same-length (atom-told t) (atom-at t) atom.Post
 atom-same-length t c =
     c .before .before .before .before .before .before .before .at-pat .kept .1 .1 .1 .1 .0
 
-atom-same-length-2 : (t : ℕ) → atom-lts.Need-same-length-2 (
-  at-pat-below t,
-  at-pat.Post,
-  tail-below t,
-  tail.Post,
-) (atom-at t) atom.Post
+atom-same-length-2 : (t : ℕ) → atom-lts.Need-same-length-2 (atom-told t) (atom-at t) atom.Post
 atom-same-length-2 t c =
     c .before .before .before .before .before .before .before .at-pat .kept .1 .1 .1 .1 .1 .0
 
-atom-returns : (t : ℕ) → atom-lts.Need-returns (
-  at-pat-below t,
-  at-pat.Post,
-  tail-below t,
-  tail.Post,
-) (atom-at t) atom.Post
+atom-returns : (t : ℕ) → atom-lts.Need-returns (atom-told t) (atom-at t) atom.Post
 unfolding pat.atomPat plan choose chosen
 atom-returns t c =
-    let falls = c .before .before .before .before .before .before .before .before .before .before .before .before .before .before .before .before .pre .0 in
     let pre0 = c .before .before .before .before .before .before .before .before .before .before .before .before .before .before .before .before .pre .1 .0 in
-    let pre1 = c .before .before .before .before .before .before .before .before .before .before .before .before .before .before .before .before .pre .1 .1 in
     let at-pat = rw (c .before .got .given .1) at (c .before .before .before .before .before .before .before .at-pat .ensures) in
     in-steps pre0 (s-by _ (runs-in (at-pat _)) s-end)
 
-atom-same-length-3 : (t : ℕ) → atom-lts.Need-same-length-3 (
-  at-pat-below t,
-  at-pat.Post,
-  tail-below t,
-  tail.Post,
-) (atom-at t) atom.Post
+atom-same-length-3 : (t : ℕ) → atom-lts.Need-same-length-3 (atom-told t) (atom-at t) atom.Post
 atom-same-length-3 t c =
     c .before .before .before .before .tail .kept .1 .1 .1 .1 .0 ∙ c .before .before .before .before .before .before .before .before .before .before .before .before .before .before .at-pat .kept .1 .1 .1 .1 .0
 
-atom-same-length-4 : (t : ℕ) → atom-lts.Need-same-length-4 (
-  at-pat-below t,
-  at-pat.Post,
-  tail-below t,
-  tail.Post,
-) (atom-at t) atom.Post
+atom-same-length-4 : (t : ℕ) → atom-lts.Need-same-length-4 (atom-told t) (atom-at t) atom.Post
 atom-same-length-4 t c =
     c .before .before .before .before .tail .kept .1 .1 .1 .1 .1 .0 ∙ c .before .before .before .before .before .before .before .before .before .before .before .before .before .before .at-pat .kept .1 .1 .1 .1 .1 .0
 
-atom-returns-2 : (t : ℕ) → atom-lts.Need-returns-2 (
-  at-pat-below t,
-  at-pat.Post,
-  tail-below t,
-  tail.Post,
-) (atom-at t) atom.Post
+atom-returns-2 : (t : ℕ) → atom-lts.Need-returns-2 (atom-told t) (atom-at t) atom.Post
 unfolding pat.atomPat plan choose chosen
 atom-returns-2 t c =
-    let falls = c .before .before .before .before .before .before .before .before .before .before .before .before .before .before .before .before .before .before .before .before .before .before .before .pre .0 in
     let pre0 = c .before .before .before .before .before .before .before .before .before .before .before .before .before .before .before .before .before .before .before .before .before .before .before .pre .1 .0 in
-    let pre1 = c .before .before .before .before .before .before .before .before .before .before .before .before .before .before .before .before .before .before .before .before .before .before .before .pre .1 .1 in
     let at-pat = rw (c .before .before .before .before .before .before .before .before .got2 .given .1) at (c .before .before .before .before .before .before .before .before .before .before .before .before .before .before .at-pat .ensures) in
     let tail = c .before .before .before .before .tail .ensures in
     in-steps pre0 (s-by _ (runs-in (at-pat _)) (s-run tail s-end))
 
-con-con-head-requires : (t : ℕ) → con-lts.Need-con-head-requires (
-  con-head-below t,
-  con-head.Post,
-  tail-below t,
-  tail.Post,
-  op-tail-below t,
-  op-tail.Post,
-) (con-at t) con.Post
+con-con-head-requires : (t : ℕ) → con-lts.Need-con-head-requires (con-told t) (con-at t) con.Post
 con-con-head-requires t c κs =
     let falls = c .before .before .before .before .before .before .before .before .pre .0 in
     let pre0 = c .before .before .before .before .before .before .before .before .pre .1 .0 in
     let pre1 = c .before .before .before .before .before .before .before .before .pre .1 .1 in
     (omega arith, (pre0, pre1))
 
-con-enum-known-head : (t : ℕ) → con-lts.Need-enum-known-head (
-  con-head-below t,
-  con-head.Post,
-  tail-below t,
-  tail.Post,
-  op-tail-below t,
-  op-tail.Post,
-) (con-at t) con.Post
+con-enum-known-head : (t : ℕ) → con-lts.Need-enum-known-head (con-told t) (con-at t) con.Post
 con-enum-known-head t c =
     let falls = c .before .before .before .before .before .before .before .before .before .before .before .before .before .before .pre .0 in
     let pre0 = c .before .before .before .before .before .before .before .before .before .before .before .before .before .before .pre .1 .0 in
     let pre1 = c .before .before .before .before .before .before .before .before .before .before .before .before .before .before .pre .1 .1 in
     search needs
 
-con-enum-known-head-2 : (t : ℕ) → con-lts.Need-enum-known-head-2 (
-  con-head-below t,
-  con-head.Post,
-  tail-below t,
-  tail.Post,
-  op-tail-below t,
-  op-tail.Post,
-) (con-at t) con.Post
+con-enum-known-head-2 : (t : ℕ) → con-lts.Need-enum-known-head-2 (con-told t) (con-at t) con.Post
 con-enum-known-head-2 t c =
     let falls = c .before .before .before .before .before .before .before .before .before .before .before .before .before .before .pre .0 in
     let pre0 = c .before .before .before .before .before .before .before .before .before .before .before .before .before .before .pre .1 .0 in
     let pre1 = c .before .before .before .before .before .before .before .before .before .before .before .before .before .before .pre .1 .1 in
     search needs
 
-con-tail-requires : (t : ℕ) → con-lts.Need-tail-requires (
-  con-head-below t,
-  con-head.Post,
-  tail-below t,
-  tail.Post,
-  op-tail-below t,
-  op-tail.Post,
-) (con-at t) con.Post
+con-tail-requires : (t : ℕ) → con-lts.Need-tail-requires (con-told t) (con-at t) con.Post
 con-tail-requires t c κs =
     let falls = c .before .before .before .before .before .before .before .before .before .before .before .before .before .before .before .before .before .before .pre .0 in
     let pre1 = c .before .before .before .before .before .before .before .before .before .before .before .before .before .before .before .before .before .before .pre .1 .1 in
@@ -3133,28 +1520,14 @@ con-tail-requires t c κs =
     let con-head-ok = con-head .ok in
     (omega arith, (con-head-ok, pre1))
 
-con-enum-known-head-3 : (t : ℕ) → con-lts.Need-enum-known-head-3 (
-  con-head-below t,
-  con-head.Post,
-  tail-below t,
-  tail.Post,
-  op-tail-below t,
-  op-tail.Post,
-) (con-at t) con.Post
+con-enum-known-head-3 : (t : ℕ) → con-lts.Need-enum-known-head-3 (con-told t) (con-at t) con.Post
 con-enum-known-head-3 t c =
     let falls = c .before .before .before .before .before .before .before .before .before .before .before .before .before .before .pre .0 in
     let pre0 = c .before .before .before .before .before .before .before .before .before .before .before .before .before .before .pre .1 .0 in
     let pre1 = c .before .before .before .before .before .before .before .before .before .before .before .before .before .before .pre .1 .1 in
     search needs
 
-con-op-tail-requires : (t : ℕ) → con-lts.Need-op-tail-requires (
-  con-head-below t,
-  con-head.Post,
-  tail-below t,
-  tail.Post,
-  op-tail-below t,
-  op-tail.Post,
-) (con-at t) con.Post
+con-op-tail-requires : (t : ℕ) → con-lts.Need-op-tail-requires (con-told t) (con-at t) con.Post
 con-op-tail-requires t c κs =
     let falls = c .before .before .before .before .before .before .before .before .before .before .before .before .before .before .before .before .before .before .pre .0 in
     let pre1 = c .before .before .before .before .before .before .before .before .before .before .before .before .before .before .before .before .before .before .pre .1 .1 in
@@ -3162,14 +1535,7 @@ con-op-tail-requires t c κs =
     let con-head-ok = con-head .ok in
     (omega arith, (con-head-ok, pre1))
 
-con-tail-requires-2 : (t : ℕ) → con-lts.Need-tail-requires-2 (
-  con-head-below t,
-  con-head.Post,
-  tail-below t,
-  tail.Post,
-  op-tail-below t,
-  op-tail.Post,
-) (con-at t) con.Post
+con-tail-requires-2 : (t : ℕ) → con-lts.Need-tail-requires-2 (con-told t) (con-at t) con.Post
 con-tail-requires-2 t c κs =
     let falls = c .before .before .before .before .before .before .before .before .before .before .before .before .before .before .before .before .before .before .before .before .before .before .before .before .before .pre .0 in
     let pre1 = c .before .before .before .before .before .before .before .before .before .before .before .before .before .before .before .before .before .before .before .before .before .before .before .before .before .pre .1 .1 in
@@ -3177,238 +1543,93 @@ con-tail-requires-2 t c κs =
     let op-tail-ok = op-tail .ok in
     (omega arith, (op-tail-ok, pre1))
 
-con-enum-known-head-4 : (t : ℕ) → con-lts.Need-enum-known-head-4 (
-  con-head-below t,
-  con-head.Post,
-  tail-below t,
-  tail.Post,
-  op-tail-below t,
-  op-tail.Post,
-) (con-at t) con.Post
+con-enum-known-head-4 : (t : ℕ) → con-lts.Need-enum-known-head-4 (con-told t) (con-at t) con.Post
 con-enum-known-head-4 t c =
     let falls = c .before .before .before .before .before .before .before .before .before .before .before .before .before .before .pre .0 in
     let pre0 = c .before .before .before .before .before .before .before .before .before .before .before .before .before .before .pre .1 .0 in
     let pre1 = c .before .before .before .before .before .before .before .before .before .before .before .before .before .before .pre .1 .1 in
     search needs
 
-con-same-length : (t : ℕ) → con-lts.Need-same-length (
-  con-head-below t,
-  con-head.Post,
-  tail-below t,
-  tail.Post,
-  op-tail-below t,
-  op-tail.Post,
-) (con-at t) con.Post
+con-same-length : (t : ℕ) → con-lts.Need-same-length (con-told t) (con-at t) con.Post
 con-same-length t c =
     c .before .before .before .before .before .before .before .con-head .kept .1 .1 .1 .1 .0
 
-con-same-length-2 : (t : ℕ) → con-lts.Need-same-length-2 (
-  con-head-below t,
-  con-head.Post,
-  tail-below t,
-  tail.Post,
-  op-tail-below t,
-  op-tail.Post,
-) (con-at t) con.Post
+con-same-length-2 : (t : ℕ) → con-lts.Need-same-length-2 (con-told t) (con-at t) con.Post
 con-same-length-2 t c =
     c .before .before .before .before .before .before .before .con-head .kept .1 .1 .1 .1 .1 .0
 
-con-returns : (t : ℕ) → con-lts.Need-returns (
-  con-head-below t,
-  con-head.Post,
-  tail-below t,
-  tail.Post,
-  op-tail-below t,
-  op-tail.Post,
-) (con-at t) con.Post
+con-returns : (t : ℕ) → con-lts.Need-returns (con-told t) (con-at t) con.Post
 unfolding pat.conPat pat.patTail plan choose chosen
 con-returns t c =
-    let falls = c .before .before .before .before .before .before .before .before .before .before .before .before .before .before .before .before .pre .0 in
     let pre0 = c .before .before .before .before .before .before .before .before .before .before .before .before .before .before .before .before .pre .1 .0 in
-    let pre1 = c .before .before .before .before .before .before .before .before .before .before .before .before .before .before .before .before .pre .1 .1 in
     let con-head = rw (c .before .head .given .1) at (c .before .before .before .before .before .before .before .con-head .ensures) in
     in-steps pre0 (s-by _ con-head s-end)
 
-con-same-length-3 : (t : ℕ) → con-lts.Need-same-length-3 (
-  con-head-below t,
-  con-head.Post,
-  tail-below t,
-  tail.Post,
-  op-tail-below t,
-  op-tail.Post,
-) (con-at t) con.Post
+con-same-length-3 : (t : ℕ) → con-lts.Need-same-length-3 (con-told t) (con-at t) con.Post
 con-same-length-3 t c =
     c .before .before .before .before .tail .kept .1 .1 .1 .1 .0 ∙ c .before .before .before .before .before .before .before .before .before .before .before .before .before .before .con-head .kept .1 .1 .1 .1 .0
 
-con-same-length-4 : (t : ℕ) → con-lts.Need-same-length-4 (
-  con-head-below t,
-  con-head.Post,
-  tail-below t,
-  tail.Post,
-  op-tail-below t,
-  op-tail.Post,
-) (con-at t) con.Post
+con-same-length-4 : (t : ℕ) → con-lts.Need-same-length-4 (con-told t) (con-at t) con.Post
 con-same-length-4 t c =
     c .before .before .before .before .tail .kept .1 .1 .1 .1 .1 .0 ∙ c .before .before .before .before .before .before .before .before .before .before .before .before .before .before .con-head .kept .1 .1 .1 .1 .1 .0
 
-con-returns-2 : (t : ℕ) → con-lts.Need-returns-2 (
-  con-head-below t,
-  con-head.Post,
-  tail-below t,
-  tail.Post,
-  op-tail-below t,
-  op-tail.Post,
-) (con-at t) con.Post
+con-returns-2 : (t : ℕ) → con-lts.Need-returns-2 (con-told t) (con-at t) con.Post
 unfolding pat.conPat pat.patTail plan choose chosen
 con-returns-2 t c =
-    let falls = c .before .before .before .before .before .before .before .before .before .before .before .before .before .before .before .before .before .before .before .before .before .before .before .pre .0 in
     let pre0 = c .before .before .before .before .before .before .before .before .before .before .before .before .before .before .before .before .before .before .before .before .before .before .before .pre .1 .0 in
-    let pre1 = c .before .before .before .before .before .before .before .before .before .before .before .before .before .before .before .before .before .before .before .before .before .before .before .pre .1 .1 in
     let con-head = rw (c .before .before .before .before .before .before .before .before .head2 .given .1) at (c .before .before .before .before .before .before .before .before .before .before .before .before .before .before .con-head .ensures) in
     let tail = c .before .before .before .before .tail .ensures in
     in-steps pre0 (s-by _ con-head (s-run tail s-end))
 
-con-same-length-5 : (t : ℕ) → con-lts.Need-same-length-5 (
-  con-head-below t,
-  con-head.Post,
-  tail-below t,
-  tail.Post,
-  op-tail-below t,
-  op-tail.Post,
-) (con-at t) con.Post
+con-same-length-5 : (t : ℕ) → con-lts.Need-same-length-5 (con-told t) (con-at t) con.Post
 con-same-length-5 t c =
     c .before .before .before .before .tail2 .kept .1 .1 .1 .1 .0 ∙ c .before .before .before .before .before .before .before .before .before .before .before .op-tail .kept .1 .1 .1 .1 .0 ∙ c .before .before .before .before .before .before .before .before .before .before .before .before .before .before .before .before .before .before .before .before .before .con-head .kept .1 .1 .1 .1 .0
 
-con-same-length-6 : (t : ℕ) → con-lts.Need-same-length-6 (
-  con-head-below t,
-  con-head.Post,
-  tail-below t,
-  tail.Post,
-  op-tail-below t,
-  op-tail.Post,
-) (con-at t) con.Post
+con-same-length-6 : (t : ℕ) → con-lts.Need-same-length-6 (con-told t) (con-at t) con.Post
 con-same-length-6 t c =
     c .before .before .before .before .tail2 .kept .1 .1 .1 .1 .1 .0 ∙ c .before .before .before .before .before .before .before .before .before .before .before .op-tail .kept .1 .1 .1 .1 .1 .0 ∙ c .before .before .before .before .before .before .before .before .before .before .before .before .before .before .before .before .before .before .before .before .before .con-head .kept .1 .1 .1 .1 .1 .0
 
-con-returns-3 : (t : ℕ) → con-lts.Need-returns-3 (
-  con-head-below t,
-  con-head.Post,
-  tail-below t,
-  tail.Post,
-  op-tail-below t,
-  op-tail.Post,
-) (con-at t) con.Post
+con-returns-3 : (t : ℕ) → con-lts.Need-returns-3 (con-told t) (con-at t) con.Post
 unfolding pat.conPat pat.patTail plan choose chosen
 con-returns-3 t c =
-    let falls = c .before .before .before .before .before .before .before .before .before .before .before .before .before .before .before .before .before .before .before .before .before .before .before .before .before .before .before .before .before .before .pre .0 in
     let pre0 = c .before .before .before .before .before .before .before .before .before .before .before .before .before .before .before .before .before .before .before .before .before .before .before .before .before .before .before .before .before .before .pre .1 .0 in
-    let pre1 = c .before .before .before .before .before .before .before .before .before .before .before .before .before .before .before .before .before .before .before .before .before .before .before .before .before .before .before .before .before .before .pre .1 .1 in
     let con-head = rw (c .before .before .before .before .before .before .before .before .before .before .before .before .before .before .before .head3 .given .1) at (c .before .before .before .before .before .before .before .before .before .before .before .before .before .before .before .before .before .before .before .before .before .con-head .ensures) in
     let op-tail = c .before .before .before .before .before .before .before .before .before .before .before .op-tail .ensures in
     let tail2 = c .before .before .before .before .tail2 .ensures in
     in-steps pre0 (s-by _ con-head (s-by _ op-tail (s-run tail2 s-end)))
 
-con-same-length-7 : (t : ℕ) → con-lts.Need-same-length-7 (
-  con-head-below t,
-  con-head.Post,
-  tail-below t,
-  tail.Post,
-  op-tail-below t,
-  op-tail.Post,
-) (con-at t) con.Post
+con-same-length-7 : (t : ℕ) → con-lts.Need-same-length-7 (con-told t) (con-at t) con.Post
 con-same-length-7 t c =
     c .before .before .before .before .before .before .before .con-head .kept .1 .1 .1 .1 .0
 
-con-same-length-8 : (t : ℕ) → con-lts.Need-same-length-8 (
-  con-head-below t,
-  con-head.Post,
-  tail-below t,
-  tail.Post,
-  op-tail-below t,
-  op-tail.Post,
-) (con-at t) con.Post
+con-same-length-8 : (t : ℕ) → con-lts.Need-same-length-8 (con-told t) (con-at t) con.Post
 con-same-length-8 t c =
     c .before .before .before .before .before .before .before .con-head .kept .1 .1 .1 .1 .1 .0
 
-con-returns-4 : (t : ℕ) → con-lts.Need-returns-4 (
-  con-head-below t,
-  con-head.Post,
-  tail-below t,
-  tail.Post,
-  op-tail-below t,
-  op-tail.Post,
-) (con-at t) con.Post
+con-returns-4 : (t : ℕ) → con-lts.Need-returns-4 (con-told t) (con-at t) con.Post
 unfolding pat.conPat pat.patTail plan choose chosen
 con-returns-4 t c =
-    let falls = c .before .before .before .before .before .before .before .before .before .before .before .before .before .before .before .before .pre .0 in
     let pre0 = c .before .before .before .before .before .before .before .before .before .before .before .before .before .before .before .before .pre .1 .0 in
-    let pre1 = c .before .before .before .before .before .before .before .before .before .before .before .before .before .before .before .before .pre .1 .1 in
     let con-head = rw (c .before .head4 .given .1) at (c .before .before .before .before .before .before .before .con-head .ensures) in
     in-steps pre0 (s-by _ con-head s-end)
 
-con-head-refuse-requires : (t : ℕ) → con-head-lts.Need-refuse-requires (
-  refuse-reads.Asked,
-  refuse-reads.Learnt,
-  mark-reads.Asked,
-  mark-reads.Learnt,
-  con-name-reads.Asked,
-  con-name-reads.Learnt,
-  state-reads.Asked,
-  state-reads.Learnt,
-  con-turn-below t,
-  con-turn.Post,
-) (con-head-at t) con-head.Post
+con-head-refuse-requires : (t : ℕ) → con-head-lts.Need-refuse-requires (con-head-told t) (con-head-at t) con-head.Post
 con-head-refuse-requires t c κs =
     tt
 
-con-head-returns : (t : ℕ) → con-head-lts.Need-returns (
-  refuse-reads.Asked,
-  refuse-reads.Learnt,
-  mark-reads.Asked,
-  mark-reads.Learnt,
-  con-name-reads.Asked,
-  con-name-reads.Learnt,
-  state-reads.Asked,
-  state-reads.Learnt,
-  con-turn-below t,
-  con-turn.Post,
-) (con-head-at t) con-head.Post
+con-head-returns : (t : ℕ) → con-head-lts.Need-returns (con-head-told t) (con-head-at t) con-head.Post
 unfolding pat.conHead plan choose chosen
 con-head-returns t c =
-    let falls = c .before .before .before .before .before .before .before .before .pre .0 in
     let pre0 = c .before .before .before .before .before .before .before .before .pre .1 .0 in
-    let pre1 = c .before .before .before .before .before .before .before .before .pre .1 .1 in
     let if1 = c .before .if1 .taken in
     let refuse = c .refuse .ensures in
     in-steps pre0 (s-deep if1 refuse s-end)
 
-con-head-mark-requires : (t : ℕ) → con-head-lts.Need-mark-requires (
-  refuse-reads.Asked,
-  refuse-reads.Learnt,
-  mark-reads.Asked,
-  mark-reads.Learnt,
-  con-name-reads.Asked,
-  con-name-reads.Learnt,
-  state-reads.Asked,
-  state-reads.Learnt,
-  con-turn-below t,
-  con-turn.Post,
-) (con-head-at t) con-head.Post
+con-head-mark-requires : (t : ℕ) → con-head-lts.Need-mark-requires (con-head-told t) (con-head-at t) con-head.Post
 con-head-mark-requires t c κs =
     tt
 
-con-head-sub-con-name : (t : ℕ) → con-head-lts.Need-sub-con-name (
-  refuse-reads.Asked,
-  refuse-reads.Learnt,
-  mark-reads.Asked,
-  mark-reads.Learnt,
-  con-name-reads.Asked,
-  con-name-reads.Learnt,
-  state-reads.Asked,
-  state-reads.Learnt,
-  con-turn-below t,
-  con-turn.Post,
-) (con-head-at t) con-head.Post
+con-head-sub-con-name : (t : ℕ) → con-head-lts.Need-sub-con-name (con-head-told t) (con-head-at t) con-head.Post
 con-head-sub-con-name t c =
     let falls = c .before .before .before .before .before .before .before .before .before .before .pre .0 in
     let pre0 = c .before .before .before .before .before .before .before .before .before .before .pre .1 .0 in
@@ -3416,51 +1637,18 @@ con-head-sub-con-name t c =
     let if1 = c .before .before .before .if1 .left in
     search needs
 
-con-head-con-name-requires : (t : ℕ) → con-head-lts.Need-con-name-requires (
-  refuse-reads.Asked,
-  refuse-reads.Learnt,
-  mark-reads.Asked,
-  mark-reads.Learnt,
-  con-name-reads.Asked,
-  con-name-reads.Learnt,
-  state-reads.Asked,
-  state-reads.Learnt,
-  con-turn-below t,
-  con-turn.Post,
-) (con-head-at t) con-head.Post
+con-head-con-name-requires : (t : ℕ) → con-head-lts.Need-con-name-requires (con-head-told t) (con-head-at t) con-head.Post
 con-head-con-name-requires t c κs =
     let pre0 = c .before .before .before .before .before .before .before .before .before .before .pre .1 .0 in
     let mark = c .before .before .mark .ensures in
     let mark-ok = ok-marks mark pre0 in
     mark-ok
 
-con-head-state-requires : (t : ℕ) → con-head-lts.Need-state-requires (
-  refuse-reads.Asked,
-  refuse-reads.Learnt,
-  mark-reads.Asked,
-  mark-reads.Learnt,
-  con-name-reads.Asked,
-  con-name-reads.Learnt,
-  state-reads.Asked,
-  state-reads.Learnt,
-  con-turn-below t,
-  con-turn.Post,
-) (con-head-at t) con-head.Post
+con-head-state-requires : (t : ℕ) → con-head-lts.Need-state-requires (con-head-told t) (con-head-at t) con-head.Post
 con-head-state-requires t c κs =
     tt
 
-con-head-sub-con-turn : (t : ℕ) → con-head-lts.Need-sub-con-turn (
-  refuse-reads.Asked,
-  refuse-reads.Learnt,
-  mark-reads.Asked,
-  mark-reads.Learnt,
-  con-name-reads.Asked,
-  con-name-reads.Learnt,
-  state-reads.Asked,
-  state-reads.Learnt,
-  con-turn-below t,
-  con-turn.Post,
-) (con-head-at t) con-head.Post
+con-head-sub-con-turn : (t : ℕ) → con-head-lts.Need-sub-con-turn (con-head-told t) (con-head-at t) con-head.Post
 con-head-sub-con-turn t c =
     let falls = c .before .before .before .before .before .before .before .before .before .before .before .before .before .before .before .before .before .before .pre .0 in
     let pre0 = c .before .before .before .before .before .before .before .before .before .before .before .before .before .before .before .before .before .before .pre .1 .0 in
@@ -3468,18 +1656,7 @@ con-head-sub-con-turn t c =
     let if1 = c .before .before .before .before .before .before .before .before .before .before .before .if1 .left in
     search needs
 
-con-head-con-turn-requires : (t : ℕ) → con-head-lts.Need-con-turn-requires (
-  refuse-reads.Asked,
-  refuse-reads.Learnt,
-  mark-reads.Asked,
-  mark-reads.Learnt,
-  con-name-reads.Asked,
-  con-name-reads.Learnt,
-  state-reads.Asked,
-  state-reads.Learnt,
-  con-turn-below t,
-  con-turn.Post,
-) (con-head-at t) con-head.Post
+con-head-con-turn-requires : (t : ℕ) → con-head-lts.Need-con-turn-requires (con-head-told t) (con-head-at t) con-head.Post
 con-head-con-turn-requires t c κs =
     let falls = c .before .before .before .before .before .before .before .before .before .before .before .before .before .before .before .before .before .before .pre .0 in
     let pre1 = c .before .before .before .before .before .before .before .before .before .before .before .before .before .before .before .before .before .before .pre .1 .1 in
@@ -3490,53 +1667,18 @@ con-head-con-turn-requires t c κs =
     let state-ok = ok-state state con-name-ok in
     (omega arith, (state-ok, pre1))
 
-con-head-same-length : (t : ℕ) → con-head-lts.Need-same-length (
-  refuse-reads.Asked,
-  refuse-reads.Learnt,
-  mark-reads.Asked,
-  mark-reads.Learnt,
-  con-name-reads.Asked,
-  con-name-reads.Learnt,
-  state-reads.Asked,
-  state-reads.Learnt,
-  con-turn-below t,
-  con-turn.Post,
-) (con-head-at t) con-head.Post
+con-head-same-length : (t : ℕ) → con-head-lts.Need-same-length (con-head-told t) (con-head-at t) con-head.Post
 con-head-same-length t c =
     c .before .before .before .before .con-turn .kept .1 .1 .1 .1 .0 ∙ c .before .before .before .before .before .before .before .before .before .before .before .before .con-name .kept .1 .1 .1 .1 .0
 
-con-head-same-length-2 : (t : ℕ) → con-head-lts.Need-same-length-2 (
-  refuse-reads.Asked,
-  refuse-reads.Learnt,
-  mark-reads.Asked,
-  mark-reads.Learnt,
-  con-name-reads.Asked,
-  con-name-reads.Learnt,
-  state-reads.Asked,
-  state-reads.Learnt,
-  con-turn-below t,
-  con-turn.Post,
-) (con-head-at t) con-head.Post
+con-head-same-length-2 : (t : ℕ) → con-head-lts.Need-same-length-2 (con-head-told t) (con-head-at t) con-head.Post
 con-head-same-length-2 t c =
     c .before .before .before .before .con-turn .kept .1 .1 .1 .1 .1 .0 ∙ c .before .before .before .before .before .before .before .before .before .before .before .before .con-name .kept .1 .1 .1 .1 .1 .0
 
-con-head-returns-2 : (t : ℕ) → con-head-lts.Need-returns-2 (
-  refuse-reads.Asked,
-  refuse-reads.Learnt,
-  mark-reads.Asked,
-  mark-reads.Learnt,
-  con-name-reads.Asked,
-  con-name-reads.Learnt,
-  state-reads.Asked,
-  state-reads.Learnt,
-  con-turn-below t,
-  con-turn.Post,
-) (con-head-at t) con-head.Post
+con-head-returns-2 : (t : ℕ) → con-head-lts.Need-returns-2 (con-head-told t) (con-head-at t) con-head.Post
 unfolding pat.conHead plan choose chosen
 con-head-returns-2 t c =
-    let falls = c .before .before .before .before .before .before .before .before .before .before .before .before .before .before .before .before .before .before .before .before .before .before .before .pre .0 in
     let pre0 = c .before .before .before .before .before .before .before .before .before .before .before .before .before .before .before .before .before .before .before .before .before .before .before .pre .1 .0 in
-    let pre1 = c .before .before .before .before .before .before .before .before .before .before .before .before .before .before .before .before .before .before .before .before .before .before .before .pre .1 .1 in
     let if1 = c .before .before .before .before .before .before .before .before .before .before .before .before .before .before .before .before .if1 .left in
     let mark = c .before .before .before .before .before .before .before .before .before .before .before .before .before .before .before .mark .ensures in
     let con-name = c .before .before .before .before .before .before .before .before .before .before .before .before .con-name .ensures in
@@ -3544,190 +1686,53 @@ con-head-returns-2 t c =
     let con-turn = c .before .before .before .before .con-turn .ensures in
     in-steps pre0 (s-mark if1 mark (s-by _ (settled state (runs-in con-name)) (s-by _ con-turn s-end)))
 
-con-turn-peek-requires : (t : ℕ) → con-turn-lts.Need-peek-requires (
-  peek-reads.Asked,
-  peek-reads.Learnt,
-  close-reads.Asked,
-  close-reads.Learnt,
-  name-star-reads.Asked,
-  name-star-reads.Learnt,
-  fixity-at-reads.Asked,
-  fixity-at-reads.Learnt,
-  at-must-below t,
-  at-must.Post,
-  con-op-reads.Asked,
-  con-op-reads.Learnt,
-  arg-reads.Asked,
-  arg-reads.Learnt,
-) (con-turn-at t) con-turn.Post
+con-turn-peek-requires : (t : ℕ) → con-turn-lts.Need-peek-requires (con-turn-told t) (con-turn-at t) con-turn.Post
 con-turn-peek-requires t c κs =
     let pre0 = c .before .before .before .before .before .before .pre .1 .0 in
     pre0 .reads
 
-con-turn-enum-known-k : (t : ℕ) → con-turn-lts.Need-enum-known-k (
-  peek-reads.Asked,
-  peek-reads.Learnt,
-  close-reads.Asked,
-  close-reads.Learnt,
-  name-star-reads.Asked,
-  name-star-reads.Learnt,
-  fixity-at-reads.Asked,
-  fixity-at-reads.Learnt,
-  at-must-below t,
-  at-must.Post,
-  con-op-reads.Asked,
-  con-op-reads.Learnt,
-  arg-reads.Asked,
-  arg-reads.Learnt,
-) (con-turn-at t) con-turn.Post
+con-turn-enum-known-k : (t : ℕ) → con-turn-lts.Need-enum-known-k (con-turn-told t) (con-turn-at t) con-turn.Post
 con-turn-enum-known-k t c =
     let falls = c .before .before .before .before .before .before .before .before .pre .0 in
     let pre0 = c .before .before .before .before .before .before .before .before .pre .1 .0 in
     let pre1 = c .before .before .before .before .before .before .before .before .pre .1 .1 in
     search needs
 
-con-turn-enum-told : (t : ℕ) → con-turn-lts.Need-enum-told (
-  peek-reads.Asked,
-  peek-reads.Learnt,
-  close-reads.Asked,
-  close-reads.Learnt,
-  name-star-reads.Asked,
-  name-star-reads.Learnt,
-  fixity-at-reads.Asked,
-  fixity-at-reads.Learnt,
-  at-must-below t,
-  at-must.Post,
-  con-op-reads.Asked,
-  con-op-reads.Learnt,
-  arg-reads.Asked,
-  arg-reads.Learnt,
-) (con-turn-at t) con-turn.Post
+con-turn-enum-told : (t : ℕ) → con-turn-lts.Need-enum-told (con-turn-told t) (con-turn-at t) con-turn.Post
 con-turn-enum-told t c =
     let falls = c .before .before .before .before .before .before .before .before .pre .0 in
     let pre0 = c .before .before .before .before .before .before .before .before .pre .1 .0 in
     let pre1 = c .before .before .before .before .before .before .before .before .pre .1 .1 in
     search needs
 
-con-turn-close-requires : (t : ℕ) → con-turn-lts.Need-close-requires (
-  peek-reads.Asked,
-  peek-reads.Learnt,
-  close-reads.Asked,
-  close-reads.Learnt,
-  name-star-reads.Asked,
-  name-star-reads.Learnt,
-  fixity-at-reads.Asked,
-  fixity-at-reads.Learnt,
-  at-must-below t,
-  at-must.Post,
-  con-op-reads.Asked,
-  con-op-reads.Learnt,
-  arg-reads.Asked,
-  arg-reads.Learnt,
-) (con-turn-at t) con-turn.Post
+con-turn-close-requires : (t : ℕ) → con-turn-lts.Need-close-requires (con-turn-told t) (con-turn-at t) con-turn.Post
 con-turn-close-requires t c κs =
     let pre0 = c .before .before .before .before .before .before .before .before .before .before .pre .1 .0 in
     let pre1 = c .before .before .before .before .before .before .before .before .before .before .pre .1 .1 in
     (pre0 .logs, pre1)
 
-con-turn-same-length : (t : ℕ) → con-turn-lts.Need-same-length (
-  peek-reads.Asked,
-  peek-reads.Learnt,
-  close-reads.Asked,
-  close-reads.Learnt,
-  name-star-reads.Asked,
-  name-star-reads.Learnt,
-  fixity-at-reads.Asked,
-  fixity-at-reads.Learnt,
-  at-must-below t,
-  at-must.Post,
-  con-op-reads.Asked,
-  con-op-reads.Learnt,
-  arg-reads.Asked,
-  arg-reads.Learnt,
-) (con-turn-at t) con-turn.Post
+con-turn-same-length : (t : ℕ) → con-turn-lts.Need-same-length (con-turn-told t) (con-turn-at t) con-turn.Post
 con-turn-same-length t c =
     c .before .before .close .kept .0
 
-con-turn-returns : (t : ℕ) → con-turn-lts.Need-returns (
-  peek-reads.Asked,
-  peek-reads.Learnt,
-  close-reads.Asked,
-  close-reads.Learnt,
-  name-star-reads.Asked,
-  name-star-reads.Learnt,
-  fixity-at-reads.Asked,
-  fixity-at-reads.Learnt,
-  at-must-below t,
-  at-must.Post,
-  con-op-reads.Asked,
-  con-op-reads.Learnt,
-  arg-reads.Asked,
-  arg-reads.Learnt,
-) (con-turn-at t) con-turn.Post
+con-turn-returns : (t : ℕ) → con-turn-lts.Need-returns (con-turn-told t) (con-turn-at t) con-turn.Post
 unfolding pat.conTurn plan choose chosen
 con-turn-returns t c =
-    let falls = c .before .before .before .before .before .before .before .before .before .before .before .before .before .pre .0 in
     let pre0 = c .before .before .before .before .before .before .before .before .before .before .before .before .before .pre .1 .0 in
-    let pre1 = c .before .before .before .before .before .before .before .before .before .before .before .before .before .pre .1 .1 in
     let peek = rw (c .before .before .before .before .enum-told .given .1) at (c .before .before .before .before .before .before .peek .ensures) in
     let close = c .before .before .close .ensures in
     in-steps pre0 (s-look peek (s-close close s-end))
 
-con-turn-name-star-requires : (t : ℕ) → con-turn-lts.Need-name-star-requires (
-  peek-reads.Asked,
-  peek-reads.Learnt,
-  close-reads.Asked,
-  close-reads.Learnt,
-  name-star-reads.Asked,
-  name-star-reads.Learnt,
-  fixity-at-reads.Asked,
-  fixity-at-reads.Learnt,
-  at-must-below t,
-  at-must.Post,
-  con-op-reads.Asked,
-  con-op-reads.Learnt,
-  arg-reads.Asked,
-  arg-reads.Learnt,
-) (con-turn-at t) con-turn.Post
+con-turn-name-star-requires : (t : ℕ) → con-turn-lts.Need-name-star-requires (con-turn-told t) (con-turn-at t) con-turn.Post
 con-turn-name-star-requires t c κs =
     tt
 
-con-turn-fixity-at-requires : (t : ℕ) → con-turn-lts.Need-fixity-at-requires (
-  peek-reads.Asked,
-  peek-reads.Learnt,
-  close-reads.Asked,
-  close-reads.Learnt,
-  name-star-reads.Asked,
-  name-star-reads.Learnt,
-  fixity-at-reads.Asked,
-  fixity-at-reads.Learnt,
-  at-must-below t,
-  at-must.Post,
-  con-op-reads.Asked,
-  con-op-reads.Learnt,
-  arg-reads.Asked,
-  arg-reads.Learnt,
-) (con-turn-at t) con-turn.Post
+con-turn-fixity-at-requires : (t : ℕ) → con-turn-lts.Need-fixity-at-requires (con-turn-told t) (con-turn-at t) con-turn.Post
 con-turn-fixity-at-requires t c κs =
     let pre0 = c .before .before .before .before .before .before .before .before .before .before .before .before .pre .1 .0 in
     (pre0 .reads, pre0 .names, pre0 .stands)
 
-con-turn-enum-told-2 : (t : ℕ) → con-turn-lts.Need-enum-told-2 (
-  peek-reads.Asked,
-  peek-reads.Learnt,
-  close-reads.Asked,
-  close-reads.Learnt,
-  name-star-reads.Asked,
-  name-star-reads.Learnt,
-  fixity-at-reads.Asked,
-  fixity-at-reads.Learnt,
-  at-must-below t,
-  at-must.Post,
-  con-op-reads.Asked,
-  con-op-reads.Learnt,
-  arg-reads.Asked,
-  arg-reads.Learnt,
-) (con-turn-at t) con-turn.Post
+con-turn-enum-told-2 : (t : ℕ) → con-turn-lts.Need-enum-told-2 (con-turn-told t) (con-turn-at t) con-turn.Post
 con-turn-enum-told-2 t c =
     let falls = c .before .before .before .before .before .before .before .before .before .before .before .before .before .before .pre .0 in
     let pre0 = c .before .before .before .before .before .before .before .before .before .before .before .before .before .before .pre .1 .0 in
@@ -3735,22 +1740,7 @@ con-turn-enum-told-2 t c =
     let if1 = c .before .before .if1 .taken in
     search needs
 
-con-turn-at-must-requires : (t : ℕ) → con-turn-lts.Need-at-must-requires (
-  peek-reads.Asked,
-  peek-reads.Learnt,
-  close-reads.Asked,
-  close-reads.Learnt,
-  name-star-reads.Asked,
-  name-star-reads.Learnt,
-  fixity-at-reads.Asked,
-  fixity-at-reads.Learnt,
-  at-must-below t,
-  at-must.Post,
-  con-op-reads.Asked,
-  con-op-reads.Learnt,
-  arg-reads.Asked,
-  arg-reads.Learnt,
-) (con-turn-at t) con-turn.Post
+con-turn-at-must-requires : (t : ℕ) → con-turn-lts.Need-at-must-requires (con-turn-told t) (con-turn-at t) con-turn.Post
 con-turn-at-must-requires t c κs =
     let falls = c .before .before .before .before .before .before .before .before .before .before .before .before .before .before .before .before .before .pre .0 in
     let pre0 = c .before .before .before .before .before .before .before .before .before .before .before .before .before .before .before .before .before .pre .1 .0 in
@@ -3758,87 +1748,25 @@ con-turn-at-must-requires t c κs =
     let if1 = c .before .before .before .before .before .if1 .taken in
     (omega arith, pre0)
 
-con-turn-close-requires-2 : (t : ℕ) → con-turn-lts.Need-close-requires-2 (
-  peek-reads.Asked,
-  peek-reads.Learnt,
-  close-reads.Asked,
-  close-reads.Learnt,
-  name-star-reads.Asked,
-  name-star-reads.Learnt,
-  fixity-at-reads.Asked,
-  fixity-at-reads.Learnt,
-  at-must-below t,
-  at-must.Post,
-  con-op-reads.Asked,
-  con-op-reads.Learnt,
-  arg-reads.Asked,
-  arg-reads.Learnt,
-) (con-turn-at t) con-turn.Post
+con-turn-close-requires-2 : (t : ℕ) → con-turn-lts.Need-close-requires-2 (con-turn-told t) (con-turn-at t) con-turn.Post
 con-turn-close-requires-2 t c κs =
     let pre1 = c .before .before .before .before .before .before .before .before .before .before .before .before .before .before .before .before .before .before .before .before .before .before .before .pre .1 .1 in
     let at-must = c .before .before .before .before .before .at-must .ensures in
     let at-must-ok = at-must .ok in
     (at-must-ok .logs, pre1)
 
-con-turn-same-length-2 : (t : ℕ) → con-turn-lts.Need-same-length-2 (
-  peek-reads.Asked,
-  peek-reads.Learnt,
-  close-reads.Asked,
-  close-reads.Learnt,
-  name-star-reads.Asked,
-  name-star-reads.Learnt,
-  fixity-at-reads.Asked,
-  fixity-at-reads.Learnt,
-  at-must-below t,
-  at-must.Post,
-  con-op-reads.Asked,
-  con-op-reads.Learnt,
-  arg-reads.Asked,
-  arg-reads.Learnt,
-) (con-turn-at t) con-turn.Post
+con-turn-same-length-2 : (t : ℕ) → con-turn-lts.Need-same-length-2 (con-turn-told t) (con-turn-at t) con-turn.Post
 con-turn-same-length-2 t c =
     c .before .before .close2 .kept .0 ∙ c .before .before .before .before .before .before .before .before .at-must .kept .1 .1 .1 .1 .0
 
-con-turn-same-length-3 : (t : ℕ) → con-turn-lts.Need-same-length-3 (
-  peek-reads.Asked,
-  peek-reads.Learnt,
-  close-reads.Asked,
-  close-reads.Learnt,
-  name-star-reads.Asked,
-  name-star-reads.Learnt,
-  fixity-at-reads.Asked,
-  fixity-at-reads.Learnt,
-  at-must-below t,
-  at-must.Post,
-  con-op-reads.Asked,
-  con-op-reads.Learnt,
-  arg-reads.Asked,
-  arg-reads.Learnt,
-) (con-turn-at t) con-turn.Post
+con-turn-same-length-3 : (t : ℕ) → con-turn-lts.Need-same-length-3 (con-turn-told t) (con-turn-at t) con-turn.Post
 con-turn-same-length-3 t c =
     c .before .before .before .before .before .before .before .before .at-must .kept .1 .1 .1 .1 .1 .0
 
-con-turn-returns-2 : (t : ℕ) → con-turn-lts.Need-returns-2 (
-  peek-reads.Asked,
-  peek-reads.Learnt,
-  close-reads.Asked,
-  close-reads.Learnt,
-  name-star-reads.Asked,
-  name-star-reads.Learnt,
-  fixity-at-reads.Asked,
-  fixity-at-reads.Learnt,
-  at-must-below t,
-  at-must.Post,
-  con-op-reads.Asked,
-  con-op-reads.Learnt,
-  arg-reads.Asked,
-  arg-reads.Learnt,
-) (con-turn-at t) con-turn.Post
+con-turn-returns-2 : (t : ℕ) → con-turn-lts.Need-returns-2 (con-turn-told t) (con-turn-at t) con-turn.Post
 unfolding pat.conTurn plan choose chosen
 con-turn-returns-2 t c =
-    let falls = c .before .before .before .before .before .before .before .before .before .before .before .before .before .before .before .before .before .before .before .before .before .before .before .before .before .before .pre .0 in
     let pre0 = c .before .before .before .before .before .before .before .before .before .before .before .before .before .before .before .before .before .before .before .before .before .before .before .before .before .before .pre .1 .0 in
-    let pre1 = c .before .before .before .before .before .before .before .before .before .before .before .before .before .before .before .before .before .before .before .before .before .before .before .before .before .before .pre .1 .1 in
     let peek = rw (c .before .before .before .before .before .before .before .before .before .before .before .before .before .before .before .before .before .k .given .1) at (c .before .before .before .before .before .before .before .before .before .before .before .before .before .before .before .before .before .before .before .peek .ensures) in
     let name-star = c .before .before .before .before .before .before .before .before .before .before .before .before .before .before .before .name-star .ensures in
     let if1 = c .before .before .before .before .before .before .before .before .before .before .before .before .before .before .if1 .taken in
@@ -3847,22 +1775,7 @@ con-turn-returns-2 t c =
     let close2 = c .before .before .close2 .ensures in
     in-steps pre0 (s-look peek (s-true _ _ (test-true name-star if1) (s-fixed fixity-at (s-by _ (runs-in at-must) (s-close close2 s-end)))))
 
-con-turn-enum-known-fix : (t : ℕ) → con-turn-lts.Need-enum-known-fix (
-  peek-reads.Asked,
-  peek-reads.Learnt,
-  close-reads.Asked,
-  close-reads.Learnt,
-  name-star-reads.Asked,
-  name-star-reads.Learnt,
-  fixity-at-reads.Asked,
-  fixity-at-reads.Learnt,
-  at-must-below t,
-  at-must.Post,
-  con-op-reads.Asked,
-  con-op-reads.Learnt,
-  arg-reads.Asked,
-  arg-reads.Learnt,
-) (con-turn-at t) con-turn.Post
+con-turn-enum-known-fix : (t : ℕ) → con-turn-lts.Need-enum-known-fix (con-turn-told t) (con-turn-at t) con-turn.Post
 con-turn-enum-known-fix t c =
     let falls = c .before .before .before .before .before .before .before .before .before .before .before .before .before .before .pre .0 in
     let pre0 = c .before .before .before .before .before .before .before .before .before .before .before .before .before .before .pre .1 .0 in
@@ -3870,86 +1783,24 @@ con-turn-enum-known-fix t c =
     let if1 = c .before .before .if1 .taken in
     search needs
 
-con-turn-con-op-requires : (t : ℕ) → con-turn-lts.Need-con-op-requires (
-  peek-reads.Asked,
-  peek-reads.Learnt,
-  close-reads.Asked,
-  close-reads.Learnt,
-  name-star-reads.Asked,
-  name-star-reads.Learnt,
-  fixity-at-reads.Asked,
-  fixity-at-reads.Learnt,
-  at-must-below t,
-  at-must.Post,
-  con-op-reads.Asked,
-  con-op-reads.Learnt,
-  arg-reads.Asked,
-  arg-reads.Learnt,
-) (con-turn-at t) con-turn.Post
+con-turn-con-op-requires : (t : ℕ) → con-turn-lts.Need-con-op-requires (con-turn-told t) (con-turn-at t) con-turn.Post
 con-turn-con-op-requires t c κs =
     let pre0 = c .before .before .before .before .before .before .before .before .before .before .before .before .before .before .before .before .before .before .pre .1 .0 in
     let pre1 = c .before .before .before .before .before .before .before .before .before .before .before .before .before .before .before .before .before .before .pre .1 .1 in
     (pre0, pre1)
 
-con-turn-same-length-4 : (t : ℕ) → con-turn-lts.Need-same-length-4 (
-  peek-reads.Asked,
-  peek-reads.Learnt,
-  close-reads.Asked,
-  close-reads.Learnt,
-  name-star-reads.Asked,
-  name-star-reads.Learnt,
-  fixity-at-reads.Asked,
-  fixity-at-reads.Learnt,
-  at-must-below t,
-  at-must.Post,
-  con-op-reads.Asked,
-  con-op-reads.Learnt,
-  arg-reads.Asked,
-  arg-reads.Learnt,
-) (con-turn-at t) con-turn.Post
+con-turn-same-length-4 : (t : ℕ) → con-turn-lts.Need-same-length-4 (con-turn-told t) (con-turn-at t) con-turn.Post
 con-turn-same-length-4 t c =
     c .before .before .before .before .con-op .kept .1 .1 .1 .1 .0
 
-con-turn-same-length-5 : (t : ℕ) → con-turn-lts.Need-same-length-5 (
-  peek-reads.Asked,
-  peek-reads.Learnt,
-  close-reads.Asked,
-  close-reads.Learnt,
-  name-star-reads.Asked,
-  name-star-reads.Learnt,
-  fixity-at-reads.Asked,
-  fixity-at-reads.Learnt,
-  at-must-below t,
-  at-must.Post,
-  con-op-reads.Asked,
-  con-op-reads.Learnt,
-  arg-reads.Asked,
-  arg-reads.Learnt,
-) (con-turn-at t) con-turn.Post
+con-turn-same-length-5 : (t : ℕ) → con-turn-lts.Need-same-length-5 (con-turn-told t) (con-turn-at t) con-turn.Post
 con-turn-same-length-5 t c =
     c .before .before .before .before .con-op .kept .1 .1 .1 .1 .1 .0
 
-con-turn-returns-3 : (t : ℕ) → con-turn-lts.Need-returns-3 (
-  peek-reads.Asked,
-  peek-reads.Learnt,
-  close-reads.Asked,
-  close-reads.Learnt,
-  name-star-reads.Asked,
-  name-star-reads.Learnt,
-  fixity-at-reads.Asked,
-  fixity-at-reads.Learnt,
-  at-must-below t,
-  at-must.Post,
-  con-op-reads.Asked,
-  con-op-reads.Learnt,
-  arg-reads.Asked,
-  arg-reads.Learnt,
-) (con-turn-at t) con-turn.Post
+con-turn-returns-3 : (t : ℕ) → con-turn-lts.Need-returns-3 (con-turn-told t) (con-turn-at t) con-turn.Post
 unfolding pat.conTurn plan choose chosen
 con-turn-returns-3 t c =
-    let falls = c .before .before .before .before .before .before .before .before .before .before .before .before .before .before .before .before .before .before .before .before .before .before .before .pre .0 in
     let pre0 = c .before .before .before .before .before .before .before .before .before .before .before .before .before .before .before .before .before .before .before .before .before .before .before .pre .1 .0 in
-    let pre1 = c .before .before .before .before .before .before .before .before .before .before .before .before .before .before .before .before .before .before .before .before .before .before .before .pre .1 .1 in
     let peek = rw (c .before .before .before .before .before .before .before .before .before .before .before .before .before .before .k .given .1) at (c .before .before .before .before .before .before .before .before .before .before .before .before .before .before .before .before .peek .ensures) in
     let name-star = c .before .before .before .before .before .before .before .before .before .before .before .before .name-star .ensures in
     let if1 = c .before .before .before .before .before .before .before .before .before .before .before .if1 .taken in
@@ -3957,41 +1808,11 @@ con-turn-returns-3 t c =
     let con-op = c .before .before .before .before .con-op .ensures in
     in-steps pre0 (s-look peek (s-true _ _ (test-true name-star if1) (s-fixed fixity-at (s-by _ con-op s-end))))
 
-con-turn-arg-requires : (t : ℕ) → con-turn-lts.Need-arg-requires (
-  peek-reads.Asked,
-  peek-reads.Learnt,
-  close-reads.Asked,
-  close-reads.Learnt,
-  name-star-reads.Asked,
-  name-star-reads.Learnt,
-  fixity-at-reads.Asked,
-  fixity-at-reads.Learnt,
-  at-must-below t,
-  at-must.Post,
-  con-op-reads.Asked,
-  con-op-reads.Learnt,
-  arg-reads.Asked,
-  arg-reads.Learnt,
-) (con-turn-at t) con-turn.Post
+con-turn-arg-requires : (t : ℕ) → con-turn-lts.Need-arg-requires (con-turn-told t) (con-turn-at t) con-turn.Post
 con-turn-arg-requires t c κs =
     tt
 
-con-turn-at-must-requires-2 : (t : ℕ) → con-turn-lts.Need-at-must-requires-2 (
-  peek-reads.Asked,
-  peek-reads.Learnt,
-  close-reads.Asked,
-  close-reads.Learnt,
-  name-star-reads.Asked,
-  name-star-reads.Learnt,
-  fixity-at-reads.Asked,
-  fixity-at-reads.Learnt,
-  at-must-below t,
-  at-must.Post,
-  con-op-reads.Asked,
-  con-op-reads.Learnt,
-  arg-reads.Asked,
-  arg-reads.Learnt,
-) (con-turn-at t) con-turn.Post
+con-turn-at-must-requires-2 : (t : ℕ) → con-turn-lts.Need-at-must-requires-2 (con-turn-told t) (con-turn-at t) con-turn.Post
 con-turn-at-must-requires-2 t c κs =
     let falls = c .before .before .before .before .before .before .before .before .before .before .before .before .before .before .before .before .pre .0 in
     let pre0 = c .before .before .before .before .before .before .before .before .before .before .before .before .before .before .before .before .pre .1 .0 in
@@ -4000,87 +1821,25 @@ con-turn-at-must-requires-2 t c κs =
     let if2 = c .before .before .if2 .taken in
     (omega arith, pre0)
 
-con-turn-close-requires-3 : (t : ℕ) → con-turn-lts.Need-close-requires-3 (
-  peek-reads.Asked,
-  peek-reads.Learnt,
-  close-reads.Asked,
-  close-reads.Learnt,
-  name-star-reads.Asked,
-  name-star-reads.Learnt,
-  fixity-at-reads.Asked,
-  fixity-at-reads.Learnt,
-  at-must-below t,
-  at-must.Post,
-  con-op-reads.Asked,
-  con-op-reads.Learnt,
-  arg-reads.Asked,
-  arg-reads.Learnt,
-) (con-turn-at t) con-turn.Post
+con-turn-close-requires-3 : (t : ℕ) → con-turn-lts.Need-close-requires-3 (con-turn-told t) (con-turn-at t) con-turn.Post
 con-turn-close-requires-3 t c κs =
     let pre1 = c .before .before .before .before .before .before .before .before .before .before .before .before .before .before .before .before .before .before .before .before .before .before .pre .1 .1 in
     let at-must2 = c .before .before .before .before .before .at-must2 .ensures in
     let at-must2-ok = at-must2 .ok in
     (at-must2-ok .logs, pre1)
 
-con-turn-same-length-6 : (t : ℕ) → con-turn-lts.Need-same-length-6 (
-  peek-reads.Asked,
-  peek-reads.Learnt,
-  close-reads.Asked,
-  close-reads.Learnt,
-  name-star-reads.Asked,
-  name-star-reads.Learnt,
-  fixity-at-reads.Asked,
-  fixity-at-reads.Learnt,
-  at-must-below t,
-  at-must.Post,
-  con-op-reads.Asked,
-  con-op-reads.Learnt,
-  arg-reads.Asked,
-  arg-reads.Learnt,
-) (con-turn-at t) con-turn.Post
+con-turn-same-length-6 : (t : ℕ) → con-turn-lts.Need-same-length-6 (con-turn-told t) (con-turn-at t) con-turn.Post
 con-turn-same-length-6 t c =
     c .before .before .close3 .kept .0 ∙ c .before .before .before .before .before .before .before .before .at-must2 .kept .1 .1 .1 .1 .0
 
-con-turn-same-length-7 : (t : ℕ) → con-turn-lts.Need-same-length-7 (
-  peek-reads.Asked,
-  peek-reads.Learnt,
-  close-reads.Asked,
-  close-reads.Learnt,
-  name-star-reads.Asked,
-  name-star-reads.Learnt,
-  fixity-at-reads.Asked,
-  fixity-at-reads.Learnt,
-  at-must-below t,
-  at-must.Post,
-  con-op-reads.Asked,
-  con-op-reads.Learnt,
-  arg-reads.Asked,
-  arg-reads.Learnt,
-) (con-turn-at t) con-turn.Post
+con-turn-same-length-7 : (t : ℕ) → con-turn-lts.Need-same-length-7 (con-turn-told t) (con-turn-at t) con-turn.Post
 con-turn-same-length-7 t c =
     c .before .before .before .before .before .before .before .before .at-must2 .kept .1 .1 .1 .1 .1 .0
 
-con-turn-returns-4 : (t : ℕ) → con-turn-lts.Need-returns-4 (
-  peek-reads.Asked,
-  peek-reads.Learnt,
-  close-reads.Asked,
-  close-reads.Learnt,
-  name-star-reads.Asked,
-  name-star-reads.Learnt,
-  fixity-at-reads.Asked,
-  fixity-at-reads.Learnt,
-  at-must-below t,
-  at-must.Post,
-  con-op-reads.Asked,
-  con-op-reads.Learnt,
-  arg-reads.Asked,
-  arg-reads.Learnt,
-) (con-turn-at t) con-turn.Post
+con-turn-returns-4 : (t : ℕ) → con-turn-lts.Need-returns-4 (con-turn-told t) (con-turn-at t) con-turn.Post
 unfolding pat.conTurn plan choose chosen
 con-turn-returns-4 t c =
-    let falls = c .before .before .before .before .before .before .before .before .before .before .before .before .before .before .before .before .before .before .before .before .before .before .before .before .before .pre .0 in
     let pre0 = c .before .before .before .before .before .before .before .before .before .before .before .before .before .before .before .before .before .before .before .before .before .before .before .before .before .pre .1 .0 in
-    let pre1 = c .before .before .before .before .before .before .before .before .before .before .before .before .before .before .before .before .before .before .before .before .before .before .before .before .before .pre .1 .1 in
     let peek = rw (c .before .before .before .before .before .before .before .before .before .before .before .before .before .before .before .before .k .given .1) at (c .before .before .before .before .before .before .before .before .before .before .before .before .before .before .before .before .before .before .peek .ensures) in
     let name-star = c .before .before .before .before .before .before .before .before .before .before .before .before .before .before .name-star .ensures in
     let if1 = c .before .before .before .before .before .before .before .before .before .before .before .before .before .if1 .left in
@@ -4090,67 +1849,20 @@ con-turn-returns-4 t c =
     let close3 = c .before .before .close3 .ensures in
     in-steps pre0 (s-look peek (s-false _ _ (test-false name-star if1) (s-true _ _ (test-true arg if2) (s-by _ (runs-in at-must2) (s-close close3 s-end)))))
 
-con-turn-close-requires-4 : (t : ℕ) → con-turn-lts.Need-close-requires-4 (
-  peek-reads.Asked,
-  peek-reads.Learnt,
-  close-reads.Asked,
-  close-reads.Learnt,
-  name-star-reads.Asked,
-  name-star-reads.Learnt,
-  fixity-at-reads.Asked,
-  fixity-at-reads.Learnt,
-  at-must-below t,
-  at-must.Post,
-  con-op-reads.Asked,
-  con-op-reads.Learnt,
-  arg-reads.Asked,
-  arg-reads.Learnt,
-) (con-turn-at t) con-turn.Post
+con-turn-close-requires-4 : (t : ℕ) → con-turn-lts.Need-close-requires-4 (con-turn-told t) (con-turn-at t) con-turn.Post
 con-turn-close-requires-4 t c κs =
     let pre0 = c .before .before .before .before .before .before .before .before .before .before .before .before .before .before .before .pre .1 .0 in
     let pre1 = c .before .before .before .before .before .before .before .before .before .before .before .before .before .before .before .pre .1 .1 in
     (pre0 .logs, pre1)
 
-con-turn-same-length-8 : (t : ℕ) → con-turn-lts.Need-same-length-8 (
-  peek-reads.Asked,
-  peek-reads.Learnt,
-  close-reads.Asked,
-  close-reads.Learnt,
-  name-star-reads.Asked,
-  name-star-reads.Learnt,
-  fixity-at-reads.Asked,
-  fixity-at-reads.Learnt,
-  at-must-below t,
-  at-must.Post,
-  con-op-reads.Asked,
-  con-op-reads.Learnt,
-  arg-reads.Asked,
-  arg-reads.Learnt,
-) (con-turn-at t) con-turn.Post
+con-turn-same-length-8 : (t : ℕ) → con-turn-lts.Need-same-length-8 (con-turn-told t) (con-turn-at t) con-turn.Post
 con-turn-same-length-8 t c =
     c .before .before .close4 .kept .0
 
-con-turn-returns-5 : (t : ℕ) → con-turn-lts.Need-returns-5 (
-  peek-reads.Asked,
-  peek-reads.Learnt,
-  close-reads.Asked,
-  close-reads.Learnt,
-  name-star-reads.Asked,
-  name-star-reads.Learnt,
-  fixity-at-reads.Asked,
-  fixity-at-reads.Learnt,
-  at-must-below t,
-  at-must.Post,
-  con-op-reads.Asked,
-  con-op-reads.Learnt,
-  arg-reads.Asked,
-  arg-reads.Learnt,
-) (con-turn-at t) con-turn.Post
+con-turn-returns-5 : (t : ℕ) → con-turn-lts.Need-returns-5 (con-turn-told t) (con-turn-at t) con-turn.Post
 unfolding pat.conTurn plan choose chosen
 con-turn-returns-5 t c =
-    let falls = c .before .before .before .before .before .before .before .before .before .before .before .before .before .before .before .before .before .before .pre .0 in
     let pre0 = c .before .before .before .before .before .before .before .before .before .before .before .before .before .before .before .before .before .before .pre .1 .0 in
-    let pre1 = c .before .before .before .before .before .before .before .before .before .before .before .before .before .before .before .before .before .before .pre .1 .1 in
     let peek = rw (c .before .before .before .before .before .before .before .before .before .k .given .1) at (c .before .before .before .before .before .before .before .before .before .before .before .peek .ensures) in
     let name-star = c .before .before .before .before .before .before .before .name-star .ensures in
     let if1 = c .before .before .before .before .before .before .if1 .left in
@@ -4159,87 +1871,30 @@ con-turn-returns-5 t c =
     let close4 = c .before .before .close4 .ensures in
     in-steps pre0 (s-look peek (s-false _ _ (test-false name-star if1) (s-false _ _ (test-false arg if2) (s-close close4 s-end))))
 
-inf-pat-refuse-requires : (t : ℕ) → inf-pat-lts.Need-refuse-requires (
-  refuse-reads.Asked,
-  refuse-reads.Learnt,
-  mark-reads.Asked,
-  mark-reads.Learnt,
-  bump-reads.Asked,
-  bump-reads.Learnt,
-  pat-must-below t,
-  pat-must.Post,
-  close-reads.Asked,
-  close-reads.Learnt,
-) (inf-pat-at t) inf-pat.Post
+inf-pat-refuse-requires : (t : ℕ) → inf-pat-lts.Need-refuse-requires (inf-pat-told t) (inf-pat-at t) inf-pat.Post
 inf-pat-refuse-requires t c κs =
     tt
 
-inf-pat-returns : (t : ℕ) → inf-pat-lts.Need-returns (
-  refuse-reads.Asked,
-  refuse-reads.Learnt,
-  mark-reads.Asked,
-  mark-reads.Learnt,
-  bump-reads.Asked,
-  bump-reads.Learnt,
-  pat-must-below t,
-  pat-must.Post,
-  close-reads.Asked,
-  close-reads.Learnt,
-) (inf-pat-at t) inf-pat.Post
+inf-pat-returns : (t : ℕ) → inf-pat-lts.Need-returns (inf-pat-told t) (inf-pat-at t) inf-pat.Post
 unfolding pat.infixPat plan choose chosen
 inf-pat-returns t c =
-    let falls = c .before .before .before .before .before .before .before .before .pre .0 in
     let pre0 = c .before .before .before .before .before .before .before .before .pre .1 .0 in
-    let pre1 = c .before .before .before .before .before .before .before .before .pre .1 .1 in
     let if1 = c .before .if1 .taken in
     let refuse = c .refuse .ensures in
     in-steps pre0 (s-deep if1 refuse s-end)
 
-inf-pat-mark-requires : (t : ℕ) → inf-pat-lts.Need-mark-requires (
-  refuse-reads.Asked,
-  refuse-reads.Learnt,
-  mark-reads.Asked,
-  mark-reads.Learnt,
-  bump-reads.Asked,
-  bump-reads.Learnt,
-  pat-must-below t,
-  pat-must.Post,
-  close-reads.Asked,
-  close-reads.Learnt,
-) (inf-pat-at t) inf-pat.Post
+inf-pat-mark-requires : (t : ℕ) → inf-pat-lts.Need-mark-requires (inf-pat-told t) (inf-pat-at t) inf-pat.Post
 inf-pat-mark-requires t c κs =
     tt
 
-inf-pat-bump-requires : (t : ℕ) → inf-pat-lts.Need-bump-requires (
-  refuse-reads.Asked,
-  refuse-reads.Learnt,
-  mark-reads.Asked,
-  mark-reads.Learnt,
-  bump-reads.Asked,
-  bump-reads.Learnt,
-  pat-must-below t,
-  pat-must.Post,
-  close-reads.Asked,
-  close-reads.Learnt,
-) (inf-pat-at t) inf-pat.Post
+inf-pat-bump-requires : (t : ℕ) → inf-pat-lts.Need-bump-requires (inf-pat-told t) (inf-pat-at t) inf-pat.Post
 inf-pat-bump-requires t c κs =
     let pre0 = c .before .before .before .before .before .before .before .before .before .pre .1 .0 in
     let mark = c .mark .ensures in
     let mark-ok = ok-marks mark pre0 in
     (mark-ok .reads, mark-ok .logs)
 
-inf-pat-sub-pat-must : (t : ℕ) → inf-pat-lts.Need-sub-pat-must (
-  refuse-reads.Asked,
-  refuse-reads.Learnt,
-  mark-reads.Asked,
-  mark-reads.Learnt,
-  bump-reads.Asked,
-  bump-reads.Learnt,
-  pat-must-below t,
-  pat-must.Post,
-  close-reads.Asked,
-  close-reads.Learnt,
-) (inf-pat-at t) inf-pat.Post
+inf-pat-sub-pat-must : (t : ℕ) → inf-pat-lts.Need-sub-pat-must (inf-pat-told t) (inf-pat-at t) inf-pat.Post
 inf-pat-sub-pat-must t c =
     let falls = c .before .before .before .before .before .before .before .before .before .before .before .before .before .before .pre .0 in
     let pre0 = c .before .before .before .before .before .before .before .before .before .before .before .before .before .before .pre .1 .0 in
@@ -4247,18 +1902,7 @@ inf-pat-sub-pat-must t c =
     let if1 = c .before .before .before .before .before .before .before .if1 .left in
     search needs
 
-inf-pat-pat-must-requires : (t : ℕ) → inf-pat-lts.Need-pat-must-requires (
-  refuse-reads.Asked,
-  refuse-reads.Learnt,
-  mark-reads.Asked,
-  mark-reads.Learnt,
-  bump-reads.Asked,
-  bump-reads.Learnt,
-  pat-must-below t,
-  pat-must.Post,
-  close-reads.Asked,
-  close-reads.Learnt,
-) (inf-pat-at t) inf-pat.Post
+inf-pat-pat-must-requires : (t : ℕ) → inf-pat-lts.Need-pat-must-requires (inf-pat-told t) (inf-pat-at t) inf-pat.Post
 inf-pat-pat-must-requires t c κs =
     let falls = c .before .before .before .before .before .before .before .before .before .before .before .before .before .before .pre .0 in
     let pre0 = c .before .before .before .before .before .before .before .before .before .before .before .before .before .before .pre .1 .0 in
@@ -4270,71 +1914,25 @@ inf-pat-pat-must-requires t c κs =
     let bump-ok = ok-bumps bump mark-ok in
     (omega arith, bump-ok)
 
-inf-pat-close-requires : (t : ℕ) → inf-pat-lts.Need-close-requires (
-  refuse-reads.Asked,
-  refuse-reads.Learnt,
-  mark-reads.Asked,
-  mark-reads.Learnt,
-  bump-reads.Asked,
-  bump-reads.Learnt,
-  pat-must-below t,
-  pat-must.Post,
-  close-reads.Asked,
-  close-reads.Learnt,
-) (inf-pat-at t) inf-pat.Post
+inf-pat-close-requires : (t : ℕ) → inf-pat-lts.Need-close-requires (inf-pat-told t) (inf-pat-at t) inf-pat.Post
 inf-pat-close-requires t c κs =
     let pre1 = c .before .before .before .before .before .before .before .before .before .before .before .before .before .before .before .before .before .before .before .before .pre .1 .1 in
     let pat-must = c .before .before .before .before .before .pat-must .ensures in
     let pat-must-ok = pat-must .ok in
     (pat-must-ok .logs, pre1)
 
-inf-pat-same-length : (t : ℕ) → inf-pat-lts.Need-same-length (
-  refuse-reads.Asked,
-  refuse-reads.Learnt,
-  mark-reads.Asked,
-  mark-reads.Learnt,
-  bump-reads.Asked,
-  bump-reads.Learnt,
-  pat-must-below t,
-  pat-must.Post,
-  close-reads.Asked,
-  close-reads.Learnt,
-) (inf-pat-at t) inf-pat.Post
+inf-pat-same-length : (t : ℕ) → inf-pat-lts.Need-same-length (inf-pat-told t) (inf-pat-at t) inf-pat.Post
 inf-pat-same-length t c =
     c .before .before .close .kept .0 ∙ c .before .before .before .before .before .before .before .before .pat-must .kept .1 .1 .1 .1 .0 ∙ c .before .before .before .before .before .before .before .before .before .before .before .before .before .bump .kept .1 .0
 
-inf-pat-same-length-2 : (t : ℕ) → inf-pat-lts.Need-same-length-2 (
-  refuse-reads.Asked,
-  refuse-reads.Learnt,
-  mark-reads.Asked,
-  mark-reads.Learnt,
-  bump-reads.Asked,
-  bump-reads.Learnt,
-  pat-must-below t,
-  pat-must.Post,
-  close-reads.Asked,
-  close-reads.Learnt,
-) (inf-pat-at t) inf-pat.Post
+inf-pat-same-length-2 : (t : ℕ) → inf-pat-lts.Need-same-length-2 (inf-pat-told t) (inf-pat-at t) inf-pat.Post
 inf-pat-same-length-2 t c =
     c .before .before .before .before .before .before .before .before .pat-must .kept .1 .1 .1 .1 .1 .0
 
-inf-pat-returns-2 : (t : ℕ) → inf-pat-lts.Need-returns-2 (
-  refuse-reads.Asked,
-  refuse-reads.Learnt,
-  mark-reads.Asked,
-  mark-reads.Learnt,
-  bump-reads.Asked,
-  bump-reads.Learnt,
-  pat-must-below t,
-  pat-must.Post,
-  close-reads.Asked,
-  close-reads.Learnt,
-) (inf-pat-at t) inf-pat.Post
+inf-pat-returns-2 : (t : ℕ) → inf-pat-lts.Need-returns-2 (inf-pat-told t) (inf-pat-at t) inf-pat.Post
 unfolding pat.infixPat plan choose chosen
 inf-pat-returns-2 t c =
-    let falls = c .before .before .before .before .before .before .before .before .before .before .before .before .before .before .before .before .before .before .before .before .before .before .before .pre .0 in
     let pre0 = c .before .before .before .before .before .before .before .before .before .before .before .before .before .before .before .before .before .before .before .before .before .before .before .pre .1 .0 in
-    let pre1 = c .before .before .before .before .before .before .before .before .before .before .before .before .before .before .before .before .before .before .before .before .before .before .before .pre .1 .1 in
     let if1 = c .before .before .before .before .before .before .before .before .before .before .before .before .before .before .before .before .if1 .left in
     let mark = c .before .before .before .before .before .before .before .before .before .before .before .before .before .before .mark .ensures in
     let bump = c .before .before .before .before .before .before .before .before .before .before .before .before .before .bump .ensures in
@@ -4342,67 +1940,23 @@ inf-pat-returns-2 t c =
     let close = c .before .before .close .ensures in
     in-steps pre0 (s-mark if1 mark (s-bump bump (s-by _ (runs-in pat-must) (s-close close s-end))))
 
-op-step-fixity-at-requires : (t : ℕ) → op-step-lts.Need-fixity-at-requires (
-  fixity-at-reads.Asked,
-  fixity-at-reads.Learnt,
-  index-reads.Asked,
-  index-reads.Learnt,
-  report-reads.Asked,
-  report-reads.Learnt,
-  should-break-pat-reads.Asked,
-  should-break-pat-reads.Learnt,
-  inf-pat-below t,
-  inf-pat.Post,
-) (op-step-at t) op-step.Post
+op-step-fixity-at-requires : (t : ℕ) → op-step-lts.Need-fixity-at-requires (op-step-told t) (op-step-at t) op-step.Post
 op-step-fixity-at-requires t c κs =
     let pre0 = c .before .before .before .before .before .before .pre .1 .0 in
     (pre0 .reads, pre0 .names, pre0 .stands)
 
-op-step-enum-told : (t : ℕ) → op-step-lts.Need-enum-told (
-  fixity-at-reads.Asked,
-  fixity-at-reads.Learnt,
-  index-reads.Asked,
-  index-reads.Learnt,
-  report-reads.Asked,
-  report-reads.Learnt,
-  should-break-pat-reads.Asked,
-  should-break-pat-reads.Learnt,
-  inf-pat-below t,
-  inf-pat.Post,
-) (op-step-at t) op-step.Post
+op-step-enum-told : (t : ℕ) → op-step-lts.Need-enum-told (op-step-told t) (op-step-at t) op-step.Post
 op-step-enum-told t c =
     let falls = c .before .before .before .before .before .before .before .before .pre .0 in
     let pre0 = c .before .before .before .before .before .before .before .before .pre .1 .0 in
     let pre1 = c .before .before .before .before .before .before .before .before .pre .1 .1 in
     search needs
 
-op-step-index-requires : (t : ℕ) → op-step-lts.Need-index-requires (
-  fixity-at-reads.Asked,
-  fixity-at-reads.Learnt,
-  index-reads.Asked,
-  index-reads.Learnt,
-  report-reads.Asked,
-  report-reads.Learnt,
-  should-break-pat-reads.Asked,
-  should-break-pat-reads.Learnt,
-  inf-pat-below t,
-  inf-pat.Post,
-) (op-step-at t) op-step.Post
+op-step-index-requires : (t : ℕ) → op-step-lts.Need-index-requires (op-step-told t) (op-step-at t) op-step.Post
 op-step-index-requires t c κs =
     tt
 
-op-step-report-requires : (t : ℕ) → op-step-lts.Need-report-requires (
-  fixity-at-reads.Asked,
-  fixity-at-reads.Learnt,
-  index-reads.Asked,
-  index-reads.Learnt,
-  report-reads.Asked,
-  report-reads.Learnt,
-  should-break-pat-reads.Asked,
-  should-break-pat-reads.Learnt,
-  inf-pat-below t,
-  inf-pat.Post,
-) (op-step-at t) op-step.Post
+op-step-report-requires : (t : ℕ) → op-step-lts.Need-report-requires (op-step-told t) (op-step-at t) op-step.Post
 op-step-report-requires t c κs =
     let falls = c .before .before .before .before .before .before .before .before .before .before .before .pre .0 in
     let pre0 = c .before .before .before .before .before .before .before .before .before .before .before .pre .1 .0 in
@@ -4411,88 +1965,33 @@ op-step-report-requires t c κs =
     let index-small = small-index index pre0 in
     (pre0 .holds, (let few = pre0 .reads .few in let inside = pre0 .reads .inside in omega arith), omega arith)
 
-op-step-enum-known-fix : (t : ℕ) → op-step-lts.Need-enum-known-fix (
-  fixity-at-reads.Asked,
-  fixity-at-reads.Learnt,
-  index-reads.Asked,
-  index-reads.Learnt,
-  report-reads.Asked,
-  report-reads.Learnt,
-  should-break-pat-reads.Asked,
-  should-break-pat-reads.Learnt,
-  inf-pat-below t,
-  inf-pat.Post,
-) (op-step-at t) op-step.Post
+op-step-enum-known-fix : (t : ℕ) → op-step-lts.Need-enum-known-fix (op-step-told t) (op-step-at t) op-step.Post
 op-step-enum-known-fix t c =
     let falls = c .before .before .before .before .before .before .before .before .pre .0 in
     let pre0 = c .before .before .before .before .before .before .before .before .pre .1 .0 in
     let pre1 = c .before .before .before .before .before .before .before .before .pre .1 .1 in
     search needs
 
-op-step-should-break-pat-requires : (t : ℕ) → op-step-lts.Need-should-break-pat-requires (
-  fixity-at-reads.Asked,
-  fixity-at-reads.Learnt,
-  index-reads.Asked,
-  index-reads.Learnt,
-  report-reads.Asked,
-  report-reads.Learnt,
-  should-break-pat-reads.Asked,
-  should-break-pat-reads.Learnt,
-  inf-pat-below t,
-  inf-pat.Post,
-) (op-step-at t) op-step.Post
+op-step-should-break-pat-requires : (t : ℕ) → op-step-lts.Need-should-break-pat-requires (op-step-told t) (op-step-at t) op-step.Post
 op-step-should-break-pat-requires t c κs =
     let pre0 = c .before .before .before .before .before .before .before .before .before .before .before .before .pre .1 .0 in
     pre0
 
-op-step-enum-known-ends : (t : ℕ) → op-step-lts.Need-enum-known-ends (
-  fixity-at-reads.Asked,
-  fixity-at-reads.Learnt,
-  index-reads.Asked,
-  index-reads.Learnt,
-  report-reads.Asked,
-  report-reads.Learnt,
-  should-break-pat-reads.Asked,
-  should-break-pat-reads.Learnt,
-  inf-pat-below t,
-  inf-pat.Post,
-) (op-step-at t) op-step.Post
+op-step-enum-known-ends : (t : ℕ) → op-step-lts.Need-enum-known-ends (op-step-told t) (op-step-at t) op-step.Post
 op-step-enum-known-ends t c =
     let falls = c .before .before .before .before .before .before .before .before .before .before .before .before .before .before .before .before .before .before .pre .0 in
     let pre0 = c .before .before .before .before .before .before .before .before .before .before .before .before .before .before .before .before .before .before .pre .1 .0 in
     let pre1 = c .before .before .before .before .before .before .before .before .before .before .before .before .before .before .before .before .before .before .pre .1 .1 in
     search needs
 
-op-step-enum-known-ends-2 : (t : ℕ) → op-step-lts.Need-enum-known-ends-2 (
-  fixity-at-reads.Asked,
-  fixity-at-reads.Learnt,
-  index-reads.Asked,
-  index-reads.Learnt,
-  report-reads.Asked,
-  report-reads.Learnt,
-  should-break-pat-reads.Asked,
-  should-break-pat-reads.Learnt,
-  inf-pat-below t,
-  inf-pat.Post,
-) (op-step-at t) op-step.Post
+op-step-enum-known-ends-2 : (t : ℕ) → op-step-lts.Need-enum-known-ends-2 (op-step-told t) (op-step-at t) op-step.Post
 op-step-enum-known-ends-2 t c =
     let falls = c .before .before .before .before .before .before .before .before .before .before .before .before .before .before .before .before .before .before .pre .0 in
     let pre0 = c .before .before .before .before .before .before .before .before .before .before .before .before .before .before .before .before .before .before .pre .1 .0 in
     let pre1 = c .before .before .before .before .before .before .before .before .before .before .before .before .before .before .before .before .before .before .pre .1 .1 in
     search needs
 
-op-step-inf-pat-requires : (t : ℕ) → op-step-lts.Need-inf-pat-requires (
-  fixity-at-reads.Asked,
-  fixity-at-reads.Learnt,
-  index-reads.Asked,
-  index-reads.Learnt,
-  report-reads.Asked,
-  report-reads.Learnt,
-  should-break-pat-reads.Asked,
-  should-break-pat-reads.Learnt,
-  inf-pat-below t,
-  inf-pat.Post,
-) (op-step-at t) op-step.Post
+op-step-inf-pat-requires : (t : ℕ) → op-step-lts.Need-inf-pat-requires (op-step-told t) (op-step-at t) op-step.Post
 op-step-inf-pat-requires t c κs =
     let falls = c .before .before .before .before .before .before .before .before .before .before .before .before .before .before .before .before .before .before .before .before .before .before .pre .0 in
     let pre1 = c .before .before .before .before .before .before .before .before .before .before .before .before .before .before .before .before .before .before .before .before .before .before .pre .1 .1 in
@@ -4500,349 +1999,131 @@ op-step-inf-pat-requires t c κs =
     let should-break-pat-ok = should-break-pat true .ok in
     (omega arith, (should-break-pat-ok, pre1))
 
-op-step-same-length : (t : ℕ) → op-step-lts.Need-same-length (
-  fixity-at-reads.Asked,
-  fixity-at-reads.Learnt,
-  index-reads.Asked,
-  index-reads.Learnt,
-  report-reads.Asked,
-  report-reads.Learnt,
-  should-break-pat-reads.Asked,
-  should-break-pat-reads.Learnt,
-  inf-pat-below t,
-  inf-pat.Post,
-) (op-step-at t) op-step.Post
+op-step-same-length : (t : ℕ) → op-step-lts.Need-same-length (op-step-told t) (op-step-at t) op-step.Post
 op-step-same-length t c =
     c .before .before .report .kept .0
 
-op-step-returns : (t : ℕ) → op-step-lts.Need-returns (
-  fixity-at-reads.Asked,
-  fixity-at-reads.Learnt,
-  index-reads.Asked,
-  index-reads.Learnt,
-  report-reads.Asked,
-  report-reads.Learnt,
-  should-break-pat-reads.Asked,
-  should-break-pat-reads.Learnt,
-  inf-pat-below t,
-  inf-pat.Post,
-) (op-step-at t) op-step.Post
+op-step-returns : (t : ℕ) → op-step-lts.Need-returns (op-step-told t) (op-step-at t) op-step.Post
 unfolding pat.opStep plan choose chosen
 op-step-returns t c =
-    let falls = c .before .before .before .before .before .before .before .before .before .before .before .before .before .before .pre .0 in
     let pre0 = c .before .before .before .before .before .before .before .before .before .before .before .before .before .before .pre .1 .0 in
-    let pre1 = c .before .before .before .before .before .before .before .before .before .before .before .before .before .before .pre .1 .1 in
     let fixity-at = rw (c .before .before .before .before .before .enum-told .given .1) at (c .before .before .before .before .before .before .before .fixity-at .ensures) in
     let index = c .before .before .before .before .index .ensures in
     let report = c .before .before .report .ensures in
     in-steps pre0 (s-fixed fixity-at (s-index index (s-report report s-end)))
 
-op-step-same-length-2 : (t : ℕ) → op-step-lts.Need-same-length-2 (
-  fixity-at-reads.Asked,
-  fixity-at-reads.Learnt,
-  index-reads.Asked,
-  index-reads.Learnt,
-  report-reads.Asked,
-  report-reads.Learnt,
-  should-break-pat-reads.Asked,
-  should-break-pat-reads.Learnt,
-  inf-pat-below t,
-  inf-pat.Post,
-) (op-step-at t) op-step.Post
+op-step-same-length-2 : (t : ℕ) → op-step-lts.Need-same-length-2 (op-step-told t) (op-step-at t) op-step.Post
 op-step-same-length-2 t c =
     c .before .before .before .before .before .before .before .should-break-pat .kept .1 .1 .1 .1 .0
 
-op-step-same-length-3 : (t : ℕ) → op-step-lts.Need-same-length-3 (
-  fixity-at-reads.Asked,
-  fixity-at-reads.Learnt,
-  index-reads.Asked,
-  index-reads.Learnt,
-  report-reads.Asked,
-  report-reads.Learnt,
-  should-break-pat-reads.Asked,
-  should-break-pat-reads.Learnt,
-  inf-pat-below t,
-  inf-pat.Post,
-) (op-step-at t) op-step.Post
+op-step-same-length-3 : (t : ℕ) → op-step-lts.Need-same-length-3 (op-step-told t) (op-step-at t) op-step.Post
 op-step-same-length-3 t c =
     c .before .before .before .before .before .before .before .should-break-pat .kept .1 .1 .1 .1 .1 .0
 
-op-step-returns-2 : (t : ℕ) → op-step-lts.Need-returns-2 (
-  fixity-at-reads.Asked,
-  fixity-at-reads.Learnt,
-  index-reads.Asked,
-  index-reads.Learnt,
-  report-reads.Asked,
-  report-reads.Learnt,
-  should-break-pat-reads.Asked,
-  should-break-pat-reads.Learnt,
-  inf-pat-below t,
-  inf-pat.Post,
-) (op-step-at t) op-step.Post
+op-step-returns-2 : (t : ℕ) → op-step-lts.Need-returns-2 (op-step-told t) (op-step-at t) op-step.Post
 unfolding pat.opStep plan choose chosen
 op-step-returns-2 t c =
-    let falls = c .before .before .before .before .before .before .before .before .before .before .before .before .before .before .before .before .before .before .before .before .pre .0 in
     let pre0 = c .before .before .before .before .before .before .before .before .before .before .before .before .before .before .before .before .before .before .before .before .pre .1 .0 in
-    let pre1 = c .before .before .before .before .before .before .before .before .before .before .before .before .before .before .before .before .before .before .before .before .pre .1 .1 in
     let fixity-at = rw (c .before .before .before .before .before .before .before .before .before .before .before .fix .given .1) at (c .before .before .before .before .before .before .before .before .before .before .before .before .before .fixity-at .ensures) in
     let should-break-pat = rw (c .before .ends .given .1) at (c .before .before .before .before .before .before .before .should-break-pat .ensures) in
     in-steps pre0 (s-fixed fixity-at (s-by _ (runs-always (should-break-pat _)) s-end))
 
-op-step-same-length-4 : (t : ℕ) → op-step-lts.Need-same-length-4 (
-  fixity-at-reads.Asked,
-  fixity-at-reads.Learnt,
-  index-reads.Asked,
-  index-reads.Learnt,
-  report-reads.Asked,
-  report-reads.Learnt,
-  should-break-pat-reads.Asked,
-  should-break-pat-reads.Learnt,
-  inf-pat-below t,
-  inf-pat.Post,
-) (op-step-at t) op-step.Post
+op-step-same-length-4 : (t : ℕ) → op-step-lts.Need-same-length-4 (op-step-told t) (op-step-at t) op-step.Post
 op-step-same-length-4 t c =
     c .before .before .before .before .inf-pat .kept .1 .1 .1 .1 .0 ∙ c .before .before .before .before .before .before .before .before .before .before .before .before .before .before .should-break-pat .kept .1 .1 .1 .1 .0
 
-op-step-same-length-5 : (t : ℕ) → op-step-lts.Need-same-length-5 (
-  fixity-at-reads.Asked,
-  fixity-at-reads.Learnt,
-  index-reads.Asked,
-  index-reads.Learnt,
-  report-reads.Asked,
-  report-reads.Learnt,
-  should-break-pat-reads.Asked,
-  should-break-pat-reads.Learnt,
-  inf-pat-below t,
-  inf-pat.Post,
-) (op-step-at t) op-step.Post
+op-step-same-length-5 : (t : ℕ) → op-step-lts.Need-same-length-5 (op-step-told t) (op-step-at t) op-step.Post
 op-step-same-length-5 t c =
     c .before .before .before .before .inf-pat .kept .1 .1 .1 .1 .1 .0 ∙ c .before .before .before .before .before .before .before .before .before .before .before .before .before .before .should-break-pat .kept .1 .1 .1 .1 .1 .0
 
-op-step-returns-3 : (t : ℕ) → op-step-lts.Need-returns-3 (
-  fixity-at-reads.Asked,
-  fixity-at-reads.Learnt,
-  index-reads.Asked,
-  index-reads.Learnt,
-  report-reads.Asked,
-  report-reads.Learnt,
-  should-break-pat-reads.Asked,
-  should-break-pat-reads.Learnt,
-  inf-pat-below t,
-  inf-pat.Post,
-) (op-step-at t) op-step.Post
+op-step-returns-3 : (t : ℕ) → op-step-lts.Need-returns-3 (op-step-told t) (op-step-at t) op-step.Post
 unfolding pat.opStep plan choose chosen
 op-step-returns-3 t c =
-    let falls = c .before .before .before .before .before .before .before .before .before .before .before .before .before .before .before .before .before .before .before .before .before .before .before .before .before .before .before .pre .0 in
     let pre0 = c .before .before .before .before .before .before .before .before .before .before .before .before .before .before .before .before .before .before .before .before .before .before .before .before .before .before .before .pre .1 .0 in
-    let pre1 = c .before .before .before .before .before .before .before .before .before .before .before .before .before .before .before .before .before .before .before .before .before .before .before .before .before .before .before .pre .1 .1 in
     let fixity-at = rw (c .before .before .before .before .before .before .before .before .before .before .before .before .before .before .before .before .before .before .fix .given .1) at (c .before .before .before .before .before .before .before .before .before .before .before .before .before .before .before .before .before .before .before .before .fixity-at .ensures) in
     let should-break-pat = rw (c .before .before .before .before .before .before .before .before .ends2 .given .1) at (c .before .before .before .before .before .before .before .before .before .before .before .before .before .before .should-break-pat .ensures) in
     let inf-pat = c .before .before .before .before .inf-pat .ensures in
     in-steps pre0 (s-fixed fixity-at (s-by _ (runs-always (should-break-pat _)) (s-by _ inf-pat s-end)))
 
-op-tail-fixity-at-requires : (t : ℕ) → op-tail-lts.Need-fixity-at-requires (
-  fixity-at-reads.Asked,
-  fixity-at-reads.Learnt,
-  inf-pat-below t,
-  inf-pat.Post,
-) (op-tail-at t) op-tail.Post
+op-tail-fixity-at-requires : (t : ℕ) → op-tail-lts.Need-fixity-at-requires (op-tail-told t) (op-tail-at t) op-tail.Post
 op-tail-fixity-at-requires t c κs =
     let pre0 = c .before .before .before .before .before .before .pre .1 .0 in
     (pre0 .reads, pre0 .names, pre0 .stands)
 
-op-tail-enum-told : (t : ℕ) → op-tail-lts.Need-enum-told (
-  fixity-at-reads.Asked,
-  fixity-at-reads.Learnt,
-  inf-pat-below t,
-  inf-pat.Post,
-) (op-tail-at t) op-tail.Post
+op-tail-enum-told : (t : ℕ) → op-tail-lts.Need-enum-told (op-tail-told t) (op-tail-at t) op-tail.Post
 op-tail-enum-told t c =
     let falls = c .before .before .before .before .before .before .before .before .pre .0 in
     let pre0 = c .before .before .before .before .before .before .before .before .pre .1 .0 in
     let pre1 = c .before .before .before .before .before .before .before .before .pre .1 .1 in
     search needs
 
-op-tail-enum-known-fix : (t : ℕ) → op-tail-lts.Need-enum-known-fix (
-  fixity-at-reads.Asked,
-  fixity-at-reads.Learnt,
-  inf-pat-below t,
-  inf-pat.Post,
-) (op-tail-at t) op-tail.Post
+op-tail-enum-known-fix : (t : ℕ) → op-tail-lts.Need-enum-known-fix (op-tail-told t) (op-tail-at t) op-tail.Post
 op-tail-enum-known-fix t c =
     let falls = c .before .before .before .before .before .before .before .before .pre .0 in
     let pre0 = c .before .before .before .before .before .before .before .before .pre .1 .0 in
     let pre1 = c .before .before .before .before .before .before .before .before .pre .1 .1 in
     search needs
 
-op-tail-inf-pat-requires : (t : ℕ) → op-tail-lts.Need-inf-pat-requires (
-  fixity-at-reads.Asked,
-  fixity-at-reads.Learnt,
-  inf-pat-below t,
-  inf-pat.Post,
-) (op-tail-at t) op-tail.Post
+op-tail-inf-pat-requires : (t : ℕ) → op-tail-lts.Need-inf-pat-requires (op-tail-told t) (op-tail-at t) op-tail.Post
 op-tail-inf-pat-requires t c κs =
     let falls = c .before .before .before .before .before .before .before .before .before .before .before .before .pre .0 in
     let pre0 = c .before .before .before .before .before .before .before .before .before .before .before .before .pre .1 .0 in
     let pre1 = c .before .before .before .before .before .before .before .before .before .before .before .before .pre .1 .1 in
     (omega arith, (pre0, pre1))
 
-op-tail-returns : (t : ℕ) → op-tail-lts.Need-returns (
-  fixity-at-reads.Asked,
-  fixity-at-reads.Learnt,
-  inf-pat-below t,
-  inf-pat.Post,
-) (op-tail-at t) op-tail.Post
+op-tail-returns : (t : ℕ) → op-tail-lts.Need-returns (op-tail-told t) (op-tail-at t) op-tail.Post
 unfolding pat.opTail plan choose chosen
 op-tail-returns t c =
-    let falls = c .before .before .before .before .before .before .before .before .before .pre .0 in
     let pre0 = c .before .before .before .before .before .before .before .before .before .pre .1 .0 in
-    let pre1 = c .before .before .before .before .before .before .before .before .before .pre .1 .1 in
     let fixity-at = rw (c .enum-told .given .1) at (c .before .before .fixity-at .ensures) in
     in-steps pre0 (s-fixed fixity-at s-end)
 
-op-tail-same-length : (t : ℕ) → op-tail-lts.Need-same-length (
-  fixity-at-reads.Asked,
-  fixity-at-reads.Learnt,
-  inf-pat-below t,
-  inf-pat.Post,
-) (op-tail-at t) op-tail.Post
+op-tail-same-length : (t : ℕ) → op-tail-lts.Need-same-length (op-tail-told t) (op-tail-at t) op-tail.Post
 op-tail-same-length t c =
     c .before .before .before .before .inf-pat .kept .1 .1 .1 .1 .0
 
-op-tail-same-length-2 : (t : ℕ) → op-tail-lts.Need-same-length-2 (
-  fixity-at-reads.Asked,
-  fixity-at-reads.Learnt,
-  inf-pat-below t,
-  inf-pat.Post,
-) (op-tail-at t) op-tail.Post
+op-tail-same-length-2 : (t : ℕ) → op-tail-lts.Need-same-length-2 (op-tail-told t) (op-tail-at t) op-tail.Post
 op-tail-same-length-2 t c =
     c .before .before .before .before .inf-pat .kept .1 .1 .1 .1 .1 .0
 
-op-tail-returns-2 : (t : ℕ) → op-tail-lts.Need-returns-2 (
-  fixity-at-reads.Asked,
-  fixity-at-reads.Learnt,
-  inf-pat-below t,
-  inf-pat.Post,
-) (op-tail-at t) op-tail.Post
+op-tail-returns-2 : (t : ℕ) → op-tail-lts.Need-returns-2 (op-tail-told t) (op-tail-at t) op-tail.Post
 unfolding pat.opTail plan choose chosen
 op-tail-returns-2 t c =
-    let falls = c .before .before .before .before .before .before .before .before .before .before .before .before .before .before .before .before .before .pre .0 in
     let pre0 = c .before .before .before .before .before .before .before .before .before .before .before .before .before .before .before .before .before .pre .1 .0 in
-    let pre1 = c .before .before .before .before .before .before .before .before .before .before .before .before .before .before .before .before .before .pre .1 .1 in
     let fixity-at = rw (c .before .before .before .before .before .before .before .before .fix .given .1) at (c .before .before .before .before .before .before .before .before .before .before .fixity-at .ensures) in
     let inf-pat = c .before .before .before .before .inf-pat .ensures in
     in-steps pre0 (s-fixed fixity-at (s-by _ inf-pat s-end))
 
-or-step-is-min-requires : (t : ℕ) → or-step-lts.Need-is-min-requires (
-  is-min-reads.Asked,
-  is-min-reads.Learnt,
-  refuse-reads.Asked,
-  refuse-reads.Learnt,
-  mark-reads.Asked,
-  mark-reads.Learnt,
-  bump-reads.Asked,
-  bump-reads.Learnt,
-  pat-must-below t,
-  pat-must.Post,
-  close-reads.Asked,
-  close-reads.Learnt,
-) (or-step-at t) or-step.Post
+or-step-is-min-requires : (t : ℕ) → or-step-lts.Need-is-min-requires (or-step-told t) (or-step-at t) or-step.Post
 or-step-is-min-requires t c κs =
     tt
 
-or-step-refuse-requires : (t : ℕ) → or-step-lts.Need-refuse-requires (
-  is-min-reads.Asked,
-  is-min-reads.Learnt,
-  refuse-reads.Asked,
-  refuse-reads.Learnt,
-  mark-reads.Asked,
-  mark-reads.Learnt,
-  bump-reads.Asked,
-  bump-reads.Learnt,
-  pat-must-below t,
-  pat-must.Post,
-  close-reads.Asked,
-  close-reads.Learnt,
-) (or-step-at t) or-step.Post
+or-step-refuse-requires : (t : ℕ) → or-step-lts.Need-refuse-requires (or-step-told t) (or-step-at t) or-step.Post
 or-step-refuse-requires t c κs =
     tt
 
-or-step-returns : (t : ℕ) → or-step-lts.Need-returns (
-  is-min-reads.Asked,
-  is-min-reads.Learnt,
-  refuse-reads.Asked,
-  refuse-reads.Learnt,
-  mark-reads.Asked,
-  mark-reads.Learnt,
-  bump-reads.Asked,
-  bump-reads.Learnt,
-  pat-must-below t,
-  pat-must.Post,
-  close-reads.Asked,
-  close-reads.Learnt,
-) (or-step-at t) or-step.Post
+or-step-returns : (t : ℕ) → or-step-lts.Need-returns (or-step-told t) (or-step-at t) or-step.Post
 unfolding pat.orStep plan choose chosen
 or-step-returns t c =
-    let falls = c .before .before .before .before .before .before .before .before .before .before .pre .0 in
     let pre0 = c .before .before .before .before .before .before .before .before .before .before .pre .1 .0 in
-    let pre1 = c .before .before .before .before .before .before .before .before .before .before .pre .1 .1 in
     let is-min = c .before .before .before .is-min .ensures in
     let if1 = c .before .before .if1 .taken in
     let if2 = c .before .if2 .taken in
     let refuse = c .refuse .ensures in
     in-steps pre0 (s-true _ _ (test-true is-min if1) (s-deep if2 refuse s-end))
 
-or-step-mark-requires : (t : ℕ) → or-step-lts.Need-mark-requires (
-  is-min-reads.Asked,
-  is-min-reads.Learnt,
-  refuse-reads.Asked,
-  refuse-reads.Learnt,
-  mark-reads.Asked,
-  mark-reads.Learnt,
-  bump-reads.Asked,
-  bump-reads.Learnt,
-  pat-must-below t,
-  pat-must.Post,
-  close-reads.Asked,
-  close-reads.Learnt,
-) (or-step-at t) or-step.Post
+or-step-mark-requires : (t : ℕ) → or-step-lts.Need-mark-requires (or-step-told t) (or-step-at t) or-step.Post
 or-step-mark-requires t c κs =
     tt
 
-or-step-bump-requires : (t : ℕ) → or-step-lts.Need-bump-requires (
-  is-min-reads.Asked,
-  is-min-reads.Learnt,
-  refuse-reads.Asked,
-  refuse-reads.Learnt,
-  mark-reads.Asked,
-  mark-reads.Learnt,
-  bump-reads.Asked,
-  bump-reads.Learnt,
-  pat-must-below t,
-  pat-must.Post,
-  close-reads.Asked,
-  close-reads.Learnt,
-) (or-step-at t) or-step.Post
+or-step-bump-requires : (t : ℕ) → or-step-lts.Need-bump-requires (or-step-told t) (or-step-at t) or-step.Post
 or-step-bump-requires t c κs =
     let pre0 = c .before .before .before .before .before .before .before .before .before .before .before .pre .1 .0 in
     let mark = c .mark .ensures in
     let mark-ok = ok-marks mark pre0 in
     (mark-ok .reads, mark-ok .logs)
 
-or-step-sub-pat-must : (t : ℕ) → or-step-lts.Need-sub-pat-must (
-  is-min-reads.Asked,
-  is-min-reads.Learnt,
-  refuse-reads.Asked,
-  refuse-reads.Learnt,
-  mark-reads.Asked,
-  mark-reads.Learnt,
-  bump-reads.Asked,
-  bump-reads.Learnt,
-  pat-must-below t,
-  pat-must.Post,
-  close-reads.Asked,
-  close-reads.Learnt,
-) (or-step-at t) or-step.Post
+or-step-sub-pat-must : (t : ℕ) → or-step-lts.Need-sub-pat-must (or-step-told t) (or-step-at t) or-step.Post
 or-step-sub-pat-must t c =
     let falls = c .before .before .before .before .before .before .before .before .before .before .before .before .before .before .before .before .pre .0 in
     let pre0 = c .before .before .before .before .before .before .before .before .before .before .before .before .before .before .before .before .pre .1 .0 in
@@ -4851,20 +2132,7 @@ or-step-sub-pat-must t c =
     let if2 = c .before .before .before .before .before .before .before .if2 .left in
     search needs
 
-or-step-pat-must-requires : (t : ℕ) → or-step-lts.Need-pat-must-requires (
-  is-min-reads.Asked,
-  is-min-reads.Learnt,
-  refuse-reads.Asked,
-  refuse-reads.Learnt,
-  mark-reads.Asked,
-  mark-reads.Learnt,
-  bump-reads.Asked,
-  bump-reads.Learnt,
-  pat-must-below t,
-  pat-must.Post,
-  close-reads.Asked,
-  close-reads.Learnt,
-) (or-step-at t) or-step.Post
+or-step-pat-must-requires : (t : ℕ) → or-step-lts.Need-pat-must-requires (or-step-told t) (or-step-at t) or-step.Post
 or-step-pat-must-requires t c κs =
     let falls = c .before .before .before .before .before .before .before .before .before .before .before .before .before .before .before .before .pre .0 in
     let pre0 = c .before .before .before .before .before .before .before .before .before .before .before .before .before .before .before .before .pre .1 .0 in
@@ -4877,79 +2145,25 @@ or-step-pat-must-requires t c κs =
     let bump-ok = ok-bumps bump mark-ok in
     (omega arith, bump-ok)
 
-or-step-close-requires : (t : ℕ) → or-step-lts.Need-close-requires (
-  is-min-reads.Asked,
-  is-min-reads.Learnt,
-  refuse-reads.Asked,
-  refuse-reads.Learnt,
-  mark-reads.Asked,
-  mark-reads.Learnt,
-  bump-reads.Asked,
-  bump-reads.Learnt,
-  pat-must-below t,
-  pat-must.Post,
-  close-reads.Asked,
-  close-reads.Learnt,
-) (or-step-at t) or-step.Post
+or-step-close-requires : (t : ℕ) → or-step-lts.Need-close-requires (or-step-told t) (or-step-at t) or-step.Post
 or-step-close-requires t c κs =
     let pre1 = c .before .before .before .before .before .before .before .before .before .before .before .before .before .before .before .before .before .before .before .before .before .before .pre .1 .1 in
     let pat-must = c .before .before .before .before .before .pat-must .ensures in
     let pat-must-ok = pat-must .ok in
     (pat-must-ok .logs, pre1)
 
-or-step-same-length : (t : ℕ) → or-step-lts.Need-same-length (
-  is-min-reads.Asked,
-  is-min-reads.Learnt,
-  refuse-reads.Asked,
-  refuse-reads.Learnt,
-  mark-reads.Asked,
-  mark-reads.Learnt,
-  bump-reads.Asked,
-  bump-reads.Learnt,
-  pat-must-below t,
-  pat-must.Post,
-  close-reads.Asked,
-  close-reads.Learnt,
-) (or-step-at t) or-step.Post
+or-step-same-length : (t : ℕ) → or-step-lts.Need-same-length (or-step-told t) (or-step-at t) or-step.Post
 or-step-same-length t c =
     c .before .before .close .kept .0 ∙ c .before .before .before .before .before .before .before .before .pat-must .kept .1 .1 .1 .1 .0 ∙ c .before .before .before .before .before .before .before .before .before .before .before .before .before .bump .kept .1 .0
 
-or-step-same-length-2 : (t : ℕ) → or-step-lts.Need-same-length-2 (
-  is-min-reads.Asked,
-  is-min-reads.Learnt,
-  refuse-reads.Asked,
-  refuse-reads.Learnt,
-  mark-reads.Asked,
-  mark-reads.Learnt,
-  bump-reads.Asked,
-  bump-reads.Learnt,
-  pat-must-below t,
-  pat-must.Post,
-  close-reads.Asked,
-  close-reads.Learnt,
-) (or-step-at t) or-step.Post
+or-step-same-length-2 : (t : ℕ) → or-step-lts.Need-same-length-2 (or-step-told t) (or-step-at t) or-step.Post
 or-step-same-length-2 t c =
     c .before .before .before .before .before .before .before .before .pat-must .kept .1 .1 .1 .1 .1 .0
 
-or-step-returns-2 : (t : ℕ) → or-step-lts.Need-returns-2 (
-  is-min-reads.Asked,
-  is-min-reads.Learnt,
-  refuse-reads.Asked,
-  refuse-reads.Learnt,
-  mark-reads.Asked,
-  mark-reads.Learnt,
-  bump-reads.Asked,
-  bump-reads.Learnt,
-  pat-must-below t,
-  pat-must.Post,
-  close-reads.Asked,
-  close-reads.Learnt,
-) (or-step-at t) or-step.Post
+or-step-returns-2 : (t : ℕ) → or-step-lts.Need-returns-2 (or-step-told t) (or-step-at t) or-step.Post
 unfolding pat.orStep plan choose chosen
 or-step-returns-2 t c =
-    let falls = c .before .before .before .before .before .before .before .before .before .before .before .before .before .before .before .before .before .before .before .before .before .before .before .before .before .pre .0 in
     let pre0 = c .before .before .before .before .before .before .before .before .before .before .before .before .before .before .before .before .before .before .before .before .before .before .before .before .before .pre .1 .0 in
-    let pre1 = c .before .before .before .before .before .before .before .before .before .before .before .before .before .before .before .before .before .before .before .before .before .before .before .before .before .pre .1 .1 in
     let is-min = c .before .before .before .before .before .before .before .before .before .before .before .before .before .before .before .before .before .before .is-min .ensures in
     let if1 = c .before .before .before .before .before .before .before .before .before .before .before .before .before .before .before .before .before .if1 .taken in
     let if2 = c .before .before .before .before .before .before .before .before .before .before .before .before .before .before .before .before .if2 .left in
@@ -4959,129 +2173,38 @@ or-step-returns-2 t c =
     let close = c .before .before .close .ensures in
     in-steps pre0 (s-true _ _ (test-true is-min if1) (s-mark if2 mark (s-bump bump (s-by _ (runs-in pat-must) (s-close close s-end)))))
 
-or-step-returns-3 : (t : ℕ) → or-step-lts.Need-returns-3 (
-  is-min-reads.Asked,
-  is-min-reads.Learnt,
-  refuse-reads.Asked,
-  refuse-reads.Learnt,
-  mark-reads.Asked,
-  mark-reads.Learnt,
-  bump-reads.Asked,
-  bump-reads.Learnt,
-  pat-must-below t,
-  pat-must.Post,
-  close-reads.Asked,
-  close-reads.Learnt,
-) (or-step-at t) or-step.Post
+or-step-returns-3 : (t : ℕ) → or-step-lts.Need-returns-3 (or-step-told t) (or-step-at t) or-step.Post
 unfolding pat.orStep plan choose chosen
 or-step-returns-3 t c =
-    let falls = c .before .before .before .before .before .before .before .before .pre .0 in
     let pre0 = c .before .before .before .before .before .before .before .before .pre .1 .0 in
-    let pre1 = c .before .before .before .before .before .before .before .before .pre .1 .1 in
     let is-min = c .before .is-min .ensures in
     let if1 = c .if1 .left in
     in-steps pre0 (s-false _ _ (test-false is-min if1) s-end)
 
-pat-arg-refuse-requires : (t : ℕ) → pat-arg-lts.Need-refuse-requires (
-  refuse-reads.Asked,
-  refuse-reads.Learnt,
-  mark-reads.Asked,
-  mark-reads.Learnt,
-  pat-must-below t,
-  pat-must.Post,
-  at-reads.Asked,
-  at-reads.Learnt,
-  eat-reads.Asked,
-  eat-reads.Learnt,
-  state-reads.Asked,
-  state-reads.Learnt,
-  close-reads.Asked,
-  close-reads.Learnt,
-) (pat-arg-at t) pat-arg.Post
+pat-arg-refuse-requires : (t : ℕ) → pat-arg-lts.Need-refuse-requires (pat-arg-told t) (pat-arg-at t) pat-arg.Post
 pat-arg-refuse-requires t c κs =
     tt
 
-pat-arg-returns : (t : ℕ) → pat-arg-lts.Need-returns (
-  refuse-reads.Asked,
-  refuse-reads.Learnt,
-  mark-reads.Asked,
-  mark-reads.Learnt,
-  pat-must-below t,
-  pat-must.Post,
-  at-reads.Asked,
-  at-reads.Learnt,
-  eat-reads.Asked,
-  eat-reads.Learnt,
-  state-reads.Asked,
-  state-reads.Learnt,
-  close-reads.Asked,
-  close-reads.Learnt,
-) (pat-arg-at t) pat-arg.Post
+pat-arg-returns : (t : ℕ) → pat-arg-lts.Need-returns (pat-arg-told t) (pat-arg-at t) pat-arg.Post
 unfolding pat.patArg plan choose chosen
 pat-arg-returns t c =
-    let falls = c .before .before .before .before .before .before .before .before .pre .0 in
     let pre0 = c .before .before .before .before .before .before .before .before .pre .1 in
     let if1 = c .before .if1 .taken in
     let refuse = c .refuse .ensures in
     by-steps pre0 (λ b. s-deep if1 refuse s-end)
 
-pat-arg-mark-requires : (t : ℕ) → pat-arg-lts.Need-mark-requires (
-  refuse-reads.Asked,
-  refuse-reads.Learnt,
-  mark-reads.Asked,
-  mark-reads.Learnt,
-  pat-must-below t,
-  pat-must.Post,
-  at-reads.Asked,
-  at-reads.Learnt,
-  eat-reads.Asked,
-  eat-reads.Learnt,
-  state-reads.Asked,
-  state-reads.Learnt,
-  close-reads.Asked,
-  close-reads.Learnt,
-) (pat-arg-at t) pat-arg.Post
+pat-arg-mark-requires : (t : ℕ) → pat-arg-lts.Need-mark-requires (pat-arg-told t) (pat-arg-at t) pat-arg.Post
 pat-arg-mark-requires t c κs =
     tt
 
-pat-arg-sub-pat-must : (t : ℕ) → pat-arg-lts.Need-sub-pat-must (
-  refuse-reads.Asked,
-  refuse-reads.Learnt,
-  mark-reads.Asked,
-  mark-reads.Learnt,
-  pat-must-below t,
-  pat-must.Post,
-  at-reads.Asked,
-  at-reads.Learnt,
-  eat-reads.Asked,
-  eat-reads.Learnt,
-  state-reads.Asked,
-  state-reads.Learnt,
-  close-reads.Asked,
-  close-reads.Learnt,
-) (pat-arg-at t) pat-arg.Post
+pat-arg-sub-pat-must : (t : ℕ) → pat-arg-lts.Need-sub-pat-must (pat-arg-told t) (pat-arg-at t) pat-arg.Post
 pat-arg-sub-pat-must t c =
     let falls = c .before .before .before .before .before .before .before .before .before .before .pre .0 in
     let pre0 = c .before .before .before .before .before .before .before .before .before .before .pre .1 in
     let if1 = c .before .before .before .if1 .left in
     search needs
 
-pat-arg-pat-must-requires : (t : ℕ) → pat-arg-lts.Need-pat-must-requires (
-  refuse-reads.Asked,
-  refuse-reads.Learnt,
-  mark-reads.Asked,
-  mark-reads.Learnt,
-  pat-must-below t,
-  pat-must.Post,
-  at-reads.Asked,
-  at-reads.Learnt,
-  eat-reads.Asked,
-  eat-reads.Learnt,
-  state-reads.Asked,
-  state-reads.Learnt,
-  close-reads.Asked,
-  close-reads.Learnt,
-) (pat-arg-at t) pat-arg.Post
+pat-arg-pat-must-requires : (t : ℕ) → pat-arg-lts.Need-pat-must-requires (pat-arg-told t) (pat-arg-at t) pat-arg.Post
 pat-arg-pat-must-requires t c κs =
     let falls = c .before .before .before .before .before .before .before .before .before .before .pre .0 in
     let pre0 = c .before .before .before .before .before .before .before .before .before .before .pre .1 in
@@ -5090,84 +2213,23 @@ pat-arg-pat-must-requires t c κs =
     let mark-ok = ok-marks mark pre0 in
     (omega arith, mark-ok)
 
-pat-arg-at-requires : (t : ℕ) → pat-arg-lts.Need-at-requires (
-  refuse-reads.Asked,
-  refuse-reads.Learnt,
-  mark-reads.Asked,
-  mark-reads.Learnt,
-  pat-must-below t,
-  pat-must.Post,
-  at-reads.Asked,
-  at-reads.Learnt,
-  eat-reads.Asked,
-  eat-reads.Learnt,
-  state-reads.Asked,
-  state-reads.Learnt,
-  close-reads.Asked,
-  close-reads.Learnt,
-) (pat-arg-at t) pat-arg.Post
+pat-arg-at-requires : (t : ℕ) → pat-arg-lts.Need-at-requires (pat-arg-told t) (pat-arg-at t) pat-arg.Post
 pat-arg-at-requires t c κs =
     let pat-must = c .before .before .before .before .pat-must .ensures in
     let pat-must-ok = pat-must .ok in
     pat-must-ok .reads
 
-pat-arg-same-length : (t : ℕ) → pat-arg-lts.Need-same-length (
-  refuse-reads.Asked,
-  refuse-reads.Learnt,
-  mark-reads.Asked,
-  mark-reads.Learnt,
-  pat-must-below t,
-  pat-must.Post,
-  at-reads.Asked,
-  at-reads.Learnt,
-  eat-reads.Asked,
-  eat-reads.Learnt,
-  state-reads.Asked,
-  state-reads.Learnt,
-  close-reads.Asked,
-  close-reads.Learnt,
-) (pat-arg-at t) pat-arg.Post
+pat-arg-same-length : (t : ℕ) → pat-arg-lts.Need-same-length (pat-arg-told t) (pat-arg-at t) pat-arg.Post
 pat-arg-same-length t c =
     c .before .before .before .before .before .before .pat-must .kept .1 .1 .1 .1 .0
 
-pat-arg-same-length-2 : (t : ℕ) → pat-arg-lts.Need-same-length-2 (
-  refuse-reads.Asked,
-  refuse-reads.Learnt,
-  mark-reads.Asked,
-  mark-reads.Learnt,
-  pat-must-below t,
-  pat-must.Post,
-  at-reads.Asked,
-  at-reads.Learnt,
-  eat-reads.Asked,
-  eat-reads.Learnt,
-  state-reads.Asked,
-  state-reads.Learnt,
-  close-reads.Asked,
-  close-reads.Learnt,
-) (pat-arg-at t) pat-arg.Post
+pat-arg-same-length-2 : (t : ℕ) → pat-arg-lts.Need-same-length-2 (pat-arg-told t) (pat-arg-at t) pat-arg.Post
 pat-arg-same-length-2 t c =
     c .before .before .before .before .before .before .pat-must .kept .1 .1 .1 .1 .1 .0
 
-pat-arg-returns-2 : (t : ℕ) → pat-arg-lts.Need-returns-2 (
-  refuse-reads.Asked,
-  refuse-reads.Learnt,
-  mark-reads.Asked,
-  mark-reads.Learnt,
-  pat-must-below t,
-  pat-must.Post,
-  at-reads.Asked,
-  at-reads.Learnt,
-  eat-reads.Asked,
-  eat-reads.Learnt,
-  state-reads.Asked,
-  state-reads.Learnt,
-  close-reads.Asked,
-  close-reads.Learnt,
-) (pat-arg-at t) pat-arg.Post
+pat-arg-returns-2 : (t : ℕ) → pat-arg-lts.Need-returns-2 (pat-arg-told t) (pat-arg-at t) pat-arg.Post
 unfolding pat.patArg plan choose chosen
 pat-arg-returns-2 t c =
-    let falls = c .before .before .before .before .before .before .before .before .before .before .before .before .before .before .before .before .before .pre .0 in
     let pre0 = c .before .before .before .before .before .before .before .before .before .before .before .before .before .before .before .before .before .pre .1 in
     let if1 = c .before .before .before .before .before .before .before .before .before .before .if1 .left in
     let mark = c .before .before .before .before .before .before .before .before .before .mark .ensures in
@@ -5176,132 +2238,43 @@ pat-arg-returns-2 t c =
     let if2 = c .if2 .taken in
     by-steps pre0 (λ b. s-mark if1 mark (s-by _ (runs-in pat-must) (s-kind (s-true _ _ (kind-at _ _ _ _ at if2) s-end))))
 
-pat-arg-eat-requires : (t : ℕ) → pat-arg-lts.Need-eat-requires (
-  refuse-reads.Asked,
-  refuse-reads.Learnt,
-  mark-reads.Asked,
-  mark-reads.Learnt,
-  pat-must-below t,
-  pat-must.Post,
-  at-reads.Asked,
-  at-reads.Learnt,
-  eat-reads.Asked,
-  eat-reads.Learnt,
-  state-reads.Asked,
-  state-reads.Learnt,
-  close-reads.Asked,
-  close-reads.Learnt,
-) (pat-arg-at t) pat-arg.Post
+pat-arg-eat-requires : (t : ℕ) → pat-arg-lts.Need-eat-requires (pat-arg-told t) (pat-arg-at t) pat-arg.Post
 pat-arg-eat-requires t c κs =
     let falls = c .before .before .before .before .before .before .before .before .before .before .before .before .before .before .before .before .before .before .before .pre .0 in
     let if1 = c .before .before .before .before .before .before .before .before .before .before .before .before .if1 .left in
     let pat-must = c .before .before .before .before .before .before .before .before .pat-must .ensures in
     let pat-must-ok = pat-must .ok in
     let if2 = c .before .before .if2 .left in
-    (pat-must-ok, omega arith)
+    (pat-must-ok .reads, pat-must-ok .logs, pat-must-ok .holds, omega arith)
 
-pat-arg-state-requires : (t : ℕ) → pat-arg-lts.Need-state-requires (
-  refuse-reads.Asked,
-  refuse-reads.Learnt,
-  mark-reads.Asked,
-  mark-reads.Learnt,
-  pat-must-below t,
-  pat-must.Post,
-  at-reads.Asked,
-  at-reads.Learnt,
-  eat-reads.Asked,
-  eat-reads.Learnt,
-  state-reads.Asked,
-  state-reads.Learnt,
-  close-reads.Asked,
-  close-reads.Learnt,
-) (pat-arg-at t) pat-arg.Post
+pat-arg-state-requires : (t : ℕ) → pat-arg-lts.Need-state-requires (pat-arg-told t) (pat-arg-at t) pat-arg.Post
 pat-arg-state-requires t c κs =
     tt
 
-pat-arg-close-requires : (t : ℕ) → pat-arg-lts.Need-close-requires (
-  refuse-reads.Asked,
-  refuse-reads.Learnt,
-  mark-reads.Asked,
-  mark-reads.Learnt,
-  pat-must-below t,
-  pat-must.Post,
-  at-reads.Asked,
-  at-reads.Learnt,
-  eat-reads.Asked,
-  eat-reads.Learnt,
-  state-reads.Asked,
-  state-reads.Learnt,
-  close-reads.Asked,
-  close-reads.Learnt,
-) (pat-arg-at t) pat-arg.Post
+pat-arg-close-requires : (t : ℕ) → pat-arg-lts.Need-close-requires (pat-arg-told t) (pat-arg-at t) pat-arg.Post
 pat-arg-close-requires t c κs =
     let pre0 = c .before .before .before .before .before .before .before .before .before .before .before .before .before .before .before .before .before .before .before .before .before .before .before .before .before .before .pre .1 in
     let mark = c .before .before .before .before .before .before .before .before .before .before .before .before .before .before .before .before .before .before .mark .ensures in
     let mark-ok = ok-marks mark pre0 in
+    let pat-must = c .before .before .before .before .before .before .before .before .before .before .before .before .before .before .before .pat-must .ensures in
+    let pat-must-ok = pat-must .ok in
     let eat = c .before .before .before .before .before .before .eat .ensures in
-    let eat-ok = eat .ok in
+    let eat-ok = ok-eats eat pat-must-ok in
     let state = c .before .state .ensures in
     let state-ok = ok-state state eat-ok in
     (state-ok .logs, small-len mark-ok)
 
-pat-arg-same-length-3 : (t : ℕ) → pat-arg-lts.Need-same-length-3 (
-  refuse-reads.Asked,
-  refuse-reads.Learnt,
-  mark-reads.Asked,
-  mark-reads.Learnt,
-  pat-must-below t,
-  pat-must.Post,
-  at-reads.Asked,
-  at-reads.Learnt,
-  eat-reads.Asked,
-  eat-reads.Learnt,
-  state-reads.Asked,
-  state-reads.Learnt,
-  close-reads.Asked,
-  close-reads.Learnt,
-) (pat-arg-at t) pat-arg.Post
+pat-arg-same-length-3 : (t : ℕ) → pat-arg-lts.Need-same-length-3 (pat-arg-told t) (pat-arg-at t) pat-arg.Post
 pat-arg-same-length-3 t c =
-    c .before .before .close .kept .0 ∙ c .before .before .before .before .before .before .before .before .before .eat .kept .1 .1 .1 .1 .0 ∙ c .before .before .before .before .before .before .before .before .before .before .before .before .before .before .before .before .before .before .pat-must .kept .1 .1 .1 .1 .0
+    c .before .before .close .kept .0 ∙ c .before .before .before .before .before .before .before .before .before .eat .kept .1 .0 ∙ c .before .before .before .before .before .before .before .before .before .before .before .before .before .before .before .before .before .before .pat-must .kept .1 .1 .1 .1 .0
 
-pat-arg-same-length-4 : (t : ℕ) → pat-arg-lts.Need-same-length-4 (
-  refuse-reads.Asked,
-  refuse-reads.Learnt,
-  mark-reads.Asked,
-  mark-reads.Learnt,
-  pat-must-below t,
-  pat-must.Post,
-  at-reads.Asked,
-  at-reads.Learnt,
-  eat-reads.Asked,
-  eat-reads.Learnt,
-  state-reads.Asked,
-  state-reads.Learnt,
-  close-reads.Asked,
-  close-reads.Learnt,
-) (pat-arg-at t) pat-arg.Post
+pat-arg-same-length-4 : (t : ℕ) → pat-arg-lts.Need-same-length-4 (pat-arg-told t) (pat-arg-at t) pat-arg.Post
 pat-arg-same-length-4 t c =
-    c .before .before .before .before .before .before .before .before .before .eat .kept .1 .1 .1 .1 .1 .0 ∙ c .before .before .before .before .before .before .before .before .before .before .before .before .before .before .before .before .before .before .pat-must .kept .1 .1 .1 .1 .1 .0
+    c .before .before .before .before .before .before .before .before .before .eat .kept .1 .1 .0 ∙ c .before .before .before .before .before .before .before .before .before .before .before .before .before .before .before .before .before .before .pat-must .kept .1 .1 .1 .1 .1 .0
 
-pat-arg-returns-3 : (t : ℕ) → pat-arg-lts.Need-returns-3 (
-  refuse-reads.Asked,
-  refuse-reads.Learnt,
-  mark-reads.Asked,
-  mark-reads.Learnt,
-  pat-must-below t,
-  pat-must.Post,
-  at-reads.Asked,
-  at-reads.Learnt,
-  eat-reads.Asked,
-  eat-reads.Learnt,
-  state-reads.Asked,
-  state-reads.Learnt,
-  close-reads.Asked,
-  close-reads.Learnt,
-) (pat-arg-at t) pat-arg.Post
+pat-arg-returns-3 : (t : ℕ) → pat-arg-lts.Need-returns-3 (pat-arg-told t) (pat-arg-at t) pat-arg.Post
 unfolding pat.patArg plan choose chosen
 pat-arg-returns-3 t c =
-    let falls = c .before .before .before .before .before .before .before .before .before .before .before .before .before .before .before .before .before .before .before .before .before .before .before .before .before .before .before .before .before .pre .0 in
     let pre0 = c .before .before .before .before .before .before .before .before .before .before .before .before .before .before .before .before .before .before .before .before .before .before .before .before .before .before .before .before .before .pre .1 in
     let if1 = c .before .before .before .before .before .before .before .before .before .before .before .before .before .before .before .before .before .before .before .before .before .before .if1 .left in
     let mark = c .before .before .before .before .before .before .before .before .before .before .before .before .before .before .before .before .before .before .before .before .before .mark .ensures in
@@ -5311,311 +2284,125 @@ pat-arg-returns-3 t c =
     let eat = c .before .before .before .before .before .before .before .before .before .eat .ensures in
     let state = c .before .before .before .before .state .ensures in
     let close = c .before .before .close .ensures in
-    by-steps pre0 (λ b. s-mark if1 mark (s-by _ (runs-in pat-must) (s-kind (s-false _ _ (kind-off _ _ _ _ at if2) (s-by _ (settled state (runs-always eat)) (s-close close s-end))))))
+    by-steps pre0 (λ b. s-mark if1 mark (s-by _ (runs-in pat-must) (s-kind (s-false _ _ (kind-off _ _ _ _ at if2) (s-eats _ _ _ (eats-settled state eat) (s-close close s-end))))))
 
-pat-must-pat-prec-requires : (t : ℕ) → pat-must-lts.Need-pat-prec-requires (
-  pat-prec-below t,
-  pat-prec.Post,
-  report-reads.Asked,
-  report-reads.Learnt,
-) (pat-must-at t) pat-must.Post
+pat-must-pat-prec-requires : (t : ℕ) → pat-must-lts.Need-pat-prec-requires (pat-must-told t) (pat-must-at t) pat-must.Post
 pat-must-pat-prec-requires t c κs =
     let falls = c .before .before .before .before .before .before .before .before .pre .0 in
     let pre0 = c .before .before .before .before .before .before .before .before .pre .1 in
     (omega arith, pre0)
 
-pat-must-enum-known-got : (t : ℕ) → pat-must-lts.Need-enum-known-got (
-  pat-prec-below t,
-  pat-prec.Post,
-  report-reads.Asked,
-  report-reads.Learnt,
-) (pat-must-at t) pat-must.Post
+pat-must-enum-known-got : (t : ℕ) → pat-must-lts.Need-enum-known-got (pat-must-told t) (pat-must-at t) pat-must.Post
 pat-must-enum-known-got t c =
     let falls = c .before .before .before .before .before .before .before .before .before .before .before .before .before .before .pre .0 in
     let pre0 = c .before .before .before .before .before .before .before .before .before .before .before .before .before .before .pre .1 in
     search needs
 
-pat-must-enum-known-got-2 : (t : ℕ) → pat-must-lts.Need-enum-known-got-2 (
-  pat-prec-below t,
-  pat-prec.Post,
-  report-reads.Asked,
-  report-reads.Learnt,
-) (pat-must-at t) pat-must.Post
+pat-must-enum-known-got-2 : (t : ℕ) → pat-must-lts.Need-enum-known-got-2 (pat-must-told t) (pat-must-at t) pat-must.Post
 pat-must-enum-known-got-2 t c =
     let falls = c .before .before .before .before .before .before .before .before .before .before .before .before .before .before .pre .0 in
     let pre0 = c .before .before .before .before .before .before .before .before .before .before .before .before .before .before .pre .1 in
     search needs
 
-pat-must-report-requires : (t : ℕ) → pat-must-lts.Need-report-requires (
-  pat-prec-below t,
-  pat-prec.Post,
-  report-reads.Asked,
-  report-reads.Learnt,
-) (pat-must-at t) pat-must.Post
+pat-must-report-requires : (t : ℕ) → pat-must-lts.Need-report-requires (pat-must-told t) (pat-must-at t) pat-must.Post
 pat-must-report-requires t c κs =
     let falls = c .before .before .before .before .before .before .before .before .before .before .before .before .before .before .before .before .before .pre .0 in
     let pat-prec = rw (c .before .before .got2 .given .1) at (c .before .before .before .before .before .before .before .before .pat-prec .ensures) in
     let pat-prec-ok = pat-prec .ok in
     (pat-prec-ok .holds, (let few = pat-prec-ok .reads .few in let inside = pat-prec-ok .reads .inside in omega arith), omega arith)
 
-pat-must-same-length : (t : ℕ) → pat-must-lts.Need-same-length (
-  pat-prec-below t,
-  pat-prec.Post,
-  report-reads.Asked,
-  report-reads.Learnt,
-) (pat-must-at t) pat-must.Post
+pat-must-same-length : (t : ℕ) → pat-must-lts.Need-same-length (pat-must-told t) (pat-must-at t) pat-must.Post
 pat-must-same-length t c =
     c .before .before .before .before .before .before .before .pat-prec .kept .1 .1 .1 .1 .0
 
-pat-must-same-length-2 : (t : ℕ) → pat-must-lts.Need-same-length-2 (
-  pat-prec-below t,
-  pat-prec.Post,
-  report-reads.Asked,
-  report-reads.Learnt,
-) (pat-must-at t) pat-must.Post
+pat-must-same-length-2 : (t : ℕ) → pat-must-lts.Need-same-length-2 (pat-must-told t) (pat-must-at t) pat-must.Post
 pat-must-same-length-2 t c =
     c .before .before .before .before .before .before .before .pat-prec .kept .1 .1 .1 .1 .1 .0
 
-pat-must-returns : (t : ℕ) → pat-must-lts.Need-returns (
-  pat-prec-below t,
-  pat-prec.Post,
-  report-reads.Asked,
-  report-reads.Learnt,
-) (pat-must-at t) pat-must.Post
+pat-must-returns : (t : ℕ) → pat-must-lts.Need-returns (pat-must-told t) (pat-must-at t) pat-must.Post
 unfolding pat.patMust plan choose chosen
 pat-must-returns t c =
-    let falls = c .before .before .before .before .before .before .before .before .before .before .before .before .before .before .before .before .pre .0 in
     let pre0 = c .before .before .before .before .before .before .before .before .before .before .before .before .before .before .before .before .pre .1 in
     let pat-prec = rw (c .before .got .given .1) at (c .before .before .before .before .before .before .before .pat-prec .ensures) in
     by-steps pre0 (λ b. s-run (runs-in pat-prec) s-end)
 
-pat-must-same-length-3 : (t : ℕ) → pat-must-lts.Need-same-length-3 (
-  pat-prec-below t,
-  pat-prec.Post,
-  report-reads.Asked,
-  report-reads.Learnt,
-) (pat-must-at t) pat-must.Post
+pat-must-same-length-3 : (t : ℕ) → pat-must-lts.Need-same-length-3 (pat-must-told t) (pat-must-at t) pat-must.Post
 pat-must-same-length-3 t c =
     c .before .before .before .before .before .before .before .before .before .before .before .pat-prec .kept .1 .1 .1 .1 .0
 
-pat-must-same-length-4 : (t : ℕ) → pat-must-lts.Need-same-length-4 (
-  pat-prec-below t,
-  pat-prec.Post,
-  report-reads.Asked,
-  report-reads.Learnt,
-) (pat-must-at t) pat-must.Post
+pat-must-same-length-4 : (t : ℕ) → pat-must-lts.Need-same-length-4 (pat-must-told t) (pat-must-at t) pat-must.Post
 pat-must-same-length-4 t c =
     c .before .before .report .kept .0 ∙ c .before .before .before .before .before .before .before .before .before .before .before .pat-prec .kept .1 .1 .1 .1 .1 .0
 
-pat-must-returns-2 : (t : ℕ) → pat-must-lts.Need-returns-2 (
-  pat-prec-below t,
-  pat-prec.Post,
-  report-reads.Asked,
-  report-reads.Learnt,
-) (pat-must-at t) pat-must.Post
+pat-must-returns-2 : (t : ℕ) → pat-must-lts.Need-returns-2 (pat-must-told t) (pat-must-at t) pat-must.Post
 unfolding pat.patMust plan choose chosen
 pat-must-returns-2 t c =
-    let falls = c .before .before .before .before .before .before .before .before .before .before .before .before .before .before .before .before .before .before .before .before .pre .0 in
     let pre0 = c .before .before .before .before .before .before .before .before .before .before .before .before .before .before .before .before .before .before .before .before .pre .1 in
     let pat-prec = rw (c .before .before .before .before .before .got2 .given .1) at (c .before .before .before .before .before .before .before .before .before .before .before .pat-prec .ensures) in
     let report = c .before .before .report .ensures in
     by-steps pre0 (λ b. s-run (runs-in pat-prec) (s-report report s-end))
 
-pat-prec-peek-requires : (t : ℕ) → pat-prec-lts.Need-peek-requires (
-  peek-reads.Asked,
-  peek-reads.Learnt,
-  atom-below t,
-  atom.Post,
-  name-star-reads.Asked,
-  name-star-reads.Learnt,
-  con-below t,
-  con.Post,
-  peek-n-reads.Asked,
-  peek-n-reads.Learnt,
-) (pat-prec-at t) pat-prec.Post
+pat-prec-peek-requires : (t : ℕ) → pat-prec-lts.Need-peek-requires (pat-prec-told t) (pat-prec-at t) pat-prec.Post
 pat-prec-peek-requires t c κs =
     let pre0 = c .before .before .before .before .before .before .pre .1 in
     pre0 .reads
 
-pat-prec-enum-known-k : (t : ℕ) → pat-prec-lts.Need-enum-known-k (
-  peek-reads.Asked,
-  peek-reads.Learnt,
-  atom-below t,
-  atom.Post,
-  name-star-reads.Asked,
-  name-star-reads.Learnt,
-  con-below t,
-  con.Post,
-  peek-n-reads.Asked,
-  peek-n-reads.Learnt,
-) (pat-prec-at t) pat-prec.Post
+pat-prec-enum-known-k : (t : ℕ) → pat-prec-lts.Need-enum-known-k (pat-prec-told t) (pat-prec-at t) pat-prec.Post
 pat-prec-enum-known-k t c =
     let falls = c .before .before .before .before .before .before .before .before .pre .0 in
     let pre0 = c .before .before .before .before .before .before .before .before .pre .1 in
     search needs
 
-pat-prec-enum-told : (t : ℕ) → pat-prec-lts.Need-enum-told (
-  peek-reads.Asked,
-  peek-reads.Learnt,
-  atom-below t,
-  atom.Post,
-  name-star-reads.Asked,
-  name-star-reads.Learnt,
-  con-below t,
-  con.Post,
-  peek-n-reads.Asked,
-  peek-n-reads.Learnt,
-) (pat-prec-at t) pat-prec.Post
+pat-prec-enum-told : (t : ℕ) → pat-prec-lts.Need-enum-told (pat-prec-told t) (pat-prec-at t) pat-prec.Post
 pat-prec-enum-told t c =
     let falls = c .before .before .before .before .before .before .before .before .pre .0 in
     let pre0 = c .before .before .before .before .before .before .before .before .pre .1 in
     search needs
 
-pat-prec-atom-requires : (t : ℕ) → pat-prec-lts.Need-atom-requires (
-  peek-reads.Asked,
-  peek-reads.Learnt,
-  atom-below t,
-  atom.Post,
-  name-star-reads.Asked,
-  name-star-reads.Learnt,
-  con-below t,
-  con.Post,
-  peek-n-reads.Asked,
-  peek-n-reads.Learnt,
-) (pat-prec-at t) pat-prec.Post
+pat-prec-atom-requires : (t : ℕ) → pat-prec-lts.Need-atom-requires (pat-prec-told t) (pat-prec-at t) pat-prec.Post
 pat-prec-atom-requires t c κs =
     let falls = c .before .before .before .before .before .before .before .before .before .before .before .pre .0 in
     let pre0 = c .before .before .before .before .before .before .before .before .before .before .before .pre .1 in
     (omega arith, (pre0, small-len pre0))
 
-pat-prec-same-length : (t : ℕ) → pat-prec-lts.Need-same-length (
-  peek-reads.Asked,
-  peek-reads.Learnt,
-  atom-below t,
-  atom.Post,
-  name-star-reads.Asked,
-  name-star-reads.Learnt,
-  con-below t,
-  con.Post,
-  peek-n-reads.Asked,
-  peek-n-reads.Learnt,
-) (pat-prec-at t) pat-prec.Post
+pat-prec-same-length : (t : ℕ) → pat-prec-lts.Need-same-length (pat-prec-told t) (pat-prec-at t) pat-prec.Post
 pat-prec-same-length t c =
     c .before .before .before .before .atom .kept .1 .1 .1 .1 .0
 
-pat-prec-same-length-2 : (t : ℕ) → pat-prec-lts.Need-same-length-2 (
-  peek-reads.Asked,
-  peek-reads.Learnt,
-  atom-below t,
-  atom.Post,
-  name-star-reads.Asked,
-  name-star-reads.Learnt,
-  con-below t,
-  con.Post,
-  peek-n-reads.Asked,
-  peek-n-reads.Learnt,
-) (pat-prec-at t) pat-prec.Post
+pat-prec-same-length-2 : (t : ℕ) → pat-prec-lts.Need-same-length-2 (pat-prec-told t) (pat-prec-at t) pat-prec.Post
 pat-prec-same-length-2 t c =
     c .before .before .before .before .atom .kept .1 .1 .1 .1 .1 .0
 
-pat-prec-returns : (t : ℕ) → pat-prec-lts.Need-returns (
-  peek-reads.Asked,
-  peek-reads.Learnt,
-  atom-below t,
-  atom.Post,
-  name-star-reads.Asked,
-  name-star-reads.Learnt,
-  con-below t,
-  con.Post,
-  peek-n-reads.Asked,
-  peek-n-reads.Learnt,
-) (pat-prec-at t) pat-prec.Post
+pat-prec-returns : (t : ℕ) → pat-prec-lts.Need-returns (pat-prec-told t) (pat-prec-at t) pat-prec.Post
 unfolding root.body pat.patScope plan choose chosen
 pat-prec-returns t c =
-    let falls = c .before .before .before .before .before .before .before .before .before .before .before .before .before .before .before .before .pre .0 in
     let pre0 = c .before .before .before .before .before .before .before .before .before .before .before .before .before .before .before .before .pre .1 in
     let peek = rw (c .before .before .before .before .before .before .before .enum-told .given .1) at (c .before .before .before .before .before .before .before .before .before .peek .ensures) in
     let atom = c .before .before .before .before .atom .ensures in
     by-steps pre0 (λ b. s-rule (s-look peek (s-by _ atom s-end)))
 
-pat-prec-name-star-requires : (t : ℕ) → pat-prec-lts.Need-name-star-requires (
-  peek-reads.Asked,
-  peek-reads.Learnt,
-  atom-below t,
-  atom.Post,
-  name-star-reads.Asked,
-  name-star-reads.Learnt,
-  con-below t,
-  con.Post,
-  peek-n-reads.Asked,
-  peek-n-reads.Learnt,
-) (pat-prec-at t) pat-prec.Post
+pat-prec-name-star-requires : (t : ℕ) → pat-prec-lts.Need-name-star-requires (pat-prec-told t) (pat-prec-at t) pat-prec.Post
 pat-prec-name-star-requires t c κs =
     tt
 
-pat-prec-con-requires : (t : ℕ) → pat-prec-lts.Need-con-requires (
-  peek-reads.Asked,
-  peek-reads.Learnt,
-  atom-below t,
-  atom.Post,
-  name-star-reads.Asked,
-  name-star-reads.Learnt,
-  con-below t,
-  con.Post,
-  peek-n-reads.Asked,
-  peek-n-reads.Learnt,
-) (pat-prec-at t) pat-prec.Post
+pat-prec-con-requires : (t : ℕ) → pat-prec-lts.Need-con-requires (pat-prec-told t) (pat-prec-at t) pat-prec.Post
 pat-prec-con-requires t c κs =
     let falls = c .before .before .before .before .before .before .before .before .before .before .before .before .before .before .pre .0 in
     let pre0 = c .before .before .before .before .before .before .before .before .before .before .before .before .before .before .pre .1 in
     let if1 = c .before .before .if1 .taken in
     (omega arith, (pre0, small-len pre0))
 
-pat-prec-same-length-3 : (t : ℕ) → pat-prec-lts.Need-same-length-3 (
-  peek-reads.Asked,
-  peek-reads.Learnt,
-  atom-below t,
-  atom.Post,
-  name-star-reads.Asked,
-  name-star-reads.Learnt,
-  con-below t,
-  con.Post,
-  peek-n-reads.Asked,
-  peek-n-reads.Learnt,
-) (pat-prec-at t) pat-prec.Post
+pat-prec-same-length-3 : (t : ℕ) → pat-prec-lts.Need-same-length-3 (pat-prec-told t) (pat-prec-at t) pat-prec.Post
 pat-prec-same-length-3 t c =
     c .before .before .before .before .con .kept .1 .1 .1 .1 .0
 
-pat-prec-same-length-4 : (t : ℕ) → pat-prec-lts.Need-same-length-4 (
-  peek-reads.Asked,
-  peek-reads.Learnt,
-  atom-below t,
-  atom.Post,
-  name-star-reads.Asked,
-  name-star-reads.Learnt,
-  con-below t,
-  con.Post,
-  peek-n-reads.Asked,
-  peek-n-reads.Learnt,
-) (pat-prec-at t) pat-prec.Post
+pat-prec-same-length-4 : (t : ℕ) → pat-prec-lts.Need-same-length-4 (pat-prec-told t) (pat-prec-at t) pat-prec.Post
 pat-prec-same-length-4 t c =
     c .before .before .before .before .con .kept .1 .1 .1 .1 .1 .0
 
-pat-prec-returns-2 : (t : ℕ) → pat-prec-lts.Need-returns-2 (
-  peek-reads.Asked,
-  peek-reads.Learnt,
-  atom-below t,
-  atom.Post,
-  name-star-reads.Asked,
-  name-star-reads.Learnt,
-  con-below t,
-  con.Post,
-  peek-n-reads.Asked,
-  peek-n-reads.Learnt,
-) (pat-prec-at t) pat-prec.Post
+pat-prec-returns-2 : (t : ℕ) → pat-prec-lts.Need-returns-2 (pat-prec-told t) (pat-prec-at t) pat-prec.Post
 unfolding root.body pat.patScope plan choose chosen
 pat-prec-returns-2 t c =
-    let falls = c .before .before .before .before .before .before .before .before .before .before .before .before .before .before .before .before .before .before .before .pre .0 in
     let pre0 = c .before .before .before .before .before .before .before .before .before .before .before .before .before .before .before .before .before .before .before .pre .1 in
     let peek = rw (c .before .before .before .before .before .before .before .before .before .before .k .given .1) at (c .before .before .before .before .before .before .before .before .before .before .before .before .peek .ensures) in
     let name-star = c .before .before .before .before .before .before .before .before .name-star .ensures in
@@ -5623,34 +2410,12 @@ pat-prec-returns-2 t c =
     let con = c .before .before .before .before .con .ensures in
     by-steps pre0 (λ b. s-rule (s-look peek (s-true _ _ (test-true name-star if1) (s-by _ con s-end))))
 
-pat-prec-peek-n-requires : (t : ℕ) → pat-prec-lts.Need-peek-n-requires (
-  peek-reads.Asked,
-  peek-reads.Learnt,
-  atom-below t,
-  atom.Post,
-  name-star-reads.Asked,
-  name-star-reads.Learnt,
-  con-below t,
-  con.Post,
-  peek-n-reads.Asked,
-  peek-n-reads.Learnt,
-) (pat-prec-at t) pat-prec.Post
+pat-prec-peek-n-requires : (t : ℕ) → pat-prec-lts.Need-peek-n-requires (pat-prec-told t) (pat-prec-at t) pat-prec.Post
 pat-prec-peek-n-requires t c κs =
     let pre0 = c .before .before .before .before .before .before .before .before .before .before .before .before .before .pre .1 in
     pre0 .reads
 
-pat-prec-enum-known-k1 : (t : ℕ) → pat-prec-lts.Need-enum-known-k1 (
-  peek-reads.Asked,
-  peek-reads.Learnt,
-  atom-below t,
-  atom.Post,
-  name-star-reads.Asked,
-  name-star-reads.Learnt,
-  con-below t,
-  con.Post,
-  peek-n-reads.Asked,
-  peek-n-reads.Learnt,
-) (pat-prec-at t) pat-prec.Post
+pat-prec-enum-known-k1 : (t : ℕ) → pat-prec-lts.Need-enum-known-k1 (pat-prec-told t) (pat-prec-at t) pat-prec.Post
 pat-prec-enum-known-k1 t c =
     let falls = c .before .before .before .before .before .before .before .before .before .before .before .before .before .before .before .pre .0 in
     let pre0 = c .before .before .before .before .before .before .before .before .before .before .before .before .before .before .before .pre .1 in
@@ -5658,18 +2423,7 @@ pat-prec-enum-known-k1 t c =
     let if2 = c .before .before .if2 .taken in
     search needs
 
-pat-prec-enum-told-2 : (t : ℕ) → pat-prec-lts.Need-enum-told-2 (
-  peek-reads.Asked,
-  peek-reads.Learnt,
-  atom-below t,
-  atom.Post,
-  name-star-reads.Asked,
-  name-star-reads.Learnt,
-  con-below t,
-  con.Post,
-  peek-n-reads.Asked,
-  peek-n-reads.Learnt,
-) (pat-prec-at t) pat-prec.Post
+pat-prec-enum-told-2 : (t : ℕ) → pat-prec-lts.Need-enum-told-2 (pat-prec-told t) (pat-prec-at t) pat-prec.Post
 pat-prec-enum-told-2 t c =
     let falls = c .before .before .before .before .before .before .before .before .before .before .before .before .before .before .before .pre .0 in
     let pre0 = c .before .before .before .before .before .before .before .before .before .before .before .before .before .before .before .pre .1 in
@@ -5677,18 +2431,7 @@ pat-prec-enum-told-2 t c =
     let if2 = c .before .before .if2 .taken in
     search needs
 
-pat-prec-atom-requires-2 : (t : ℕ) → pat-prec-lts.Need-atom-requires-2 (
-  peek-reads.Asked,
-  peek-reads.Learnt,
-  atom-below t,
-  atom.Post,
-  name-star-reads.Asked,
-  name-star-reads.Learnt,
-  con-below t,
-  con.Post,
-  peek-n-reads.Asked,
-  peek-n-reads.Learnt,
-) (pat-prec-at t) pat-prec.Post
+pat-prec-atom-requires-2 : (t : ℕ) → pat-prec-lts.Need-atom-requires-2 (pat-prec-told t) (pat-prec-at t) pat-prec.Post
 pat-prec-atom-requires-2 t c κs =
     let falls = c .before .before .before .before .before .before .before .before .before .before .before .before .before .before .before .before .before .before .pre .0 in
     let pre0 = c .before .before .before .before .before .before .before .before .before .before .before .before .before .before .before .before .before .before .pre .1 in
@@ -5696,51 +2439,17 @@ pat-prec-atom-requires-2 t c κs =
     let if2 = c .before .before .before .before .before .if2 .taken in
     (omega arith, (pre0, small-len pre0))
 
-pat-prec-same-length-5 : (t : ℕ) → pat-prec-lts.Need-same-length-5 (
-  peek-reads.Asked,
-  peek-reads.Learnt,
-  atom-below t,
-  atom.Post,
-  name-star-reads.Asked,
-  name-star-reads.Learnt,
-  con-below t,
-  con.Post,
-  peek-n-reads.Asked,
-  peek-n-reads.Learnt,
-) (pat-prec-at t) pat-prec.Post
+pat-prec-same-length-5 : (t : ℕ) → pat-prec-lts.Need-same-length-5 (pat-prec-told t) (pat-prec-at t) pat-prec.Post
 pat-prec-same-length-5 t c =
     c .before .before .before .before .atom2 .kept .1 .1 .1 .1 .0
 
-pat-prec-same-length-6 : (t : ℕ) → pat-prec-lts.Need-same-length-6 (
-  peek-reads.Asked,
-  peek-reads.Learnt,
-  atom-below t,
-  atom.Post,
-  name-star-reads.Asked,
-  name-star-reads.Learnt,
-  con-below t,
-  con.Post,
-  peek-n-reads.Asked,
-  peek-n-reads.Learnt,
-) (pat-prec-at t) pat-prec.Post
+pat-prec-same-length-6 : (t : ℕ) → pat-prec-lts.Need-same-length-6 (pat-prec-told t) (pat-prec-at t) pat-prec.Post
 pat-prec-same-length-6 t c =
     c .before .before .before .before .atom2 .kept .1 .1 .1 .1 .1 .0
 
-pat-prec-returns-3 : (t : ℕ) → pat-prec-lts.Need-returns-3 (
-  peek-reads.Asked,
-  peek-reads.Learnt,
-  atom-below t,
-  atom.Post,
-  name-star-reads.Asked,
-  name-star-reads.Learnt,
-  con-below t,
-  con.Post,
-  peek-n-reads.Asked,
-  peek-n-reads.Learnt,
-) (pat-prec-at t) pat-prec.Post
+pat-prec-returns-3 : (t : ℕ) → pat-prec-lts.Need-returns-3 (pat-prec-told t) (pat-prec-at t) pat-prec.Post
 unfolding root.body pat.patScope plan choose chosen
 pat-prec-returns-3 t c =
-    let falls = c .before .before .before .before .before .before .before .before .before .before .before .before .before .before .before .before .before .before .before .before .before .before .before .pre .0 in
     let pre0 = c .before .before .before .before .before .before .before .before .before .before .before .before .before .before .before .before .before .before .before .before .before .before .before .pre .1 in
     let peek = rw (c .before .before .before .before .before .before .before .before .before .before .before .before .before .before .k .given .1) at (c .before .before .before .before .before .before .before .before .before .before .before .before .before .before .before .before .peek .ensures) in
     let name-star = c .before .before .before .before .before .before .before .before .before .before .before .before .name-star .ensures in
@@ -5750,33 +2459,11 @@ pat-prec-returns-3 t c =
     let atom2 = c .before .before .before .before .atom2 .ensures in
     by-steps pre0 (λ b. s-rule (s-look peek (s-false _ _ (test-false name-star if1) (s-true _ _ (kind-is if2) (s-look peek-n (s-by _ atom2 s-end))))))
 
-pat-prec-name-star-requires-2 : (t : ℕ) → pat-prec-lts.Need-name-star-requires-2 (
-  peek-reads.Asked,
-  peek-reads.Learnt,
-  atom-below t,
-  atom.Post,
-  name-star-reads.Asked,
-  name-star-reads.Learnt,
-  con-below t,
-  con.Post,
-  peek-n-reads.Asked,
-  peek-n-reads.Learnt,
-) (pat-prec-at t) pat-prec.Post
+pat-prec-name-star-requires-2 : (t : ℕ) → pat-prec-lts.Need-name-star-requires-2 (pat-prec-told t) (pat-prec-at t) pat-prec.Post
 pat-prec-name-star-requires-2 t c κs =
     tt
 
-pat-prec-con-requires-2 : (t : ℕ) → pat-prec-lts.Need-con-requires-2 (
-  peek-reads.Asked,
-  peek-reads.Learnt,
-  atom-below t,
-  atom.Post,
-  name-star-reads.Asked,
-  name-star-reads.Learnt,
-  con-below t,
-  con.Post,
-  peek-n-reads.Asked,
-  peek-n-reads.Learnt,
-) (pat-prec-at t) pat-prec.Post
+pat-prec-con-requires-2 : (t : ℕ) → pat-prec-lts.Need-con-requires-2 (pat-prec-told t) (pat-prec-at t) pat-prec.Post
 pat-prec-con-requires-2 t c κs =
     let falls = c .before .before .before .before .before .before .before .before .before .before .before .before .before .before .before .before .before .before .before .before .before .pre .0 in
     let pre0 = c .before .before .before .before .before .before .before .before .before .before .before .before .before .before .before .before .before .before .before .before .before .pre .1 in
@@ -5785,51 +2472,17 @@ pat-prec-con-requires-2 t c κs =
     let if3 = c .before .before .if3 .taken in
     (omega arith, (pre0, small-len pre0))
 
-pat-prec-same-length-7 : (t : ℕ) → pat-prec-lts.Need-same-length-7 (
-  peek-reads.Asked,
-  peek-reads.Learnt,
-  atom-below t,
-  atom.Post,
-  name-star-reads.Asked,
-  name-star-reads.Learnt,
-  con-below t,
-  con.Post,
-  peek-n-reads.Asked,
-  peek-n-reads.Learnt,
-) (pat-prec-at t) pat-prec.Post
+pat-prec-same-length-7 : (t : ℕ) → pat-prec-lts.Need-same-length-7 (pat-prec-told t) (pat-prec-at t) pat-prec.Post
 pat-prec-same-length-7 t c =
     c .before .before .before .before .con2 .kept .1 .1 .1 .1 .0
 
-pat-prec-same-length-8 : (t : ℕ) → pat-prec-lts.Need-same-length-8 (
-  peek-reads.Asked,
-  peek-reads.Learnt,
-  atom-below t,
-  atom.Post,
-  name-star-reads.Asked,
-  name-star-reads.Learnt,
-  con-below t,
-  con.Post,
-  peek-n-reads.Asked,
-  peek-n-reads.Learnt,
-) (pat-prec-at t) pat-prec.Post
+pat-prec-same-length-8 : (t : ℕ) → pat-prec-lts.Need-same-length-8 (pat-prec-told t) (pat-prec-at t) pat-prec.Post
 pat-prec-same-length-8 t c =
     c .before .before .before .before .con2 .kept .1 .1 .1 .1 .1 .0
 
-pat-prec-returns-4 : (t : ℕ) → pat-prec-lts.Need-returns-4 (
-  peek-reads.Asked,
-  peek-reads.Learnt,
-  atom-below t,
-  atom.Post,
-  name-star-reads.Asked,
-  name-star-reads.Learnt,
-  con-below t,
-  con.Post,
-  peek-n-reads.Asked,
-  peek-n-reads.Learnt,
-) (pat-prec-at t) pat-prec.Post
+pat-prec-returns-4 : (t : ℕ) → pat-prec-lts.Need-returns-4 (pat-prec-told t) (pat-prec-at t) pat-prec.Post
 unfolding root.body pat.patScope plan choose chosen
 pat-prec-returns-4 t c =
-    let falls = c .before .before .before .before .before .before .before .before .before .before .before .before .before .before .before .before .before .before .before .before .before .before .before .before .before .before .pre .0 in
     let pre0 = c .before .before .before .before .before .before .before .before .before .before .before .before .before .before .before .before .before .before .before .before .before .before .before .before .before .before .pre .1 in
     let peek = rw (c .before .before .before .before .before .before .before .before .before .before .before .before .before .before .before .before .before .k .given .1) at (c .before .before .before .before .before .before .before .before .before .before .before .before .before .before .before .before .before .before .before .peek .ensures) in
     let name-star = c .before .before .before .before .before .before .before .before .before .before .before .before .before .before .before .name-star .ensures in
@@ -5841,18 +2494,7 @@ pat-prec-returns-4 t c =
     let con2 = c .before .before .before .before .con2 .ensures in
     by-steps pre0 (λ b. s-rule (s-look peek (s-false _ _ (test-false name-star if1) (s-true _ _ (kind-is if2) (s-look peek-n (s-true _ _ (test-true name-star2 if3) (s-by _ con2 s-end)))))))
 
-pat-prec-atom-requires-3 : (t : ℕ) → pat-prec-lts.Need-atom-requires-3 (
-  peek-reads.Asked,
-  peek-reads.Learnt,
-  atom-below t,
-  atom.Post,
-  name-star-reads.Asked,
-  name-star-reads.Learnt,
-  con-below t,
-  con.Post,
-  peek-n-reads.Asked,
-  peek-n-reads.Learnt,
-) (pat-prec-at t) pat-prec.Post
+pat-prec-atom-requires-3 : (t : ℕ) → pat-prec-lts.Need-atom-requires-3 (pat-prec-told t) (pat-prec-at t) pat-prec.Post
 pat-prec-atom-requires-3 t c κs =
     let falls = c .before .before .before .before .before .before .before .before .before .before .before .before .before .before .before .before .before .before .before .before .before .pre .0 in
     let pre0 = c .before .before .before .before .before .before .before .before .before .before .before .before .before .before .before .before .before .before .before .before .before .pre .1 in
@@ -5861,51 +2503,17 @@ pat-prec-atom-requires-3 t c κs =
     let if3 = c .before .before .if3 .left in
     (omega arith, (pre0, small-len pre0))
 
-pat-prec-same-length-9 : (t : ℕ) → pat-prec-lts.Need-same-length-9 (
-  peek-reads.Asked,
-  peek-reads.Learnt,
-  atom-below t,
-  atom.Post,
-  name-star-reads.Asked,
-  name-star-reads.Learnt,
-  con-below t,
-  con.Post,
-  peek-n-reads.Asked,
-  peek-n-reads.Learnt,
-) (pat-prec-at t) pat-prec.Post
+pat-prec-same-length-9 : (t : ℕ) → pat-prec-lts.Need-same-length-9 (pat-prec-told t) (pat-prec-at t) pat-prec.Post
 pat-prec-same-length-9 t c =
     c .before .before .before .before .atom3 .kept .1 .1 .1 .1 .0
 
-pat-prec-same-length-10 : (t : ℕ) → pat-prec-lts.Need-same-length-10 (
-  peek-reads.Asked,
-  peek-reads.Learnt,
-  atom-below t,
-  atom.Post,
-  name-star-reads.Asked,
-  name-star-reads.Learnt,
-  con-below t,
-  con.Post,
-  peek-n-reads.Asked,
-  peek-n-reads.Learnt,
-) (pat-prec-at t) pat-prec.Post
+pat-prec-same-length-10 : (t : ℕ) → pat-prec-lts.Need-same-length-10 (pat-prec-told t) (pat-prec-at t) pat-prec.Post
 pat-prec-same-length-10 t c =
     c .before .before .before .before .atom3 .kept .1 .1 .1 .1 .1 .0
 
-pat-prec-returns-5 : (t : ℕ) → pat-prec-lts.Need-returns-5 (
-  peek-reads.Asked,
-  peek-reads.Learnt,
-  atom-below t,
-  atom.Post,
-  name-star-reads.Asked,
-  name-star-reads.Learnt,
-  con-below t,
-  con.Post,
-  peek-n-reads.Asked,
-  peek-n-reads.Learnt,
-) (pat-prec-at t) pat-prec.Post
+pat-prec-returns-5 : (t : ℕ) → pat-prec-lts.Need-returns-5 (pat-prec-told t) (pat-prec-at t) pat-prec.Post
 unfolding root.body pat.patScope plan choose chosen
 pat-prec-returns-5 t c =
-    let falls = c .before .before .before .before .before .before .before .before .before .before .before .before .before .before .before .before .before .before .before .before .before .before .before .before .before .before .pre .0 in
     let pre0 = c .before .before .before .before .before .before .before .before .before .before .before .before .before .before .before .before .before .before .before .before .before .before .before .before .before .before .pre .1 in
     let peek = rw (c .before .before .before .before .before .before .before .before .before .before .before .before .before .before .before .before .before .k .given .1) at (c .before .before .before .before .before .before .before .before .before .before .before .before .before .before .before .before .before .before .before .peek .ensures) in
     let name-star = c .before .before .before .before .before .before .before .before .before .before .before .before .before .before .before .name-star .ensures in
@@ -5917,18 +2525,7 @@ pat-prec-returns-5 t c =
     let atom3 = c .before .before .before .before .atom3 .ensures in
     by-steps pre0 (λ b. s-rule (s-look peek (s-false _ _ (test-false name-star if1) (s-true _ _ (kind-is if2) (s-look peek-n (s-false _ _ (test-false name-star2 if3) (s-by _ atom3 s-end)))))))
 
-pat-prec-atom-requires-4 : (t : ℕ) → pat-prec-lts.Need-atom-requires-4 (
-  peek-reads.Asked,
-  peek-reads.Learnt,
-  atom-below t,
-  atom.Post,
-  name-star-reads.Asked,
-  name-star-reads.Learnt,
-  con-below t,
-  con.Post,
-  peek-n-reads.Asked,
-  peek-n-reads.Learnt,
-) (pat-prec-at t) pat-prec.Post
+pat-prec-atom-requires-4 : (t : ℕ) → pat-prec-lts.Need-atom-requires-4 (pat-prec-told t) (pat-prec-at t) pat-prec.Post
 pat-prec-atom-requires-4 t c κs =
     let falls = c .before .before .before .before .before .before .before .before .before .before .before .before .before .before .before .pre .0 in
     let pre0 = c .before .before .before .before .before .before .before .before .before .before .before .before .before .before .before .pre .1 in
@@ -5936,51 +2533,17 @@ pat-prec-atom-requires-4 t c κs =
     let if2 = c .before .before .if2 .left in
     (omega arith, (pre0, small-len pre0))
 
-pat-prec-same-length-11 : (t : ℕ) → pat-prec-lts.Need-same-length-11 (
-  peek-reads.Asked,
-  peek-reads.Learnt,
-  atom-below t,
-  atom.Post,
-  name-star-reads.Asked,
-  name-star-reads.Learnt,
-  con-below t,
-  con.Post,
-  peek-n-reads.Asked,
-  peek-n-reads.Learnt,
-) (pat-prec-at t) pat-prec.Post
+pat-prec-same-length-11 : (t : ℕ) → pat-prec-lts.Need-same-length-11 (pat-prec-told t) (pat-prec-at t) pat-prec.Post
 pat-prec-same-length-11 t c =
     c .before .before .before .before .atom4 .kept .1 .1 .1 .1 .0
 
-pat-prec-same-length-12 : (t : ℕ) → pat-prec-lts.Need-same-length-12 (
-  peek-reads.Asked,
-  peek-reads.Learnt,
-  atom-below t,
-  atom.Post,
-  name-star-reads.Asked,
-  name-star-reads.Learnt,
-  con-below t,
-  con.Post,
-  peek-n-reads.Asked,
-  peek-n-reads.Learnt,
-) (pat-prec-at t) pat-prec.Post
+pat-prec-same-length-12 : (t : ℕ) → pat-prec-lts.Need-same-length-12 (pat-prec-told t) (pat-prec-at t) pat-prec.Post
 pat-prec-same-length-12 t c =
     c .before .before .before .before .atom4 .kept .1 .1 .1 .1 .1 .0
 
-pat-prec-returns-6 : (t : ℕ) → pat-prec-lts.Need-returns-6 (
-  peek-reads.Asked,
-  peek-reads.Learnt,
-  atom-below t,
-  atom.Post,
-  name-star-reads.Asked,
-  name-star-reads.Learnt,
-  con-below t,
-  con.Post,
-  peek-n-reads.Asked,
-  peek-n-reads.Learnt,
-) (pat-prec-at t) pat-prec.Post
+pat-prec-returns-6 : (t : ℕ) → pat-prec-lts.Need-returns-6 (pat-prec-told t) (pat-prec-at t) pat-prec.Post
 unfolding root.body pat.patScope plan choose chosen
 pat-prec-returns-6 t c =
-    let falls = c .before .before .before .before .before .before .before .before .before .before .before .before .before .before .before .before .before .before .before .before .pre .0 in
     let pre0 = c .before .before .before .before .before .before .before .before .before .before .before .before .before .before .before .before .before .before .before .before .pre .1 in
     let peek = rw (c .before .before .before .before .before .before .before .before .before .before .before .k .given .1) at (c .before .before .before .before .before .before .before .before .before .before .before .before .before .peek .ensures) in
     let name-star = c .before .before .before .before .before .before .before .before .before .name-star .ensures in
@@ -5989,38 +2552,12 @@ pat-prec-returns-6 t c =
     let atom4 = c .before .before .before .before .atom4 .ensures in
     by-steps pre0 (λ b. s-rule (s-look peek (s-false _ _ (test-false name-star if1) (s-false _ _ (kind-not if2) (s-by _ atom4 s-end)))))
 
-rest-bump-requires : (t : ℕ) → rest-lts.Need-bump-requires (
-  bump-reads.Asked,
-  bump-reads.Learnt,
-  rows-below t,
-  rows.Post,
-  close-reads.Asked,
-  close-reads.Learnt,
-  at-round-below t,
-  at-round.Post,
-  args-below t,
-  args.Post,
-  vector-below t,
-  vector.Post,
-) (rest-at t) rest.Post
+rest-bump-requires : (t : ℕ) → rest-lts.Need-bump-requires (rest-told t) (rest-at t) rest.Post
 rest-bump-requires t c κs =
     let pre0 = c .before .before .before .before .before .before .before .before .pre .1 .0 in
     (pre0 .reads, pre0 .logs)
 
-rest-rows-requires : (t : ℕ) → rest-lts.Need-rows-requires (
-  bump-reads.Asked,
-  bump-reads.Learnt,
-  rows-below t,
-  rows.Post,
-  close-reads.Asked,
-  close-reads.Learnt,
-  at-round-below t,
-  at-round.Post,
-  args-below t,
-  args.Post,
-  vector-below t,
-  vector.Post,
-) (rest-at t) rest.Post
+rest-rows-requires : (t : ℕ) → rest-lts.Need-rows-requires (rest-told t) (rest-at t) rest.Post
 rest-rows-requires t c κs =
     let falls = c .before .before .before .before .before .before .before .before .before .before .before .before .before .pre .0 in
     let pre0 = c .before .before .before .before .before .before .before .before .before .before .before .before .before .pre .1 .0 in
@@ -6030,117 +2567,37 @@ rest-rows-requires t c κs =
     let bump-ok = ok-bumps bump pre0 in
     (omega arith, bump-ok)
 
-rest-close-requires : (t : ℕ) → rest-lts.Need-close-requires (
-  bump-reads.Asked,
-  bump-reads.Learnt,
-  rows-below t,
-  rows.Post,
-  close-reads.Asked,
-  close-reads.Learnt,
-  at-round-below t,
-  at-round.Post,
-  args-below t,
-  args.Post,
-  vector-below t,
-  vector.Post,
-) (rest-at t) rest.Post
+rest-close-requires : (t : ℕ) → rest-lts.Need-close-requires (rest-told t) (rest-at t) rest.Post
 rest-close-requires t c κs =
     let pre1 = c .before .before .before .before .before .before .before .before .before .before .before .before .before .before .before .before .before .before .before .pre .1 .1 in
     let rows = c .before .before .before .before .before .rows .ensures in
     let rows-ok = rows .ok in
     (rows-ok .logs, pre1)
 
-rest-same-length : (t : ℕ) → rest-lts.Need-same-length (
-  bump-reads.Asked,
-  bump-reads.Learnt,
-  rows-below t,
-  rows.Post,
-  close-reads.Asked,
-  close-reads.Learnt,
-  at-round-below t,
-  at-round.Post,
-  args-below t,
-  args.Post,
-  vector-below t,
-  vector.Post,
-) (rest-at t) rest.Post
+rest-same-length : (t : ℕ) → rest-lts.Need-same-length (rest-told t) (rest-at t) rest.Post
 rest-same-length t c =
     c .before .before .close .kept .0 ∙ c .before .before .before .before .before .before .before .before .rows .kept .1 .1 .1 .1 .0 ∙ c .before .before .before .before .before .before .before .before .before .before .before .before .before .bump .kept .1 .0
 
-rest-same-length-2 : (t : ℕ) → rest-lts.Need-same-length-2 (
-  bump-reads.Asked,
-  bump-reads.Learnt,
-  rows-below t,
-  rows.Post,
-  close-reads.Asked,
-  close-reads.Learnt,
-  at-round-below t,
-  at-round.Post,
-  args-below t,
-  args.Post,
-  vector-below t,
-  vector.Post,
-) (rest-at t) rest.Post
+rest-same-length-2 : (t : ℕ) → rest-lts.Need-same-length-2 (rest-told t) (rest-at t) rest.Post
 rest-same-length-2 t c =
     c .before .before .before .before .before .before .before .before .rows .kept .1 .1 .1 .1 .1 .0
 
-rest-returns : (t : ℕ) → rest-lts.Need-returns (
-  bump-reads.Asked,
-  bump-reads.Learnt,
-  rows-below t,
-  rows.Post,
-  close-reads.Asked,
-  close-reads.Learnt,
-  at-round-below t,
-  at-round.Post,
-  args-below t,
-  args.Post,
-  vector-below t,
-  vector.Post,
-) (rest-at t) rest.Post
+rest-returns : (t : ℕ) → rest-lts.Need-returns (rest-told t) (rest-at t) rest.Post
 unfolding pat.atPatRest util.endSep plan choose chosen
 rest-returns t c =
-    let falls = c .before .before .before .before .before .before .before .before .before .before .before .before .before .before .before .before .before .before .before .before .before .before .pre .0 in
     let pre0 = c .before .before .before .before .before .before .before .before .before .before .before .before .before .before .before .before .before .before .before .before .before .before .pre .1 .0 in
-    let pre1 = c .before .before .before .before .before .before .before .before .before .before .before .before .before .before .before .before .before .before .before .before .before .before .pre .1 .1 in
     let if1 = c .before .before .before .before .before .before .before .before .before .before .before .before .before .before .before .if1 .taken in
     let bump = c .before .before .before .before .before .before .before .before .before .before .before .before .before .bump .ensures in
     let rows = c .before .before .before .before .before .before .before .before .rows .ensures in
     let close = c .before .before .close .ensures in
     in-steps pre0 (s-true _ _ (kind-is if1) (s-bump bump (s-run rows (s-close close s-end))))
 
-rest-bump-requires-2 : (t : ℕ) → rest-lts.Need-bump-requires-2 (
-  bump-reads.Asked,
-  bump-reads.Learnt,
-  rows-below t,
-  rows.Post,
-  close-reads.Asked,
-  close-reads.Learnt,
-  at-round-below t,
-  at-round.Post,
-  args-below t,
-  args.Post,
-  vector-below t,
-  vector.Post,
-) (rest-at t) rest.Post
+rest-bump-requires-2 : (t : ℕ) → rest-lts.Need-bump-requires-2 (rest-told t) (rest-at t) rest.Post
 rest-bump-requires-2 t c κs =
     let pre0 = c .before .before .before .before .before .before .before .before .before .pre .1 .0 in
     (pre0 .reads, pre0 .logs)
 
-rest-at-round-requires : (t : ℕ) → rest-lts.Need-at-round-requires (
-  bump-reads.Asked,
-  bump-reads.Learnt,
-  rows-below t,
-  rows.Post,
-  close-reads.Asked,
-  close-reads.Learnt,
-  at-round-below t,
-  at-round.Post,
-  args-below t,
-  args.Post,
-  vector-below t,
-  vector.Post,
-) (rest-at t) rest.Post
+rest-at-round-requires : (t : ℕ) → rest-lts.Need-at-round-requires (rest-told t) (rest-at t) rest.Post
 rest-at-round-requires t c κs =
     let falls = c .before .before .before .before .before .before .before .before .before .before .before .before .before .before .pre .0 in
     let pre0 = c .before .before .before .before .before .before .before .before .before .before .before .before .before .before .pre .1 .0 in
@@ -6151,97 +2608,30 @@ rest-at-round-requires t c κs =
     let bump2-ok = ok-bumps bump2 pre0 in
     (omega arith, (bump2-ok, pre1))
 
-rest-same-length-3 : (t : ℕ) → rest-lts.Need-same-length-3 (
-  bump-reads.Asked,
-  bump-reads.Learnt,
-  rows-below t,
-  rows.Post,
-  close-reads.Asked,
-  close-reads.Learnt,
-  at-round-below t,
-  at-round.Post,
-  args-below t,
-  args.Post,
-  vector-below t,
-  vector.Post,
-) (rest-at t) rest.Post
+rest-same-length-3 : (t : ℕ) → rest-lts.Need-same-length-3 (rest-told t) (rest-at t) rest.Post
 rest-same-length-3 t c =
     c .before .before .before .before .at-round .kept .1 .1 .1 .1 .0 ∙ c .before .before .before .before .before .before .before .before .before .bump2 .kept .1 .0
 
-rest-same-length-4 : (t : ℕ) → rest-lts.Need-same-length-4 (
-  bump-reads.Asked,
-  bump-reads.Learnt,
-  rows-below t,
-  rows.Post,
-  close-reads.Asked,
-  close-reads.Learnt,
-  at-round-below t,
-  at-round.Post,
-  args-below t,
-  args.Post,
-  vector-below t,
-  vector.Post,
-) (rest-at t) rest.Post
+rest-same-length-4 : (t : ℕ) → rest-lts.Need-same-length-4 (rest-told t) (rest-at t) rest.Post
 rest-same-length-4 t c =
     c .before .before .before .before .at-round .kept .1 .1 .1 .1 .1 .0
 
-rest-returns-2 : (t : ℕ) → rest-lts.Need-returns-2 (
-  bump-reads.Asked,
-  bump-reads.Learnt,
-  rows-below t,
-  rows.Post,
-  close-reads.Asked,
-  close-reads.Learnt,
-  at-round-below t,
-  at-round.Post,
-  args-below t,
-  args.Post,
-  vector-below t,
-  vector.Post,
-) (rest-at t) rest.Post
+rest-returns-2 : (t : ℕ) → rest-lts.Need-returns-2 (rest-told t) (rest-at t) rest.Post
 unfolding pat.atPatRest util.endSep plan choose chosen
 rest-returns-2 t c =
-    let falls = c .before .before .before .before .before .before .before .before .before .before .before .before .before .before .before .before .before .before .before .pre .0 in
     let pre0 = c .before .before .before .before .before .before .before .before .before .before .before .before .before .before .before .before .before .before .before .pre .1 .0 in
-    let pre1 = c .before .before .before .before .before .before .before .before .before .before .before .before .before .before .before .before .before .before .before .pre .1 .1 in
     let if1 = c .before .before .before .before .before .before .before .before .before .before .before .before .if1 .left in
     let if2 = c .before .before .before .before .before .before .before .before .before .before .before .if2 .taken in
     let bump2 = c .before .before .before .before .before .before .before .before .before .bump2 .ensures in
     let at-round = c .before .before .before .before .at-round .ensures in
     in-steps pre0 (s-false _ _ (kind-not if1) (s-true _ _ (kind-is if2) (s-bump bump2 (s-by _ at-round s-end))))
 
-rest-bump-requires-3 : (t : ℕ) → rest-lts.Need-bump-requires-3 (
-  bump-reads.Asked,
-  bump-reads.Learnt,
-  rows-below t,
-  rows.Post,
-  close-reads.Asked,
-  close-reads.Learnt,
-  at-round-below t,
-  at-round.Post,
-  args-below t,
-  args.Post,
-  vector-below t,
-  vector.Post,
-) (rest-at t) rest.Post
+rest-bump-requires-3 : (t : ℕ) → rest-lts.Need-bump-requires-3 (rest-told t) (rest-at t) rest.Post
 rest-bump-requires-3 t c κs =
     let pre0 = c .before .before .before .before .before .before .before .before .before .before .pre .1 .0 in
     (pre0 .reads, pre0 .logs)
 
-rest-args-requires : (t : ℕ) → rest-lts.Need-args-requires (
-  bump-reads.Asked,
-  bump-reads.Learnt,
-  rows-below t,
-  rows.Post,
-  close-reads.Asked,
-  close-reads.Learnt,
-  at-round-below t,
-  at-round.Post,
-  args-below t,
-  args.Post,
-  vector-below t,
-  vector.Post,
-) (rest-at t) rest.Post
+rest-args-requires : (t : ℕ) → rest-lts.Need-args-requires (rest-told t) (rest-at t) rest.Post
 rest-args-requires t c κs =
     let falls = c .before .before .before .before .before .before .before .before .before .before .before .before .before .before .before .pre .0 in
     let pre0 = c .before .before .before .before .before .before .before .before .before .before .before .before .before .before .before .pre .1 .0 in
@@ -6253,79 +2643,25 @@ rest-args-requires t c κs =
     let bump3-ok = ok-bumps bump3 pre0 in
     (omega arith, (bump3-ok, omega arith))
 
-rest-close-requires-2 : (t : ℕ) → rest-lts.Need-close-requires-2 (
-  bump-reads.Asked,
-  bump-reads.Learnt,
-  rows-below t,
-  rows.Post,
-  close-reads.Asked,
-  close-reads.Learnt,
-  at-round-below t,
-  at-round.Post,
-  args-below t,
-  args.Post,
-  vector-below t,
-  vector.Post,
-) (rest-at t) rest.Post
+rest-close-requires-2 : (t : ℕ) → rest-lts.Need-close-requires-2 (rest-told t) (rest-at t) rest.Post
 rest-close-requires-2 t c κs =
     let pre1 = c .before .before .before .before .before .before .before .before .before .before .before .before .before .before .before .before .before .before .before .before .before .pre .1 .1 in
     let args2 = c .before .before .before .before .before .args2 .ensures in
     let args2-ok = args2 .ok in
     (args2-ok .logs, pre1)
 
-rest-same-length-5 : (t : ℕ) → rest-lts.Need-same-length-5 (
-  bump-reads.Asked,
-  bump-reads.Learnt,
-  rows-below t,
-  rows.Post,
-  close-reads.Asked,
-  close-reads.Learnt,
-  at-round-below t,
-  at-round.Post,
-  args-below t,
-  args.Post,
-  vector-below t,
-  vector.Post,
-) (rest-at t) rest.Post
+rest-same-length-5 : (t : ℕ) → rest-lts.Need-same-length-5 (rest-told t) (rest-at t) rest.Post
 rest-same-length-5 t c =
     c .before .before .close2 .kept .0 ∙ c .before .before .before .before .before .before .before .before .args2 .kept .1 .1 .1 .1 .0 ∙ c .before .before .before .before .before .before .before .before .before .before .before .before .before .bump3 .kept .1 .0
 
-rest-same-length-6 : (t : ℕ) → rest-lts.Need-same-length-6 (
-  bump-reads.Asked,
-  bump-reads.Learnt,
-  rows-below t,
-  rows.Post,
-  close-reads.Asked,
-  close-reads.Learnt,
-  at-round-below t,
-  at-round.Post,
-  args-below t,
-  args.Post,
-  vector-below t,
-  vector.Post,
-) (rest-at t) rest.Post
+rest-same-length-6 : (t : ℕ) → rest-lts.Need-same-length-6 (rest-told t) (rest-at t) rest.Post
 rest-same-length-6 t c =
     c .before .before .before .before .before .before .before .before .args2 .kept .1 .1 .1 .1 .1 .0
 
-rest-returns-3 : (t : ℕ) → rest-lts.Need-returns-3 (
-  bump-reads.Asked,
-  bump-reads.Learnt,
-  rows-below t,
-  rows.Post,
-  close-reads.Asked,
-  close-reads.Learnt,
-  at-round-below t,
-  at-round.Post,
-  args-below t,
-  args.Post,
-  vector-below t,
-  vector.Post,
-) (rest-at t) rest.Post
+rest-returns-3 : (t : ℕ) → rest-lts.Need-returns-3 (rest-told t) (rest-at t) rest.Post
 unfolding pat.atPatRest util.endSep plan choose chosen
 rest-returns-3 t c =
-    let falls = c .before .before .before .before .before .before .before .before .before .before .before .before .before .before .before .before .before .before .before .before .before .before .before .before .pre .0 in
     let pre0 = c .before .before .before .before .before .before .before .before .before .before .before .before .before .before .before .before .before .before .before .before .before .before .before .before .pre .1 .0 in
-    let pre1 = c .before .before .before .before .before .before .before .before .before .before .before .before .before .before .before .before .before .before .before .before .before .before .before .before .pre .1 .1 in
     let if1 = c .before .before .before .before .before .before .before .before .before .before .before .before .before .before .before .before .before .if1 .left in
     let if2 = c .before .before .before .before .before .before .before .before .before .before .before .before .before .before .before .before .if2 .left in
     let if3 = c .before .before .before .before .before .before .before .before .before .before .before .before .before .before .before .if3 .taken in
@@ -6334,38 +2670,12 @@ rest-returns-3 t c =
     let close2 = c .before .before .close2 .ensures in
     in-steps pre0 (s-false _ _ (kind-not if1) (s-false _ _ (kind-not if2) (s-true _ _ (kind-is if3) (s-bump bump3 (s-run args2 (s-close close2 s-end))))))
 
-rest-bump-requires-4 : (t : ℕ) → rest-lts.Need-bump-requires-4 (
-  bump-reads.Asked,
-  bump-reads.Learnt,
-  rows-below t,
-  rows.Post,
-  close-reads.Asked,
-  close-reads.Learnt,
-  at-round-below t,
-  at-round.Post,
-  args-below t,
-  args.Post,
-  vector-below t,
-  vector.Post,
-) (rest-at t) rest.Post
+rest-bump-requires-4 : (t : ℕ) → rest-lts.Need-bump-requires-4 (rest-told t) (rest-at t) rest.Post
 rest-bump-requires-4 t c κs =
     let pre0 = c .before .before .before .before .before .before .before .before .before .before .before .pre .1 .0 in
     (pre0 .reads, pre0 .logs)
 
-rest-vector-requires : (t : ℕ) → rest-lts.Need-vector-requires (
-  bump-reads.Asked,
-  bump-reads.Learnt,
-  rows-below t,
-  rows.Post,
-  close-reads.Asked,
-  close-reads.Learnt,
-  at-round-below t,
-  at-round.Post,
-  args-below t,
-  args.Post,
-  vector-below t,
-  vector.Post,
-) (rest-at t) rest.Post
+rest-vector-requires : (t : ℕ) → rest-lts.Need-vector-requires (rest-told t) (rest-at t) rest.Post
 rest-vector-requires t c κs =
     let falls = c .before .before .before .before .before .before .before .before .before .before .before .before .before .before .before .before .pre .0 in
     let pre0 = c .before .before .before .before .before .before .before .before .before .before .before .before .before .before .before .before .pre .1 .0 in
@@ -6378,79 +2688,25 @@ rest-vector-requires t c κs =
     let bump4-ok = ok-bumps bump4 pre0 in
     (omega arith, bump4-ok)
 
-rest-close-requires-3 : (t : ℕ) → rest-lts.Need-close-requires-3 (
-  bump-reads.Asked,
-  bump-reads.Learnt,
-  rows-below t,
-  rows.Post,
-  close-reads.Asked,
-  close-reads.Learnt,
-  at-round-below t,
-  at-round.Post,
-  args-below t,
-  args.Post,
-  vector-below t,
-  vector.Post,
-) (rest-at t) rest.Post
+rest-close-requires-3 : (t : ℕ) → rest-lts.Need-close-requires-3 (rest-told t) (rest-at t) rest.Post
 rest-close-requires-3 t c κs =
     let pre1 = c .before .before .before .before .before .before .before .before .before .before .before .before .before .before .before .before .before .before .before .before .before .before .pre .1 .1 in
     let vector = c .before .before .before .before .before .vector .ensures in
     let vector-ok = vector .ok in
     (vector-ok .logs, pre1)
 
-rest-same-length-7 : (t : ℕ) → rest-lts.Need-same-length-7 (
-  bump-reads.Asked,
-  bump-reads.Learnt,
-  rows-below t,
-  rows.Post,
-  close-reads.Asked,
-  close-reads.Learnt,
-  at-round-below t,
-  at-round.Post,
-  args-below t,
-  args.Post,
-  vector-below t,
-  vector.Post,
-) (rest-at t) rest.Post
+rest-same-length-7 : (t : ℕ) → rest-lts.Need-same-length-7 (rest-told t) (rest-at t) rest.Post
 rest-same-length-7 t c =
     c .before .before .close3 .kept .0 ∙ c .before .before .before .before .before .before .before .before .vector .kept .1 .1 .1 .1 .0 ∙ c .before .before .before .before .before .before .before .before .before .before .before .before .before .bump4 .kept .1 .0
 
-rest-same-length-8 : (t : ℕ) → rest-lts.Need-same-length-8 (
-  bump-reads.Asked,
-  bump-reads.Learnt,
-  rows-below t,
-  rows.Post,
-  close-reads.Asked,
-  close-reads.Learnt,
-  at-round-below t,
-  at-round.Post,
-  args-below t,
-  args.Post,
-  vector-below t,
-  vector.Post,
-) (rest-at t) rest.Post
+rest-same-length-8 : (t : ℕ) → rest-lts.Need-same-length-8 (rest-told t) (rest-at t) rest.Post
 rest-same-length-8 t c =
     c .before .before .before .before .before .before .before .before .vector .kept .1 .1 .1 .1 .1 .0
 
-rest-returns-4 : (t : ℕ) → rest-lts.Need-returns-4 (
-  bump-reads.Asked,
-  bump-reads.Learnt,
-  rows-below t,
-  rows.Post,
-  close-reads.Asked,
-  close-reads.Learnt,
-  at-round-below t,
-  at-round.Post,
-  args-below t,
-  args.Post,
-  vector-below t,
-  vector.Post,
-) (rest-at t) rest.Post
+rest-returns-4 : (t : ℕ) → rest-lts.Need-returns-4 (rest-told t) (rest-at t) rest.Post
 unfolding pat.atPatRest util.endSep plan choose chosen
 rest-returns-4 t c =
-    let falls = c .before .before .before .before .before .before .before .before .before .before .before .before .before .before .before .before .before .before .before .before .before .before .before .before .before .pre .0 in
     let pre0 = c .before .before .before .before .before .before .before .before .before .before .before .before .before .before .before .before .before .before .before .before .before .before .before .before .before .pre .1 .0 in
-    let pre1 = c .before .before .before .before .before .before .before .before .before .before .before .before .before .before .before .before .before .before .before .before .before .before .before .before .before .pre .1 .1 in
     let if1 = c .before .before .before .before .before .before .before .before .before .before .before .before .before .before .before .before .before .before .if1 .left in
     let if2 = c .before .before .before .before .before .before .before .before .before .before .before .before .before .before .before .before .before .if2 .left in
     let if3 = c .before .before .before .before .before .before .before .before .before .before .before .before .before .before .before .before .if3 .left in
@@ -6460,225 +2716,47 @@ rest-returns-4 t c =
     let close3 = c .before .before .close3 .ensures in
     in-steps pre0 (s-false _ _ (kind-not if1) (s-false _ _ (kind-not if2) (s-false _ _ (kind-not if3) (s-true _ _ (kind-is if4) (s-bump bump4 (s-by _ (runs-in vector) (s-close close3 s-end)))))))
 
-rest-returns-5 : (t : ℕ) → rest-lts.Need-returns-5 (
-  bump-reads.Asked,
-  bump-reads.Learnt,
-  rows-below t,
-  rows.Post,
-  close-reads.Asked,
-  close-reads.Learnt,
-  at-round-below t,
-  at-round.Post,
-  args-below t,
-  args.Post,
-  vector-below t,
-  vector.Post,
-) (rest-at t) rest.Post
+rest-returns-5 : (t : ℕ) → rest-lts.Need-returns-5 (rest-told t) (rest-at t) rest.Post
 unfolding pat.atPatRest util.endSep plan choose chosen
 rest-returns-5 t c =
-    let falls = c .before .before .before .before .before .before .before .before .before .before .pre .0 in
     let pre0 = c .before .before .before .before .before .before .before .before .before .before .pre .1 .0 in
-    let pre1 = c .before .before .before .before .before .before .before .before .before .before .pre .1 .1 in
     let if1 = c .before .before .before .if1 .left in
     let if2 = c .before .before .if2 .left in
     let if3 = c .before .if3 .left in
     let if4 = c .if4 .left in
     in-steps pre0 (s-false _ _ (kind-not if1) (s-false _ _ (kind-not if2) (s-false _ _ (kind-not if3) (s-false _ _ (kind-not if4) s-end))))
 
-row-refuse-requires : (t : ℕ) → row-lts.Need-refuse-requires (
-  refuse-reads.Asked,
-  refuse-reads.Learnt,
-  mark-reads.Asked,
-  mark-reads.Learnt,
-  at-reads.Asked,
-  at-reads.Learnt,
-  bump-reads.Asked,
-  bump-reads.Learnt,
-  close-reads.Asked,
-  close-reads.Learnt,
-  at-n-reads.Asked,
-  at-n-reads.Learnt,
-  lab-reads.Asked,
-  lab-reads.Learnt,
-  eat-reads.Asked,
-  eat-reads.Learnt,
-  state-reads.Asked,
-  state-reads.Learnt,
-  pat-must-below t,
-  pat-must.Post,
-  eat-name-star-reads.Asked,
-  eat-name-star-reads.Learnt,
-  ty-annotation-reads.Asked,
-  ty-annotation-reads.Learnt,
-  as-pat-tl-below t,
-  as-pat-tl.Post,
-) (row-at t) row.Post
+row-refuse-requires : (t : ℕ) → row-lts.Need-refuse-requires (row-told t) (row-at t) row.Post
 row-refuse-requires t c κs =
     tt
 
-row-returns : (t : ℕ) → row-lts.Need-returns (
-  refuse-reads.Asked,
-  refuse-reads.Learnt,
-  mark-reads.Asked,
-  mark-reads.Learnt,
-  at-reads.Asked,
-  at-reads.Learnt,
-  bump-reads.Asked,
-  bump-reads.Learnt,
-  close-reads.Asked,
-  close-reads.Learnt,
-  at-n-reads.Asked,
-  at-n-reads.Learnt,
-  lab-reads.Asked,
-  lab-reads.Learnt,
-  eat-reads.Asked,
-  eat-reads.Learnt,
-  state-reads.Asked,
-  state-reads.Learnt,
-  pat-must-below t,
-  pat-must.Post,
-  eat-name-star-reads.Asked,
-  eat-name-star-reads.Learnt,
-  ty-annotation-reads.Asked,
-  ty-annotation-reads.Learnt,
-  as-pat-tl-below t,
-  as-pat-tl.Post,
-) (row-at t) row.Post
+row-returns : (t : ℕ) → row-lts.Need-returns (row-told t) (row-at t) row.Post
 unfolding pat.patRow plan choose chosen
 row-returns t c =
-    let falls = c .before .before .before .before .before .before .before .before .pre .0 in
     let pre0 = c .before .before .before .before .before .before .before .before .pre .1 in
     let if1 = c .before .if1 .taken in
     let refuse = c .refuse .ensures in
     by-steps pre0 (λ b. s-deep if1 refuse s-end)
 
-row-mark-requires : (t : ℕ) → row-lts.Need-mark-requires (
-  refuse-reads.Asked,
-  refuse-reads.Learnt,
-  mark-reads.Asked,
-  mark-reads.Learnt,
-  at-reads.Asked,
-  at-reads.Learnt,
-  bump-reads.Asked,
-  bump-reads.Learnt,
-  close-reads.Asked,
-  close-reads.Learnt,
-  at-n-reads.Asked,
-  at-n-reads.Learnt,
-  lab-reads.Asked,
-  lab-reads.Learnt,
-  eat-reads.Asked,
-  eat-reads.Learnt,
-  state-reads.Asked,
-  state-reads.Learnt,
-  pat-must-below t,
-  pat-must.Post,
-  eat-name-star-reads.Asked,
-  eat-name-star-reads.Learnt,
-  ty-annotation-reads.Asked,
-  ty-annotation-reads.Learnt,
-  as-pat-tl-below t,
-  as-pat-tl.Post,
-) (row-at t) row.Post
+row-mark-requires : (t : ℕ) → row-lts.Need-mark-requires (row-told t) (row-at t) row.Post
 row-mark-requires t c κs =
     tt
 
-row-at-requires : (t : ℕ) → row-lts.Need-at-requires (
-  refuse-reads.Asked,
-  refuse-reads.Learnt,
-  mark-reads.Asked,
-  mark-reads.Learnt,
-  at-reads.Asked,
-  at-reads.Learnt,
-  bump-reads.Asked,
-  bump-reads.Learnt,
-  close-reads.Asked,
-  close-reads.Learnt,
-  at-n-reads.Asked,
-  at-n-reads.Learnt,
-  lab-reads.Asked,
-  lab-reads.Learnt,
-  eat-reads.Asked,
-  eat-reads.Learnt,
-  state-reads.Asked,
-  state-reads.Learnt,
-  pat-must-below t,
-  pat-must.Post,
-  eat-name-star-reads.Asked,
-  eat-name-star-reads.Learnt,
-  ty-annotation-reads.Asked,
-  ty-annotation-reads.Learnt,
-  as-pat-tl-below t,
-  as-pat-tl.Post,
-) (row-at t) row.Post
+row-at-requires : (t : ℕ) → row-lts.Need-at-requires (row-told t) (row-at t) row.Post
 row-at-requires t c κs =
     let pre0 = c .before .before .before .before .before .before .before .before .pre .1 in
     let mark = c .mark .ensures in
     let mark-ok = ok-marks mark pre0 in
     mark-ok .reads
 
-row-bump-requires : (t : ℕ) → row-lts.Need-bump-requires (
-  refuse-reads.Asked,
-  refuse-reads.Learnt,
-  mark-reads.Asked,
-  mark-reads.Learnt,
-  at-reads.Asked,
-  at-reads.Learnt,
-  bump-reads.Asked,
-  bump-reads.Learnt,
-  close-reads.Asked,
-  close-reads.Learnt,
-  at-n-reads.Asked,
-  at-n-reads.Learnt,
-  lab-reads.Asked,
-  lab-reads.Learnt,
-  eat-reads.Asked,
-  eat-reads.Learnt,
-  state-reads.Asked,
-  state-reads.Learnt,
-  pat-must-below t,
-  pat-must.Post,
-  eat-name-star-reads.Asked,
-  eat-name-star-reads.Learnt,
-  ty-annotation-reads.Asked,
-  ty-annotation-reads.Learnt,
-  as-pat-tl-below t,
-  as-pat-tl.Post,
-) (row-at t) row.Post
+row-bump-requires : (t : ℕ) → row-lts.Need-bump-requires (row-told t) (row-at t) row.Post
 row-bump-requires t c κs =
     let pre0 = c .before .before .before .before .before .before .before .before .before .before .before .pre .1 in
     let mark = c .before .before .before .mark .ensures in
     let mark-ok = ok-marks mark pre0 in
     (mark-ok .reads, mark-ok .logs)
 
-row-close-requires : (t : ℕ) → row-lts.Need-close-requires (
-  refuse-reads.Asked,
-  refuse-reads.Learnt,
-  mark-reads.Asked,
-  mark-reads.Learnt,
-  at-reads.Asked,
-  at-reads.Learnt,
-  bump-reads.Asked,
-  bump-reads.Learnt,
-  close-reads.Asked,
-  close-reads.Learnt,
-  at-n-reads.Asked,
-  at-n-reads.Learnt,
-  lab-reads.Asked,
-  lab-reads.Learnt,
-  eat-reads.Asked,
-  eat-reads.Learnt,
-  state-reads.Asked,
-  state-reads.Learnt,
-  pat-must-below t,
-  pat-must.Post,
-  eat-name-star-reads.Asked,
-  eat-name-star-reads.Learnt,
-  ty-annotation-reads.Asked,
-  ty-annotation-reads.Learnt,
-  as-pat-tl-below t,
-  as-pat-tl.Post,
-) (row-at t) row.Post
+row-close-requires : (t : ℕ) → row-lts.Need-close-requires (row-told t) (row-at t) row.Post
 row-close-requires t c κs =
     let pre0 = c .before .before .before .before .before .before .before .before .before .before .before .before .before .before .before .pre .1 in
     let mark = c .before .before .before .before .before .before .before .mark .ensures in
@@ -6687,68 +2765,13 @@ row-close-requires t c κs =
     let bump-ok = ok-bumps bump mark-ok in
     (bump-ok .logs, small-len mark-ok)
 
-row-same-length : (t : ℕ) → row-lts.Need-same-length (
-  refuse-reads.Asked,
-  refuse-reads.Learnt,
-  mark-reads.Asked,
-  mark-reads.Learnt,
-  at-reads.Asked,
-  at-reads.Learnt,
-  bump-reads.Asked,
-  bump-reads.Learnt,
-  close-reads.Asked,
-  close-reads.Learnt,
-  at-n-reads.Asked,
-  at-n-reads.Learnt,
-  lab-reads.Asked,
-  lab-reads.Learnt,
-  eat-reads.Asked,
-  eat-reads.Learnt,
-  state-reads.Asked,
-  state-reads.Learnt,
-  pat-must-below t,
-  pat-must.Post,
-  eat-name-star-reads.Asked,
-  eat-name-star-reads.Learnt,
-  ty-annotation-reads.Asked,
-  ty-annotation-reads.Learnt,
-  as-pat-tl-below t,
-  as-pat-tl.Post,
-) (row-at t) row.Post
+row-same-length : (t : ℕ) → row-lts.Need-same-length (row-told t) (row-at t) row.Post
 row-same-length t c =
     c .before .before .close .kept .0 ∙ c .before .before .before .before .before .before .bump .kept .1 .0
 
-row-returns-2 : (t : ℕ) → row-lts.Need-returns-2 (
-  refuse-reads.Asked,
-  refuse-reads.Learnt,
-  mark-reads.Asked,
-  mark-reads.Learnt,
-  at-reads.Asked,
-  at-reads.Learnt,
-  bump-reads.Asked,
-  bump-reads.Learnt,
-  close-reads.Asked,
-  close-reads.Learnt,
-  at-n-reads.Asked,
-  at-n-reads.Learnt,
-  lab-reads.Asked,
-  lab-reads.Learnt,
-  eat-reads.Asked,
-  eat-reads.Learnt,
-  state-reads.Asked,
-  state-reads.Learnt,
-  pat-must-below t,
-  pat-must.Post,
-  eat-name-star-reads.Asked,
-  eat-name-star-reads.Learnt,
-  ty-annotation-reads.Asked,
-  ty-annotation-reads.Learnt,
-  as-pat-tl-below t,
-  as-pat-tl.Post,
-) (row-at t) row.Post
+row-returns-2 : (t : ℕ) → row-lts.Need-returns-2 (row-told t) (row-at t) row.Post
 unfolding pat.patRow plan choose chosen
 row-returns-2 t c =
-    let falls = c .before .before .before .before .before .before .before .before .before .before .before .before .before .before .before .before .before .before .pre .0 in
     let pre0 = c .before .before .before .before .before .before .before .before .before .before .before .before .before .before .before .before .before .before .pre .1 in
     let if1 = c .before .before .before .before .before .before .before .before .before .before .before .if1 .left in
     let mark = c .before .before .before .before .before .before .before .before .before .before .mark .ensures in
@@ -6758,170 +2781,38 @@ row-returns-2 t c =
     let close = c .before .before .close .ensures in
     by-steps pre0 (λ b. s-mark if1 mark (s-kind (s-true _ _ (kind-at _ _ _ _ at if2) (s-bump bump (s-close close s-end)))))
 
-row-at-n-requires : (t : ℕ) → row-lts.Need-at-n-requires (
-  refuse-reads.Asked,
-  refuse-reads.Learnt,
-  mark-reads.Asked,
-  mark-reads.Learnt,
-  at-reads.Asked,
-  at-reads.Learnt,
-  bump-reads.Asked,
-  bump-reads.Learnt,
-  close-reads.Asked,
-  close-reads.Learnt,
-  at-n-reads.Asked,
-  at-n-reads.Learnt,
-  lab-reads.Asked,
-  lab-reads.Learnt,
-  eat-reads.Asked,
-  eat-reads.Learnt,
-  state-reads.Asked,
-  state-reads.Learnt,
-  pat-must-below t,
-  pat-must.Post,
-  eat-name-star-reads.Asked,
-  eat-name-star-reads.Learnt,
-  ty-annotation-reads.Asked,
-  ty-annotation-reads.Learnt,
-  as-pat-tl-below t,
-  as-pat-tl.Post,
-) (row-at t) row.Post
+row-at-n-requires : (t : ℕ) → row-lts.Need-at-n-requires (row-told t) (row-at t) row.Post
 row-at-n-requires t c κs =
     let pre0 = c .before .before .before .before .before .before .before .before .before .before .pre .1 in
     let mark = c .before .before .mark .ensures in
     let mark-ok = ok-marks mark pre0 in
     mark-ok .reads
 
-row-lab-requires : (t : ℕ) → row-lts.Need-lab-requires (
-  refuse-reads.Asked,
-  refuse-reads.Learnt,
-  mark-reads.Asked,
-  mark-reads.Learnt,
-  at-reads.Asked,
-  at-reads.Learnt,
-  bump-reads.Asked,
-  bump-reads.Learnt,
-  close-reads.Asked,
-  close-reads.Learnt,
-  at-n-reads.Asked,
-  at-n-reads.Learnt,
-  lab-reads.Asked,
-  lab-reads.Learnt,
-  eat-reads.Asked,
-  eat-reads.Learnt,
-  state-reads.Asked,
-  state-reads.Learnt,
-  pat-must-below t,
-  pat-must.Post,
-  eat-name-star-reads.Asked,
-  eat-name-star-reads.Learnt,
-  ty-annotation-reads.Asked,
-  ty-annotation-reads.Learnt,
-  as-pat-tl-below t,
-  as-pat-tl.Post,
-) (row-at t) row.Post
+row-lab-requires : (t : ℕ) → row-lts.Need-lab-requires (row-told t) (row-at t) row.Post
 row-lab-requires t c κs =
     let pre0 = c .before .before .before .before .before .before .before .before .before .before .before .before .before .before .pre .1 in
     let mark = c .before .before .before .before .before .before .mark .ensures in
     let mark-ok = ok-marks mark pre0 in
-    mark-ok
+    (mark-ok .reads, mark-ok .logs, mark-ok .holds)
 
-row-eat-requires : (t : ℕ) → row-lts.Need-eat-requires (
-  refuse-reads.Asked,
-  refuse-reads.Learnt,
-  mark-reads.Asked,
-  mark-reads.Learnt,
-  at-reads.Asked,
-  at-reads.Learnt,
-  bump-reads.Asked,
-  bump-reads.Learnt,
-  close-reads.Asked,
-  close-reads.Learnt,
-  at-n-reads.Asked,
-  at-n-reads.Learnt,
-  lab-reads.Asked,
-  lab-reads.Learnt,
-  eat-reads.Asked,
-  eat-reads.Learnt,
-  state-reads.Asked,
-  state-reads.Learnt,
-  pat-must-below t,
-  pat-must.Post,
-  eat-name-star-reads.Asked,
-  eat-name-star-reads.Learnt,
-  ty-annotation-reads.Asked,
-  ty-annotation-reads.Learnt,
-  as-pat-tl-below t,
-  as-pat-tl.Post,
-) (row-at t) row.Post
+row-eat-requires : (t : ℕ) → row-lts.Need-eat-requires (row-told t) (row-at t) row.Post
 row-eat-requires t c κs =
     let falls = c .before .before .before .before .before .before .before .before .before .before .before .before .before .before .before .before .before .before .before .before .before .pre .0 in
+    let pre0 = c .before .before .before .before .before .before .before .before .before .before .before .before .before .before .before .before .before .before .before .before .before .pre .1 in
     let if1 = c .before .before .before .before .before .before .before .before .before .before .before .before .before .before .if1 .left in
+    let mark = c .before .before .before .before .before .before .before .before .before .before .before .before .before .mark .ensures in
+    let mark-ok = ok-marks mark pre0 in
     let if2 = c .before .before .before .before .before .before .before .before .before .before .before .if2 .left in
     let if3 = c .before .before .before .before .before .before .before .before .before .if3 .taken in
     let lab = c .before .before .before .before .before .before .lab .ensures in
-    let lab-ok = lab .ok in
-    (lab-ok, omega arith)
+    let lab-ok = ok-eats lab mark-ok in
+    (lab-ok .reads, lab-ok .logs, lab-ok .holds, omega arith)
 
-row-state-requires : (t : ℕ) → row-lts.Need-state-requires (
-  refuse-reads.Asked,
-  refuse-reads.Learnt,
-  mark-reads.Asked,
-  mark-reads.Learnt,
-  at-reads.Asked,
-  at-reads.Learnt,
-  bump-reads.Asked,
-  bump-reads.Learnt,
-  close-reads.Asked,
-  close-reads.Learnt,
-  at-n-reads.Asked,
-  at-n-reads.Learnt,
-  lab-reads.Asked,
-  lab-reads.Learnt,
-  eat-reads.Asked,
-  eat-reads.Learnt,
-  state-reads.Asked,
-  state-reads.Learnt,
-  pat-must-below t,
-  pat-must.Post,
-  eat-name-star-reads.Asked,
-  eat-name-star-reads.Learnt,
-  ty-annotation-reads.Asked,
-  ty-annotation-reads.Learnt,
-  as-pat-tl-below t,
-  as-pat-tl.Post,
-) (row-at t) row.Post
+row-state-requires : (t : ℕ) → row-lts.Need-state-requires (row-told t) (row-at t) row.Post
 row-state-requires t c κs =
     tt
 
-row-sub-pat-must : (t : ℕ) → row-lts.Need-sub-pat-must (
-  refuse-reads.Asked,
-  refuse-reads.Learnt,
-  mark-reads.Asked,
-  mark-reads.Learnt,
-  at-reads.Asked,
-  at-reads.Learnt,
-  bump-reads.Asked,
-  bump-reads.Learnt,
-  close-reads.Asked,
-  close-reads.Learnt,
-  at-n-reads.Asked,
-  at-n-reads.Learnt,
-  lab-reads.Asked,
-  lab-reads.Learnt,
-  eat-reads.Asked,
-  eat-reads.Learnt,
-  state-reads.Asked,
-  state-reads.Learnt,
-  pat-must-below t,
-  pat-must.Post,
-  eat-name-star-reads.Asked,
-  eat-name-star-reads.Learnt,
-  ty-annotation-reads.Asked,
-  ty-annotation-reads.Learnt,
-  as-pat-tl-below t,
-  as-pat-tl.Post,
-) (row-at t) row.Post
+row-sub-pat-must : (t : ℕ) → row-lts.Need-sub-pat-must (row-told t) (row-at t) row.Post
 row-sub-pat-must t c =
     let falls = c .before .before .before .before .before .before .before .before .before .before .before .before .before .before .before .before .before .before .before .before .before .before .before .before .before .before .before .before .before .pre .0 in
     let pre0 = c .before .before .before .before .before .before .before .before .before .before .before .before .before .before .before .before .before .before .before .before .before .before .before .before .before .before .before .before .before .pre .1 in
@@ -6930,73 +2821,24 @@ row-sub-pat-must t c =
     let if3 = c .before .before .before .before .before .before .before .before .before .before .before .before .before .before .before .before .before .if3 .taken in
     search needs
 
-row-pat-must-requires : (t : ℕ) → row-lts.Need-pat-must-requires (
-  refuse-reads.Asked,
-  refuse-reads.Learnt,
-  mark-reads.Asked,
-  mark-reads.Learnt,
-  at-reads.Asked,
-  at-reads.Learnt,
-  bump-reads.Asked,
-  bump-reads.Learnt,
-  close-reads.Asked,
-  close-reads.Learnt,
-  at-n-reads.Asked,
-  at-n-reads.Learnt,
-  lab-reads.Asked,
-  lab-reads.Learnt,
-  eat-reads.Asked,
-  eat-reads.Learnt,
-  state-reads.Asked,
-  state-reads.Learnt,
-  pat-must-below t,
-  pat-must.Post,
-  eat-name-star-reads.Asked,
-  eat-name-star-reads.Learnt,
-  ty-annotation-reads.Asked,
-  ty-annotation-reads.Learnt,
-  as-pat-tl-below t,
-  as-pat-tl.Post,
-) (row-at t) row.Post
+row-pat-must-requires : (t : ℕ) → row-lts.Need-pat-must-requires (row-told t) (row-at t) row.Post
 row-pat-must-requires t c κs =
     let falls = c .before .before .before .before .before .before .before .before .before .before .before .before .before .before .before .before .before .before .before .before .before .before .before .before .before .before .before .before .before .pre .0 in
+    let pre0 = c .before .before .before .before .before .before .before .before .before .before .before .before .before .before .before .before .before .before .before .before .before .before .before .before .before .before .before .before .before .pre .1 in
     let if1 = c .before .before .before .before .before .before .before .before .before .before .before .before .before .before .before .before .before .before .before .before .before .before .if1 .left in
+    let mark = c .before .before .before .before .before .before .before .before .before .before .before .before .before .before .before .before .before .before .before .before .before .mark .ensures in
+    let mark-ok = ok-marks mark pre0 in
     let if2 = c .before .before .before .before .before .before .before .before .before .before .before .before .before .before .before .before .before .before .before .if2 .left in
     let if3 = c .before .before .before .before .before .before .before .before .before .before .before .before .before .before .before .before .before .if3 .taken in
+    let lab = c .before .before .before .before .before .before .before .before .before .before .before .before .before .before .lab .ensures in
+    let lab-ok = ok-eats lab mark-ok in
     let eat = c .before .before .before .before .before .before .before .eat .ensures in
-    let eat-ok = eat .ok in
+    let eat-ok = ok-eats eat lab-ok in
     let state = c .before .before .state .ensures in
     let state-ok = ok-state state eat-ok in
     (omega arith, state-ok)
 
-row-close-requires-2 : (t : ℕ) → row-lts.Need-close-requires-2 (
-  refuse-reads.Asked,
-  refuse-reads.Learnt,
-  mark-reads.Asked,
-  mark-reads.Learnt,
-  at-reads.Asked,
-  at-reads.Learnt,
-  bump-reads.Asked,
-  bump-reads.Learnt,
-  close-reads.Asked,
-  close-reads.Learnt,
-  at-n-reads.Asked,
-  at-n-reads.Learnt,
-  lab-reads.Asked,
-  lab-reads.Learnt,
-  eat-reads.Asked,
-  eat-reads.Learnt,
-  state-reads.Asked,
-  state-reads.Learnt,
-  pat-must-below t,
-  pat-must.Post,
-  eat-name-star-reads.Asked,
-  eat-name-star-reads.Learnt,
-  ty-annotation-reads.Asked,
-  ty-annotation-reads.Learnt,
-  as-pat-tl-below t,
-  as-pat-tl.Post,
-) (row-at t) row.Post
+row-close-requires-2 : (t : ℕ) → row-lts.Need-close-requires-2 (row-told t) (row-at t) row.Post
 row-close-requires-2 t c κs =
     let pre0 = c .before .before .before .before .before .before .before .before .before .before .before .before .before .before .before .before .before .before .before .before .before .before .before .before .before .before .before .before .before .before .before .before .before .before .before .pre .1 in
     let mark = c .before .before .before .before .before .before .before .before .before .before .before .before .before .before .before .before .before .before .before .before .before .before .before .before .before .before .before .mark .ensures in
@@ -7005,99 +2847,17 @@ row-close-requires-2 t c κs =
     let pat-must-ok = pat-must .ok in
     (pat-must-ok .logs, small-len mark-ok)
 
-row-same-length-2 : (t : ℕ) → row-lts.Need-same-length-2 (
-  refuse-reads.Asked,
-  refuse-reads.Learnt,
-  mark-reads.Asked,
-  mark-reads.Learnt,
-  at-reads.Asked,
-  at-reads.Learnt,
-  bump-reads.Asked,
-  bump-reads.Learnt,
-  close-reads.Asked,
-  close-reads.Learnt,
-  at-n-reads.Asked,
-  at-n-reads.Learnt,
-  lab-reads.Asked,
-  lab-reads.Learnt,
-  eat-reads.Asked,
-  eat-reads.Learnt,
-  state-reads.Asked,
-  state-reads.Learnt,
-  pat-must-below t,
-  pat-must.Post,
-  eat-name-star-reads.Asked,
-  eat-name-star-reads.Learnt,
-  ty-annotation-reads.Asked,
-  ty-annotation-reads.Learnt,
-  as-pat-tl-below t,
-  as-pat-tl.Post,
-) (row-at t) row.Post
+row-same-length-2 : (t : ℕ) → row-lts.Need-same-length-2 (row-told t) (row-at t) row.Post
 row-same-length-2 t c =
-    c .before .before .close2 .kept .0 ∙ c .before .before .before .before .before .before .before .before .pat-must .kept .1 .1 .1 .1 .0 ∙ c .before .before .before .before .before .before .before .before .before .before .before .before .before .before .before .before .eat .kept .1 .1 .1 .1 .0 ∙ c .before .before .before .before .before .before .before .before .before .before .before .before .before .before .before .before .before .before .before .before .before .before .before .lab .kept .1 .1 .1 .1 .0
+    c .before .before .close2 .kept .0 ∙ c .before .before .before .before .before .before .before .before .pat-must .kept .1 .1 .1 .1 .0 ∙ c .before .before .before .before .before .before .before .before .before .before .before .before .before .before .before .before .eat .kept .1 .0 ∙ c .before .before .before .before .before .before .before .before .before .before .before .before .before .before .before .before .before .before .before .before .before .before .before .lab .kept .1 .0
 
-row-same-length-3 : (t : ℕ) → row-lts.Need-same-length-3 (
-  refuse-reads.Asked,
-  refuse-reads.Learnt,
-  mark-reads.Asked,
-  mark-reads.Learnt,
-  at-reads.Asked,
-  at-reads.Learnt,
-  bump-reads.Asked,
-  bump-reads.Learnt,
-  close-reads.Asked,
-  close-reads.Learnt,
-  at-n-reads.Asked,
-  at-n-reads.Learnt,
-  lab-reads.Asked,
-  lab-reads.Learnt,
-  eat-reads.Asked,
-  eat-reads.Learnt,
-  state-reads.Asked,
-  state-reads.Learnt,
-  pat-must-below t,
-  pat-must.Post,
-  eat-name-star-reads.Asked,
-  eat-name-star-reads.Learnt,
-  ty-annotation-reads.Asked,
-  ty-annotation-reads.Learnt,
-  as-pat-tl-below t,
-  as-pat-tl.Post,
-) (row-at t) row.Post
+row-same-length-3 : (t : ℕ) → row-lts.Need-same-length-3 (row-told t) (row-at t) row.Post
 row-same-length-3 t c =
-    c .before .before .before .before .before .before .before .before .pat-must .kept .1 .1 .1 .1 .1 .0 ∙ c .before .before .before .before .before .before .before .before .before .before .before .before .before .before .before .before .eat .kept .1 .1 .1 .1 .1 .0 ∙ c .before .before .before .before .before .before .before .before .before .before .before .before .before .before .before .before .before .before .before .before .before .before .before .lab .kept .1 .1 .1 .1 .1 .0
+    c .before .before .before .before .before .before .before .before .pat-must .kept .1 .1 .1 .1 .1 .0 ∙ c .before .before .before .before .before .before .before .before .before .before .before .before .before .before .before .before .eat .kept .1 .1 .0 ∙ c .before .before .before .before .before .before .before .before .before .before .before .before .before .before .before .before .before .before .before .before .before .before .before .lab .kept .1 .1 .0
 
-row-returns-3 : (t : ℕ) → row-lts.Need-returns-3 (
-  refuse-reads.Asked,
-  refuse-reads.Learnt,
-  mark-reads.Asked,
-  mark-reads.Learnt,
-  at-reads.Asked,
-  at-reads.Learnt,
-  bump-reads.Asked,
-  bump-reads.Learnt,
-  close-reads.Asked,
-  close-reads.Learnt,
-  at-n-reads.Asked,
-  at-n-reads.Learnt,
-  lab-reads.Asked,
-  lab-reads.Learnt,
-  eat-reads.Asked,
-  eat-reads.Learnt,
-  state-reads.Asked,
-  state-reads.Learnt,
-  pat-must-below t,
-  pat-must.Post,
-  eat-name-star-reads.Asked,
-  eat-name-star-reads.Learnt,
-  ty-annotation-reads.Asked,
-  ty-annotation-reads.Learnt,
-  as-pat-tl-below t,
-  as-pat-tl.Post,
-) (row-at t) row.Post
+row-returns-3 : (t : ℕ) → row-lts.Need-returns-3 (row-told t) (row-at t) row.Post
 unfolding pat.patRow plan choose chosen
 row-returns-3 t c =
-    let falls = c .before .before .before .before .before .before .before .before .before .before .before .before .before .before .before .before .before .before .before .before .before .before .before .before .before .before .before .before .before .before .before .before .before .before .before .before .before .before .pre .0 in
     let pre0 = c .before .before .before .before .before .before .before .before .before .before .before .before .before .before .before .before .before .before .before .before .before .before .before .before .before .before .before .before .before .before .before .before .before .before .before .before .before .before .pre .1 in
     let if1 = c .before .before .before .before .before .before .before .before .before .before .before .before .before .before .before .before .before .before .before .before .before .before .before .before .before .before .before .before .before .before .before .if1 .left in
     let mark = c .before .before .before .before .before .before .before .before .before .before .before .before .before .before .before .before .before .before .before .before .before .before .before .before .before .before .before .before .before .before .mark .ensures in
@@ -7110,101 +2870,20 @@ row-returns-3 t c =
     let state = c .before .before .before .before .before .before .before .before .before .before .before .state .ensures in
     let pat-must = c .before .before .before .before .before .before .before .before .pat-must .ensures in
     let close2 = c .before .before .close2 .ensures in
-    by-steps pre0 (λ b. s-mark if1 mark (s-kind (s-false _ _ (kind-off _ _ _ _ at if2) (s-kind (s-true _ _ (kind-at _ _ _ _ at-n if3) (s-by _ (runs-always lab) (s-by _ (settled state (runs-always eat)) (s-by _ (runs-in pat-must) (s-close close2 s-end)))))))))
+    by-steps pre0 (λ b. s-mark if1 mark (s-kind (s-false _ _ (kind-off _ _ _ _ at if2) (s-kind (s-true _ _ (kind-at _ _ _ _ at-n if3) (s-eats _ _ _ lab (s-eats _ _ _ (eats-settled state eat) (s-by _ (runs-in pat-must) (s-close close2 s-end)))))))))
 
-row-eat-name-star-requires : (t : ℕ) → row-lts.Need-eat-name-star-requires (
-  refuse-reads.Asked,
-  refuse-reads.Learnt,
-  mark-reads.Asked,
-  mark-reads.Learnt,
-  at-reads.Asked,
-  at-reads.Learnt,
-  bump-reads.Asked,
-  bump-reads.Learnt,
-  close-reads.Asked,
-  close-reads.Learnt,
-  at-n-reads.Asked,
-  at-n-reads.Learnt,
-  lab-reads.Asked,
-  lab-reads.Learnt,
-  eat-reads.Asked,
-  eat-reads.Learnt,
-  state-reads.Asked,
-  state-reads.Learnt,
-  pat-must-below t,
-  pat-must.Post,
-  eat-name-star-reads.Asked,
-  eat-name-star-reads.Learnt,
-  ty-annotation-reads.Asked,
-  ty-annotation-reads.Learnt,
-  as-pat-tl-below t,
-  as-pat-tl.Post,
-) (row-at t) row.Post
+row-eat-name-star-requires : (t : ℕ) → row-lts.Need-eat-name-star-requires (row-told t) (row-at t) row.Post
 row-eat-name-star-requires t c κs =
     let pre0 = c .before .before .before .before .before .before .before .before .before .before .before .before .before .before .pre .1 in
     let mark = c .before .before .before .before .before .before .mark .ensures in
     let mark-ok = ok-marks mark pre0 in
-    mark-ok
+    (mark-ok .reads, mark-ok .logs, mark-ok .holds)
 
-row-state-requires-2 : (t : ℕ) → row-lts.Need-state-requires-2 (
-  refuse-reads.Asked,
-  refuse-reads.Learnt,
-  mark-reads.Asked,
-  mark-reads.Learnt,
-  at-reads.Asked,
-  at-reads.Learnt,
-  bump-reads.Asked,
-  bump-reads.Learnt,
-  close-reads.Asked,
-  close-reads.Learnt,
-  at-n-reads.Asked,
-  at-n-reads.Learnt,
-  lab-reads.Asked,
-  lab-reads.Learnt,
-  eat-reads.Asked,
-  eat-reads.Learnt,
-  state-reads.Asked,
-  state-reads.Learnt,
-  pat-must-below t,
-  pat-must.Post,
-  eat-name-star-reads.Asked,
-  eat-name-star-reads.Learnt,
-  ty-annotation-reads.Asked,
-  ty-annotation-reads.Learnt,
-  as-pat-tl-below t,
-  as-pat-tl.Post,
-) (row-at t) row.Post
+row-state-requires-2 : (t : ℕ) → row-lts.Need-state-requires-2 (row-told t) (row-at t) row.Post
 row-state-requires-2 t c κs =
     tt
 
-row-sub-ty-annotation : (t : ℕ) → row-lts.Need-sub-ty-annotation (
-  refuse-reads.Asked,
-  refuse-reads.Learnt,
-  mark-reads.Asked,
-  mark-reads.Learnt,
-  at-reads.Asked,
-  at-reads.Learnt,
-  bump-reads.Asked,
-  bump-reads.Learnt,
-  close-reads.Asked,
-  close-reads.Learnt,
-  at-n-reads.Asked,
-  at-n-reads.Learnt,
-  lab-reads.Asked,
-  lab-reads.Learnt,
-  eat-reads.Asked,
-  eat-reads.Learnt,
-  state-reads.Asked,
-  state-reads.Learnt,
-  pat-must-below t,
-  pat-must.Post,
-  eat-name-star-reads.Asked,
-  eat-name-star-reads.Learnt,
-  ty-annotation-reads.Asked,
-  ty-annotation-reads.Learnt,
-  as-pat-tl-below t,
-  as-pat-tl.Post,
-) (row-at t) row.Post
+row-sub-ty-annotation : (t : ℕ) → row-lts.Need-sub-ty-annotation (row-told t) (row-at t) row.Post
 row-sub-ty-annotation t c =
     let falls = c .before .before .before .before .before .before .before .before .before .before .before .before .before .before .before .before .before .before .before .before .before .before .pre .0 in
     let pre0 = c .before .before .before .before .before .before .before .before .before .before .before .before .before .before .before .before .before .before .before .before .before .before .pre .1 in
@@ -7213,100 +2892,22 @@ row-sub-ty-annotation t c =
     let if3 = c .before .before .before .before .before .before .before .before .before .before .if3 .left in
     search needs
 
-row-ty-annotation-requires : (t : ℕ) → row-lts.Need-ty-annotation-requires (
-  refuse-reads.Asked,
-  refuse-reads.Learnt,
-  mark-reads.Asked,
-  mark-reads.Learnt,
-  at-reads.Asked,
-  at-reads.Learnt,
-  bump-reads.Asked,
-  bump-reads.Learnt,
-  close-reads.Asked,
-  close-reads.Learnt,
-  at-n-reads.Asked,
-  at-n-reads.Learnt,
-  lab-reads.Asked,
-  lab-reads.Learnt,
-  eat-reads.Asked,
-  eat-reads.Learnt,
-  state-reads.Asked,
-  state-reads.Learnt,
-  pat-must-below t,
-  pat-must.Post,
-  eat-name-star-reads.Asked,
-  eat-name-star-reads.Learnt,
-  ty-annotation-reads.Asked,
-  ty-annotation-reads.Learnt,
-  as-pat-tl-below t,
-  as-pat-tl.Post,
-) (row-at t) row.Post
+row-ty-annotation-requires : (t : ℕ) → row-lts.Need-ty-annotation-requires (row-told t) (row-at t) row.Post
 row-ty-annotation-requires t c κs =
+    let pre0 = c .before .before .before .before .before .before .before .before .before .before .before .before .before .before .before .before .before .before .before .before .before .before .pre .1 in
+    let mark = c .before .before .before .before .before .before .before .before .before .before .before .before .before .before .mark .ensures in
+    let mark-ok = ok-marks mark pre0 in
     let eat-name-star = c .before .before .before .before .before .before .before .eat-name-star .ensures in
-    let eat-name-star-ok = eat-name-star .ok in
+    let eat-name-star-ok = ok-eats eat-name-star mark-ok in
     let state2 = c .before .before .state2 .ensures in
     let state2-ok = ok-state state2 eat-name-star-ok in
     state2-ok
 
-row-state-requires-3 : (t : ℕ) → row-lts.Need-state-requires-3 (
-  refuse-reads.Asked,
-  refuse-reads.Learnt,
-  mark-reads.Asked,
-  mark-reads.Learnt,
-  at-reads.Asked,
-  at-reads.Learnt,
-  bump-reads.Asked,
-  bump-reads.Learnt,
-  close-reads.Asked,
-  close-reads.Learnt,
-  at-n-reads.Asked,
-  at-n-reads.Learnt,
-  lab-reads.Asked,
-  lab-reads.Learnt,
-  eat-reads.Asked,
-  eat-reads.Learnt,
-  state-reads.Asked,
-  state-reads.Learnt,
-  pat-must-below t,
-  pat-must.Post,
-  eat-name-star-reads.Asked,
-  eat-name-star-reads.Learnt,
-  ty-annotation-reads.Asked,
-  ty-annotation-reads.Learnt,
-  as-pat-tl-below t,
-  as-pat-tl.Post,
-) (row-at t) row.Post
+row-state-requires-3 : (t : ℕ) → row-lts.Need-state-requires-3 (row-told t) (row-at t) row.Post
 row-state-requires-3 t c κs =
     tt
 
-row-sub-as-pat-tl : (t : ℕ) → row-lts.Need-sub-as-pat-tl (
-  refuse-reads.Asked,
-  refuse-reads.Learnt,
-  mark-reads.Asked,
-  mark-reads.Learnt,
-  at-reads.Asked,
-  at-reads.Learnt,
-  bump-reads.Asked,
-  bump-reads.Learnt,
-  close-reads.Asked,
-  close-reads.Learnt,
-  at-n-reads.Asked,
-  at-n-reads.Learnt,
-  lab-reads.Asked,
-  lab-reads.Learnt,
-  eat-reads.Asked,
-  eat-reads.Learnt,
-  state-reads.Asked,
-  state-reads.Learnt,
-  pat-must-below t,
-  pat-must.Post,
-  eat-name-star-reads.Asked,
-  eat-name-star-reads.Learnt,
-  ty-annotation-reads.Asked,
-  ty-annotation-reads.Learnt,
-  as-pat-tl-below t,
-  as-pat-tl.Post,
-) (row-at t) row.Post
+row-sub-as-pat-tl : (t : ℕ) → row-lts.Need-sub-as-pat-tl (row-told t) (row-at t) row.Post
 row-sub-as-pat-tl t c =
     let falls = c .before .before .before .before .before .before .before .before .before .before .before .before .before .before .before .before .before .before .before .before .before .before .before .before .before .before .before .before .before .before .pre .0 in
     let pre0 = c .before .before .before .before .before .before .before .before .before .before .before .before .before .before .before .before .before .before .before .before .before .before .before .before .before .before .before .before .before .before .pre .1 in
@@ -7315,34 +2916,7 @@ row-sub-as-pat-tl t c =
     let if3 = c .before .before .before .before .before .before .before .before .before .before .before .before .before .before .before .before .before .before .if3 .left in
     search needs
 
-row-as-pat-tl-requires : (t : ℕ) → row-lts.Need-as-pat-tl-requires (
-  refuse-reads.Asked,
-  refuse-reads.Learnt,
-  mark-reads.Asked,
-  mark-reads.Learnt,
-  at-reads.Asked,
-  at-reads.Learnt,
-  bump-reads.Asked,
-  bump-reads.Learnt,
-  close-reads.Asked,
-  close-reads.Learnt,
-  at-n-reads.Asked,
-  at-n-reads.Learnt,
-  lab-reads.Asked,
-  lab-reads.Learnt,
-  eat-reads.Asked,
-  eat-reads.Learnt,
-  state-reads.Asked,
-  state-reads.Learnt,
-  pat-must-below t,
-  pat-must.Post,
-  eat-name-star-reads.Asked,
-  eat-name-star-reads.Learnt,
-  ty-annotation-reads.Asked,
-  ty-annotation-reads.Learnt,
-  as-pat-tl-below t,
-  as-pat-tl.Post,
-) (row-at t) row.Post
+row-as-pat-tl-requires : (t : ℕ) → row-lts.Need-as-pat-tl-requires (row-told t) (row-at t) row.Post
 row-as-pat-tl-requires t c κs =
     let falls = c .before .before .before .before .before .before .before .before .before .before .before .before .before .before .before .before .before .before .before .before .before .before .before .before .before .before .before .before .before .before .pre .0 in
     let if1 = c .before .before .before .before .before .before .before .before .before .before .before .before .before .before .before .before .before .before .before .before .before .before .before .if1 .left in
@@ -7354,65 +2928,11 @@ row-as-pat-tl-requires t c κs =
     let state3-ok = ok-state state3 ty-annotation-ok in
     (omega arith, state3-ok)
 
-row-state-requires-4 : (t : ℕ) → row-lts.Need-state-requires-4 (
-  refuse-reads.Asked,
-  refuse-reads.Learnt,
-  mark-reads.Asked,
-  mark-reads.Learnt,
-  at-reads.Asked,
-  at-reads.Learnt,
-  bump-reads.Asked,
-  bump-reads.Learnt,
-  close-reads.Asked,
-  close-reads.Learnt,
-  at-n-reads.Asked,
-  at-n-reads.Learnt,
-  lab-reads.Asked,
-  lab-reads.Learnt,
-  eat-reads.Asked,
-  eat-reads.Learnt,
-  state-reads.Asked,
-  state-reads.Learnt,
-  pat-must-below t,
-  pat-must.Post,
-  eat-name-star-reads.Asked,
-  eat-name-star-reads.Learnt,
-  ty-annotation-reads.Asked,
-  ty-annotation-reads.Learnt,
-  as-pat-tl-below t,
-  as-pat-tl.Post,
-) (row-at t) row.Post
+row-state-requires-4 : (t : ℕ) → row-lts.Need-state-requires-4 (row-told t) (row-at t) row.Post
 row-state-requires-4 t c κs =
     tt
 
-row-close-requires-3 : (t : ℕ) → row-lts.Need-close-requires-3 (
-  refuse-reads.Asked,
-  refuse-reads.Learnt,
-  mark-reads.Asked,
-  mark-reads.Learnt,
-  at-reads.Asked,
-  at-reads.Learnt,
-  bump-reads.Asked,
-  bump-reads.Learnt,
-  close-reads.Asked,
-  close-reads.Learnt,
-  at-n-reads.Asked,
-  at-n-reads.Learnt,
-  lab-reads.Asked,
-  lab-reads.Learnt,
-  eat-reads.Asked,
-  eat-reads.Learnt,
-  state-reads.Asked,
-  state-reads.Learnt,
-  pat-must-below t,
-  pat-must.Post,
-  eat-name-star-reads.Asked,
-  eat-name-star-reads.Learnt,
-  ty-annotation-reads.Asked,
-  ty-annotation-reads.Learnt,
-  as-pat-tl-below t,
-  as-pat-tl.Post,
-) (row-at t) row.Post
+row-close-requires-3 : (t : ℕ) → row-lts.Need-close-requires-3 (row-told t) (row-at t) row.Post
 row-close-requires-3 t c κs =
     let pre0 = c .before .before .before .before .before .before .before .before .before .before .before .before .before .before .before .before .before .before .before .before .before .before .before .before .before .before .before .before .before .before .before .before .before .before .before .before .before .pre .1 in
     let mark = c .before .before .before .before .before .before .before .before .before .before .before .before .before .before .before .before .before .before .before .before .before .before .before .before .before .before .before .before .before .mark .ensures in
@@ -7423,99 +2943,17 @@ row-close-requires-3 t c κs =
     let state4-ok = ok-state state4 as-pat-tl-ok in
     (state4-ok .logs, small-len mark-ok)
 
-row-same-length-4 : (t : ℕ) → row-lts.Need-same-length-4 (
-  refuse-reads.Asked,
-  refuse-reads.Learnt,
-  mark-reads.Asked,
-  mark-reads.Learnt,
-  at-reads.Asked,
-  at-reads.Learnt,
-  bump-reads.Asked,
-  bump-reads.Learnt,
-  close-reads.Asked,
-  close-reads.Learnt,
-  at-n-reads.Asked,
-  at-n-reads.Learnt,
-  lab-reads.Asked,
-  lab-reads.Learnt,
-  eat-reads.Asked,
-  eat-reads.Learnt,
-  state-reads.Asked,
-  state-reads.Learnt,
-  pat-must-below t,
-  pat-must.Post,
-  eat-name-star-reads.Asked,
-  eat-name-star-reads.Learnt,
-  ty-annotation-reads.Asked,
-  ty-annotation-reads.Learnt,
-  as-pat-tl-below t,
-  as-pat-tl.Post,
-) (row-at t) row.Post
+row-same-length-4 : (t : ℕ) → row-lts.Need-same-length-4 (row-told t) (row-at t) row.Post
 row-same-length-4 t c =
-    c .before .before .close3 .kept .0 ∙ c .before .before .before .before .before .before .before .before .before .as-pat-tl .kept .1 .1 .1 .1 .0 ∙ c .before .before .before .before .before .before .before .before .before .before .before .before .before .before .before .before .before .ty-annotation .kept .1 .1 .1 .1 .0 ∙ c .before .before .before .before .before .before .before .before .before .before .before .before .before .before .before .before .before .before .before .before .before .before .before .before .before .eat-name-star .kept .1 .1 .1 .1 .0
+    c .before .before .close3 .kept .0 ∙ c .before .before .before .before .before .before .before .before .before .as-pat-tl .kept .1 .1 .1 .1 .0 ∙ c .before .before .before .before .before .before .before .before .before .before .before .before .before .before .before .before .before .ty-annotation .kept .1 .1 .1 .1 .0 ∙ c .before .before .before .before .before .before .before .before .before .before .before .before .before .before .before .before .before .before .before .before .before .before .before .before .before .eat-name-star .kept .1 .0
 
-row-same-length-5 : (t : ℕ) → row-lts.Need-same-length-5 (
-  refuse-reads.Asked,
-  refuse-reads.Learnt,
-  mark-reads.Asked,
-  mark-reads.Learnt,
-  at-reads.Asked,
-  at-reads.Learnt,
-  bump-reads.Asked,
-  bump-reads.Learnt,
-  close-reads.Asked,
-  close-reads.Learnt,
-  at-n-reads.Asked,
-  at-n-reads.Learnt,
-  lab-reads.Asked,
-  lab-reads.Learnt,
-  eat-reads.Asked,
-  eat-reads.Learnt,
-  state-reads.Asked,
-  state-reads.Learnt,
-  pat-must-below t,
-  pat-must.Post,
-  eat-name-star-reads.Asked,
-  eat-name-star-reads.Learnt,
-  ty-annotation-reads.Asked,
-  ty-annotation-reads.Learnt,
-  as-pat-tl-below t,
-  as-pat-tl.Post,
-) (row-at t) row.Post
+row-same-length-5 : (t : ℕ) → row-lts.Need-same-length-5 (row-told t) (row-at t) row.Post
 row-same-length-5 t c =
-    c .before .before .before .before .before .before .before .before .before .as-pat-tl .kept .1 .1 .1 .1 .1 .0 ∙ c .before .before .before .before .before .before .before .before .before .before .before .before .before .before .before .before .before .ty-annotation .kept .1 .1 .1 .1 .1 .0 ∙ c .before .before .before .before .before .before .before .before .before .before .before .before .before .before .before .before .before .before .before .before .before .before .before .before .before .eat-name-star .kept .1 .1 .1 .1 .1 .0
+    c .before .before .before .before .before .before .before .before .before .as-pat-tl .kept .1 .1 .1 .1 .1 .0 ∙ c .before .before .before .before .before .before .before .before .before .before .before .before .before .before .before .before .before .ty-annotation .kept .1 .1 .1 .1 .1 .0 ∙ c .before .before .before .before .before .before .before .before .before .before .before .before .before .before .before .before .before .before .before .before .before .before .before .before .before .eat-name-star .kept .1 .1 .0
 
-row-returns-4 : (t : ℕ) → row-lts.Need-returns-4 (
-  refuse-reads.Asked,
-  refuse-reads.Learnt,
-  mark-reads.Asked,
-  mark-reads.Learnt,
-  at-reads.Asked,
-  at-reads.Learnt,
-  bump-reads.Asked,
-  bump-reads.Learnt,
-  close-reads.Asked,
-  close-reads.Learnt,
-  at-n-reads.Asked,
-  at-n-reads.Learnt,
-  lab-reads.Asked,
-  lab-reads.Learnt,
-  eat-reads.Asked,
-  eat-reads.Learnt,
-  state-reads.Asked,
-  state-reads.Learnt,
-  pat-must-below t,
-  pat-must.Post,
-  eat-name-star-reads.Asked,
-  eat-name-star-reads.Learnt,
-  ty-annotation-reads.Asked,
-  ty-annotation-reads.Learnt,
-  as-pat-tl-below t,
-  as-pat-tl.Post,
-) (row-at t) row.Post
+row-returns-4 : (t : ℕ) → row-lts.Need-returns-4 (row-told t) (row-at t) row.Post
 unfolding pat.patRow plan choose chosen
 row-returns-4 t c =
-    let falls = c .before .before .before .before .before .before .before .before .before .before .before .before .before .before .before .before .before .before .before .before .before .before .before .before .before .before .before .before .before .before .before .before .before .before .before .before .before .before .before .before .pre .0 in
     let pre0 = c .before .before .before .before .before .before .before .before .before .before .before .before .before .before .before .before .before .before .before .before .before .before .before .before .before .before .before .before .before .before .before .before .before .before .before .before .before .before .before .before .pre .1 in
     let if1 = c .before .before .before .before .before .before .before .before .before .before .before .before .before .before .before .before .before .before .before .before .before .before .before .before .before .before .before .before .before .before .before .before .before .if1 .left in
     let mark = c .before .before .before .before .before .before .before .before .before .before .before .before .before .before .before .before .before .before .before .before .before .before .before .before .before .before .before .before .before .before .before .before .mark .ensures in
@@ -7530,98 +2968,32 @@ row-returns-4 t c =
     let as-pat-tl = c .before .before .before .before .before .before .before .before .before .as-pat-tl .ensures in
     let state4 = c .before .before .before .before .state4 .ensures in
     let close3 = c .before .before .close3 .ensures in
-    by-steps pre0 (λ b. s-mark if1 mark (s-kind (s-false _ _ (kind-off _ _ _ _ at if2) (s-kind (s-false _ _ (kind-off _ _ _ _ at-n if3) (s-by _ (settled state2 (runs-always eat-name-star)) (s-by _ (settled state3 (runs-in ty-annotation)) (s-by _ (settled state4 (runs-in as-pat-tl)) (s-close close3 s-end)))))))))
+    by-steps pre0 (λ b. s-mark if1 mark (s-kind (s-false _ _ (kind-off _ _ _ _ at if2) (s-kind (s-false _ _ (kind-off _ _ _ _ at-n if3) (s-eats _ _ _ (eats-settled state2 eat-name-star) (s-by _ (settled state3 (runs-in ty-annotation)) (s-by _ (settled state4 (runs-in as-pat-tl)) (s-close close3 s-end)))))))))
 
-row-item-refuse-requires : (t : ℕ) → row-item-lts.Need-refuse-requires (
-  refuse-reads.Asked,
-  refuse-reads.Learnt,
-  mark-reads.Asked,
-  mark-reads.Learnt,
-  row-below t,
-  row.Post,
-  at-reads.Asked,
-  at-reads.Learnt,
-  bump-reads.Asked,
-  bump-reads.Learnt,
-  close-reads.Asked,
-  close-reads.Learnt,
-) (row-item-at t) row-item.Post
+row-item-refuse-requires : (t : ℕ) → row-item-lts.Need-refuse-requires (row-item-told t) (row-item-at t) row-item.Post
 row-item-refuse-requires t c κs =
     tt
 
-row-item-returns : (t : ℕ) → row-item-lts.Need-returns (
-  refuse-reads.Asked,
-  refuse-reads.Learnt,
-  mark-reads.Asked,
-  mark-reads.Learnt,
-  row-below t,
-  row.Post,
-  at-reads.Asked,
-  at-reads.Learnt,
-  bump-reads.Asked,
-  bump-reads.Learnt,
-  close-reads.Asked,
-  close-reads.Learnt,
-) (row-item-at t) row-item.Post
+row-item-returns : (t : ℕ) → row-item-lts.Need-returns (row-item-told t) (row-item-at t) row-item.Post
 unfolding util.endItem plan choose chosen
 row-item-returns t c =
-    let falls = c .before .before .before .before .before .before .before .before .pre .0 in
     let pre0 = c .before .before .before .before .before .before .before .before .pre .1 in
     let if1 = c .before .if1 .taken in
     let refuse = c .refuse .ensures in
     by-steps pre0 (λ b. s-deep if1 refuse s-end)
 
-row-item-mark-requires : (t : ℕ) → row-item-lts.Need-mark-requires (
-  refuse-reads.Asked,
-  refuse-reads.Learnt,
-  mark-reads.Asked,
-  mark-reads.Learnt,
-  row-below t,
-  row.Post,
-  at-reads.Asked,
-  at-reads.Learnt,
-  bump-reads.Asked,
-  bump-reads.Learnt,
-  close-reads.Asked,
-  close-reads.Learnt,
-) (row-item-at t) row-item.Post
+row-item-mark-requires : (t : ℕ) → row-item-lts.Need-mark-requires (row-item-told t) (row-item-at t) row-item.Post
 row-item-mark-requires t c κs =
     tt
 
-row-item-sub-row : (t : ℕ) → row-item-lts.Need-sub-row (
-  refuse-reads.Asked,
-  refuse-reads.Learnt,
-  mark-reads.Asked,
-  mark-reads.Learnt,
-  row-below t,
-  row.Post,
-  at-reads.Asked,
-  at-reads.Learnt,
-  bump-reads.Asked,
-  bump-reads.Learnt,
-  close-reads.Asked,
-  close-reads.Learnt,
-) (row-item-at t) row-item.Post
+row-item-sub-row : (t : ℕ) → row-item-lts.Need-sub-row (row-item-told t) (row-item-at t) row-item.Post
 row-item-sub-row t c =
     let falls = c .before .before .before .before .before .before .before .before .before .before .pre .0 in
     let pre0 = c .before .before .before .before .before .before .before .before .before .before .pre .1 in
     let if1 = c .before .before .before .if1 .left in
     search needs
 
-row-item-row-requires : (t : ℕ) → row-item-lts.Need-row-requires (
-  refuse-reads.Asked,
-  refuse-reads.Learnt,
-  mark-reads.Asked,
-  mark-reads.Learnt,
-  row-below t,
-  row.Post,
-  at-reads.Asked,
-  at-reads.Learnt,
-  bump-reads.Asked,
-  bump-reads.Learnt,
-  close-reads.Asked,
-  close-reads.Learnt,
-) (row-item-at t) row-item.Post
+row-item-row-requires : (t : ℕ) → row-item-lts.Need-row-requires (row-item-told t) (row-item-at t) row-item.Post
 row-item-row-requires t c κs =
     let falls = c .before .before .before .before .before .before .before .before .before .before .pre .0 in
     let pre0 = c .before .before .before .before .before .before .before .before .before .before .pre .1 in
@@ -7630,58 +3002,19 @@ row-item-row-requires t c κs =
     let mark-ok = ok-marks mark pre0 in
     (omega arith, mark-ok)
 
-row-item-at-requires : (t : ℕ) → row-item-lts.Need-at-requires (
-  refuse-reads.Asked,
-  refuse-reads.Learnt,
-  mark-reads.Asked,
-  mark-reads.Learnt,
-  row-below t,
-  row.Post,
-  at-reads.Asked,
-  at-reads.Learnt,
-  bump-reads.Asked,
-  bump-reads.Learnt,
-  close-reads.Asked,
-  close-reads.Learnt,
-) (row-item-at t) row-item.Post
+row-item-at-requires : (t : ℕ) → row-item-lts.Need-at-requires (row-item-told t) (row-item-at t) row-item.Post
 row-item-at-requires t c κs =
     let row = c .before .before .before .before .row .ensures in
     let row-ok = row .ok in
     row-ok .reads
 
-row-item-bump-requires : (t : ℕ) → row-item-lts.Need-bump-requires (
-  refuse-reads.Asked,
-  refuse-reads.Learnt,
-  mark-reads.Asked,
-  mark-reads.Learnt,
-  row-below t,
-  row.Post,
-  at-reads.Asked,
-  at-reads.Learnt,
-  bump-reads.Asked,
-  bump-reads.Learnt,
-  close-reads.Asked,
-  close-reads.Learnt,
-) (row-item-at t) row-item.Post
+row-item-bump-requires : (t : ℕ) → row-item-lts.Need-bump-requires (row-item-told t) (row-item-at t) row-item.Post
 row-item-bump-requires t c κs =
     let row = c .before .before .before .before .before .before .before .row .ensures in
     let row-ok = row .ok in
     (row-ok .reads, row-ok .logs)
 
-row-item-close-requires : (t : ℕ) → row-item-lts.Need-close-requires (
-  refuse-reads.Asked,
-  refuse-reads.Learnt,
-  mark-reads.Asked,
-  mark-reads.Learnt,
-  row-below t,
-  row.Post,
-  at-reads.Asked,
-  at-reads.Learnt,
-  bump-reads.Asked,
-  bump-reads.Learnt,
-  close-reads.Asked,
-  close-reads.Learnt,
-) (row-item-at t) row-item.Post
+row-item-close-requires : (t : ℕ) → row-item-lts.Need-close-requires (row-item-told t) (row-item-at t) row-item.Post
 row-item-close-requires t c κs =
     let pre0 = c .before .before .before .before .before .before .before .before .before .before .before .before .before .before .before .before .before .before .before .before .before .before .pre .1 in
     let mark = c .before .before .before .before .before .before .before .before .before .before .before .before .before .before .mark .ensures in
@@ -7692,57 +3025,17 @@ row-item-close-requires t c κs =
     let bump-ok = ok-bumps bump row-ok in
     (bump-ok .logs, small-len mark-ok)
 
-row-item-same-length : (t : ℕ) → row-item-lts.Need-same-length (
-  refuse-reads.Asked,
-  refuse-reads.Learnt,
-  mark-reads.Asked,
-  mark-reads.Learnt,
-  row-below t,
-  row.Post,
-  at-reads.Asked,
-  at-reads.Learnt,
-  bump-reads.Asked,
-  bump-reads.Learnt,
-  close-reads.Asked,
-  close-reads.Learnt,
-) (row-item-at t) row-item.Post
+row-item-same-length : (t : ℕ) → row-item-lts.Need-same-length (row-item-told t) (row-item-at t) row-item.Post
 row-item-same-length t c =
     c .before .before .close .kept .0 ∙ c .before .before .before .before .before .before .bump .kept .1 .0 ∙ c .before .before .before .before .before .before .before .before .before .before .before .before .before .before .row .kept .1 .1 .1 .1 .0
 
-row-item-same-length-2 : (t : ℕ) → row-item-lts.Need-same-length-2 (
-  refuse-reads.Asked,
-  refuse-reads.Learnt,
-  mark-reads.Asked,
-  mark-reads.Learnt,
-  row-below t,
-  row.Post,
-  at-reads.Asked,
-  at-reads.Learnt,
-  bump-reads.Asked,
-  bump-reads.Learnt,
-  close-reads.Asked,
-  close-reads.Learnt,
-) (row-item-at t) row-item.Post
+row-item-same-length-2 : (t : ℕ) → row-item-lts.Need-same-length-2 (row-item-told t) (row-item-at t) row-item.Post
 row-item-same-length-2 t c =
     c .before .before .before .before .before .before .before .before .before .before .before .before .before .before .row .kept .1 .1 .1 .1 .1 .0
 
-row-item-returns-2 : (t : ℕ) → row-item-lts.Need-returns-2 (
-  refuse-reads.Asked,
-  refuse-reads.Learnt,
-  mark-reads.Asked,
-  mark-reads.Learnt,
-  row-below t,
-  row.Post,
-  at-reads.Asked,
-  at-reads.Learnt,
-  bump-reads.Asked,
-  bump-reads.Learnt,
-  close-reads.Asked,
-  close-reads.Learnt,
-) (row-item-at t) row-item.Post
+row-item-returns-2 : (t : ℕ) → row-item-lts.Need-returns-2 (row-item-told t) (row-item-at t) row-item.Post
 unfolding util.endItem plan choose chosen
 row-item-returns-2 t c =
-    let falls = c .before .before .before .before .before .before .before .before .before .before .before .before .before .before .before .before .before .before .before .before .before .before .before .before .before .pre .0 in
     let pre0 = c .before .before .before .before .before .before .before .before .before .before .before .before .before .before .before .before .before .before .before .before .before .before .before .before .before .pre .1 in
     let if1 = c .before .before .before .before .before .before .before .before .before .before .before .before .before .before .before .before .before .before .if1 .left in
     let mark = c .before .before .before .before .before .before .before .before .before .before .before .before .before .before .before .before .before .mark .ensures in
@@ -7753,20 +3046,7 @@ row-item-returns-2 t c =
     let close = c .before .before .close .ensures in
     by-steps pre0 (λ b. s-mark if1 mark (s-by _ (runs-in row) (s-kind (s-true _ _ (kind-at _ _ _ _ at if2) (s-bump bump (s-close close s-end))))))
 
-row-item-close-requires-2 : (t : ℕ) → row-item-lts.Need-close-requires-2 (
-  refuse-reads.Asked,
-  refuse-reads.Learnt,
-  mark-reads.Asked,
-  mark-reads.Learnt,
-  row-below t,
-  row.Post,
-  at-reads.Asked,
-  at-reads.Learnt,
-  bump-reads.Asked,
-  bump-reads.Learnt,
-  close-reads.Asked,
-  close-reads.Learnt,
-) (row-item-at t) row-item.Post
+row-item-close-requires-2 : (t : ℕ) → row-item-lts.Need-close-requires-2 (row-item-told t) (row-item-at t) row-item.Post
 row-item-close-requires-2 t c κs =
     let pre0 = c .before .before .before .before .before .before .before .before .before .before .before .before .before .before .before .before .before .before .pre .1 in
     let mark = c .before .before .before .before .before .before .before .before .before .before .mark .ensures in
@@ -7775,57 +3055,17 @@ row-item-close-requires-2 t c κs =
     let row-ok = row .ok in
     (row-ok .logs, small-len mark-ok)
 
-row-item-same-length-3 : (t : ℕ) → row-item-lts.Need-same-length-3 (
-  refuse-reads.Asked,
-  refuse-reads.Learnt,
-  mark-reads.Asked,
-  mark-reads.Learnt,
-  row-below t,
-  row.Post,
-  at-reads.Asked,
-  at-reads.Learnt,
-  bump-reads.Asked,
-  bump-reads.Learnt,
-  close-reads.Asked,
-  close-reads.Learnt,
-) (row-item-at t) row-item.Post
+row-item-same-length-3 : (t : ℕ) → row-item-lts.Need-same-length-3 (row-item-told t) (row-item-at t) row-item.Post
 row-item-same-length-3 t c =
     c .before .before .close2 .kept .0 ∙ c .before .before .before .before .before .before .before .before .before .before .row .kept .1 .1 .1 .1 .0
 
-row-item-same-length-4 : (t : ℕ) → row-item-lts.Need-same-length-4 (
-  refuse-reads.Asked,
-  refuse-reads.Learnt,
-  mark-reads.Asked,
-  mark-reads.Learnt,
-  row-below t,
-  row.Post,
-  at-reads.Asked,
-  at-reads.Learnt,
-  bump-reads.Asked,
-  bump-reads.Learnt,
-  close-reads.Asked,
-  close-reads.Learnt,
-) (row-item-at t) row-item.Post
+row-item-same-length-4 : (t : ℕ) → row-item-lts.Need-same-length-4 (row-item-told t) (row-item-at t) row-item.Post
 row-item-same-length-4 t c =
     c .before .before .before .before .before .before .before .before .before .before .row .kept .1 .1 .1 .1 .1 .0
 
-row-item-returns-3 : (t : ℕ) → row-item-lts.Need-returns-3 (
-  refuse-reads.Asked,
-  refuse-reads.Learnt,
-  mark-reads.Asked,
-  mark-reads.Learnt,
-  row-below t,
-  row.Post,
-  at-reads.Asked,
-  at-reads.Learnt,
-  bump-reads.Asked,
-  bump-reads.Learnt,
-  close-reads.Asked,
-  close-reads.Learnt,
-) (row-item-at t) row-item.Post
+row-item-returns-3 : (t : ℕ) → row-item-lts.Need-returns-3 (row-item-told t) (row-item-at t) row-item.Post
 unfolding util.endItem plan choose chosen
 row-item-returns-3 t c =
-    let falls = c .before .before .before .before .before .before .before .before .before .before .before .before .before .before .before .before .before .before .before .before .before .pre .0 in
     let pre0 = c .before .before .before .before .before .before .before .before .before .before .before .before .before .before .before .before .before .before .before .before .before .pre .1 in
     let if1 = c .before .before .before .before .before .before .before .before .before .before .before .before .before .before .if1 .left in
     let mark = c .before .before .before .before .before .before .before .before .before .before .before .before .before .mark .ensures in
@@ -7835,266 +3075,98 @@ row-item-returns-3 t c =
     let close2 = c .before .before .close2 .ensures in
     by-steps pre0 (λ b. s-mark if1 mark (s-by _ (runs-in row) (s-kind (s-false _ _ (kind-off _ _ _ _ at if2) (s-close close2 s-end)))))
 
-row-turn-at-requires : (t : ℕ) → row-turn-lts.Need-at-requires (
-  at-reads.Asked,
-  at-reads.Learnt,
-  bump-reads.Asked,
-  bump-reads.Learnt,
-  row-item-below t,
-  row-item.Post,
-  eat-reads.Asked,
-  eat-reads.Learnt,
-  state-reads.Asked,
-  state-reads.Learnt,
-) (row-turn-at t) row-turn.Post
+row-turn-at-requires : (t : ℕ) → row-turn-lts.Need-at-requires (row-turn-told t) (row-turn-at t) row-turn.Post
 row-turn-at-requires t c κs =
     let pre0 = c .before .before .before .before .before .before .pre .1 in
     pre0 .reads
 
-row-turn-bump-requires : (t : ℕ) → row-turn-lts.Need-bump-requires (
-  at-reads.Asked,
-  at-reads.Learnt,
-  bump-reads.Asked,
-  bump-reads.Learnt,
-  row-item-below t,
-  row-item.Post,
-  eat-reads.Asked,
-  eat-reads.Learnt,
-  state-reads.Asked,
-  state-reads.Learnt,
-) (row-turn-at t) row-turn.Post
+row-turn-bump-requires : (t : ℕ) → row-turn-lts.Need-bump-requires (row-turn-told t) (row-turn-at t) row-turn.Post
 row-turn-bump-requires t c κs =
     let pre0 = c .before .before .before .before .before .before .before .before .before .pre .1 in
     (pre0 .reads, pre0 .logs)
 
-row-turn-same-length : (t : ℕ) → row-turn-lts.Need-same-length (
-  at-reads.Asked,
-  at-reads.Learnt,
-  bump-reads.Asked,
-  bump-reads.Learnt,
-  row-item-below t,
-  row-item.Post,
-  eat-reads.Asked,
-  eat-reads.Learnt,
-  state-reads.Asked,
-  state-reads.Learnt,
-) (row-turn-at t) row-turn.Post
+row-turn-same-length : (t : ℕ) → row-turn-lts.Need-same-length (row-turn-told t) (row-turn-at t) row-turn.Post
 row-turn-same-length t c =
     c .before .before .bump .kept .1 .0
 
-row-turn-returns : (t : ℕ) → row-turn-lts.Need-returns (
-  at-reads.Asked,
-  at-reads.Learnt,
-  bump-reads.Asked,
-  bump-reads.Learnt,
-  row-item-below t,
-  row-item.Post,
-  eat-reads.Asked,
-  eat-reads.Learnt,
-  state-reads.Asked,
-  state-reads.Learnt,
-) (row-turn-at t) row-turn.Post
+row-turn-returns : (t : ℕ) → row-turn-lts.Need-returns (row-turn-told t) (row-turn-at t) row-turn.Post
 unfolding util.endTurn plan choose chosen
 row-turn-returns t c =
-    let falls = c .before .before .before .before .before .before .before .before .before .before .before .before .pre .0 in
     let pre0 = c .before .before .before .before .before .before .before .before .before .before .before .before .pre .1 in
     let at = c .before .before .before .before .before .at .ensures in
     let if1 = c .before .before .before .before .if1 .taken in
     let bump = c .before .before .bump .ensures in
     by-steps pre0 (λ b. s-kind (s-true _ _ (kind-at _ _ _ _ at if1) (s-bump bump s-end)))
 
-row-turn-row-item-requires : (t : ℕ) → row-turn-lts.Need-row-item-requires (
-  at-reads.Asked,
-  at-reads.Learnt,
-  bump-reads.Asked,
-  bump-reads.Learnt,
-  row-item-below t,
-  row-item.Post,
-  eat-reads.Asked,
-  eat-reads.Learnt,
-  state-reads.Asked,
-  state-reads.Learnt,
-) (row-turn-at t) row-turn.Post
+row-turn-row-item-requires : (t : ℕ) → row-turn-lts.Need-row-item-requires (row-turn-told t) (row-turn-at t) row-turn.Post
 row-turn-row-item-requires t c κs =
     let falls = c .before .before .before .before .before .before .before .before .before .before .pre .0 in
     let pre0 = c .before .before .before .before .before .before .before .before .before .before .pre .1 in
     let if1 = c .before .before .if1 .left in
     (omega arith, pre0)
 
-row-turn-enum-known-item : (t : ℕ) → row-turn-lts.Need-enum-known-item (
-  at-reads.Asked,
-  at-reads.Learnt,
-  bump-reads.Asked,
-  bump-reads.Learnt,
-  row-item-below t,
-  row-item.Post,
-  eat-reads.Asked,
-  eat-reads.Learnt,
-  state-reads.Asked,
-  state-reads.Learnt,
-) (row-turn-at t) row-turn.Post
+row-turn-enum-known-item : (t : ℕ) → row-turn-lts.Need-enum-known-item (row-turn-told t) (row-turn-at t) row-turn.Post
 row-turn-enum-known-item t c =
     let falls = c .before .before .before .before .before .before .before .before .before .before .before .before .before .before .before .before .pre .0 in
     let pre0 = c .before .before .before .before .before .before .before .before .before .before .before .before .before .before .before .before .pre .1 in
     let if1 = c .before .before .before .before .before .before .before .before .if1 .left in
     search needs
 
-row-turn-enum-known-item-2 : (t : ℕ) → row-turn-lts.Need-enum-known-item-2 (
-  at-reads.Asked,
-  at-reads.Learnt,
-  bump-reads.Asked,
-  bump-reads.Learnt,
-  row-item-below t,
-  row-item.Post,
-  eat-reads.Asked,
-  eat-reads.Learnt,
-  state-reads.Asked,
-  state-reads.Learnt,
-) (row-turn-at t) row-turn.Post
+row-turn-enum-known-item-2 : (t : ℕ) → row-turn-lts.Need-enum-known-item-2 (row-turn-told t) (row-turn-at t) row-turn.Post
 row-turn-enum-known-item-2 t c =
     let falls = c .before .before .before .before .before .before .before .before .before .before .before .before .before .before .before .before .pre .0 in
     let pre0 = c .before .before .before .before .before .before .before .before .before .before .before .before .before .before .before .before .pre .1 in
     let if1 = c .before .before .before .before .before .before .before .before .if1 .left in
     search needs
 
-row-turn-eat-requires : (t : ℕ) → row-turn-lts.Need-eat-requires (
-  at-reads.Asked,
-  at-reads.Learnt,
-  bump-reads.Asked,
-  bump-reads.Learnt,
-  row-item-below t,
-  row-item.Post,
-  eat-reads.Asked,
-  eat-reads.Learnt,
-  state-reads.Asked,
-  state-reads.Learnt,
-) (row-turn-at t) row-turn.Post
+row-turn-eat-requires : (t : ℕ) → row-turn-lts.Need-eat-requires (row-turn-told t) (row-turn-at t) row-turn.Post
 row-turn-eat-requires t c κs =
     let falls = c .before .before .before .before .before .before .before .before .before .before .before .before .before .before .before .before .before .before .before .before .pre .0 in
     let at = c .before .before .before .before .before .before .before .before .before .before .before .before .before .at .ensures in
     let if1 = c .before .before .before .before .before .before .before .before .before .before .before .before .if1 .left in
     let row-item = rw (c .before .before .before .item2 .given .1) at (c .before .before .before .before .before .before .before .before .before .row-item .ensures) in
     let row-item-ok = row-item .ok in
-    (row-item-ok, omega arith)
+    (row-item-ok .reads, row-item-ok .logs, row-item-ok .holds, omega arith)
 
-row-turn-state-requires : (t : ℕ) → row-turn-lts.Need-state-requires (
-  at-reads.Asked,
-  at-reads.Learnt,
-  bump-reads.Asked,
-  bump-reads.Learnt,
-  row-item-below t,
-  row-item.Post,
-  eat-reads.Asked,
-  eat-reads.Learnt,
-  state-reads.Asked,
-  state-reads.Learnt,
-) (row-turn-at t) row-turn.Post
+row-turn-state-requires : (t : ℕ) → row-turn-lts.Need-state-requires (row-turn-told t) (row-turn-at t) row-turn.Post
 row-turn-state-requires t c κs =
     tt
 
-row-turn-same-length-2 : (t : ℕ) → row-turn-lts.Need-same-length-2 (
-  at-reads.Asked,
-  at-reads.Learnt,
-  bump-reads.Asked,
-  bump-reads.Learnt,
-  row-item-below t,
-  row-item.Post,
-  eat-reads.Asked,
-  eat-reads.Learnt,
-  state-reads.Asked,
-  state-reads.Learnt,
-) (row-turn-at t) row-turn.Post
+row-turn-same-length-2 : (t : ℕ) → row-turn-lts.Need-same-length-2 (row-turn-told t) (row-turn-at t) row-turn.Post
 row-turn-same-length-2 t c =
     c .before .before .before .before .before .before .before .row-item .kept .1 .1 .1 .1 .0
 
-row-turn-same-length-3 : (t : ℕ) → row-turn-lts.Need-same-length-3 (
-  at-reads.Asked,
-  at-reads.Learnt,
-  bump-reads.Asked,
-  bump-reads.Learnt,
-  row-item-below t,
-  row-item.Post,
-  eat-reads.Asked,
-  eat-reads.Learnt,
-  state-reads.Asked,
-  state-reads.Learnt,
-) (row-turn-at t) row-turn.Post
+row-turn-same-length-3 : (t : ℕ) → row-turn-lts.Need-same-length-3 (row-turn-told t) (row-turn-at t) row-turn.Post
 row-turn-same-length-3 t c =
     c .before .before .before .before .before .before .before .row-item .kept .1 .1 .1 .1 .1 .0
 
-row-turn-returns-2 : (t : ℕ) → row-turn-lts.Need-returns-2 (
-  at-reads.Asked,
-  at-reads.Learnt,
-  bump-reads.Asked,
-  bump-reads.Learnt,
-  row-item-below t,
-  row-item.Post,
-  eat-reads.Asked,
-  eat-reads.Learnt,
-  state-reads.Asked,
-  state-reads.Learnt,
-) (row-turn-at t) row-turn.Post
+row-turn-returns-2 : (t : ℕ) → row-turn-lts.Need-returns-2 (row-turn-told t) (row-turn-at t) row-turn.Post
 unfolding util.endTurn plan choose chosen
 row-turn-returns-2 t c =
-    let falls = c .before .before .before .before .before .before .before .before .before .before .before .before .before .before .before .before .before .before .pre .0 in
     let pre0 = c .before .before .before .before .before .before .before .before .before .before .before .before .before .before .before .before .before .before .pre .1 in
     let at = c .before .before .before .before .before .before .before .before .before .before .before .at .ensures in
     let if1 = c .before .before .before .before .before .before .before .before .before .before .if1 .left in
     let row-item = rw (c .before .item .given .1) at (c .before .before .before .before .before .before .before .row-item .ensures) in
     by-steps pre0 (λ b. s-kind (s-false _ _ (kind-off _ _ _ _ at if1) (s-by _ (runs-in row-item) s-end)))
 
-row-turn-same-length-4 : (t : ℕ) → row-turn-lts.Need-same-length-4 (
-  at-reads.Asked,
-  at-reads.Learnt,
-  bump-reads.Asked,
-  bump-reads.Learnt,
-  row-item-below t,
-  row-item.Post,
-  eat-reads.Asked,
-  eat-reads.Learnt,
-  state-reads.Asked,
-  state-reads.Learnt,
-) (row-turn-at t) row-turn.Post
+row-turn-same-length-4 : (t : ℕ) → row-turn-lts.Need-same-length-4 (row-turn-told t) (row-turn-at t) row-turn.Post
 row-turn-same-length-4 t c =
-    c .before .before .before .before .before .eat .kept .1 .1 .1 .1 .0 ∙ c .before .before .before .before .before .before .before .before .before .before .before .before .before .before .before .row-item .kept .1 .1 .1 .1 .0
+    c .before .before .before .before .before .eat .kept .1 .0 ∙ c .before .before .before .before .before .before .before .before .before .before .before .before .before .before .before .row-item .kept .1 .1 .1 .1 .0
 
-row-turn-same-length-5 : (t : ℕ) → row-turn-lts.Need-same-length-5 (
-  at-reads.Asked,
-  at-reads.Learnt,
-  bump-reads.Asked,
-  bump-reads.Learnt,
-  row-item-below t,
-  row-item.Post,
-  eat-reads.Asked,
-  eat-reads.Learnt,
-  state-reads.Asked,
-  state-reads.Learnt,
-) (row-turn-at t) row-turn.Post
+row-turn-same-length-5 : (t : ℕ) → row-turn-lts.Need-same-length-5 (row-turn-told t) (row-turn-at t) row-turn.Post
 row-turn-same-length-5 t c =
-    c .before .before .before .before .before .eat .kept .1 .1 .1 .1 .1 .0 ∙ c .before .before .before .before .before .before .before .before .before .before .before .before .before .before .before .row-item .kept .1 .1 .1 .1 .1 .0
+    c .before .before .before .before .before .eat .kept .1 .1 .0 ∙ c .before .before .before .before .before .before .before .before .before .before .before .before .before .before .before .row-item .kept .1 .1 .1 .1 .1 .0
 
-row-turn-returns-3 : (t : ℕ) → row-turn-lts.Need-returns-3 (
-  at-reads.Asked,
-  at-reads.Learnt,
-  bump-reads.Asked,
-  bump-reads.Learnt,
-  row-item-below t,
-  row-item.Post,
-  eat-reads.Asked,
-  eat-reads.Learnt,
-  state-reads.Asked,
-  state-reads.Learnt,
-) (row-turn-at t) row-turn.Post
+row-turn-returns-3 : (t : ℕ) → row-turn-lts.Need-returns-3 (row-turn-told t) (row-turn-at t) row-turn.Post
 unfolding util.endTurn plan choose chosen
 row-turn-returns-3 t c =
-    let falls = c .before .before .before .before .before .before .before .before .before .before .before .before .before .before .before .before .before .before .before .before .before .before .before .before .before .before .pre .0 in
     let pre0 = c .before .before .before .before .before .before .before .before .before .before .before .before .before .before .before .before .before .before .before .before .before .before .before .before .before .before .pre .1 in
     let at = c .before .before .before .before .before .before .before .before .before .before .before .before .before .before .before .before .before .before .before .at .ensures in
     let if1 = c .before .before .before .before .before .before .before .before .before .before .before .before .before .before .before .before .before .before .if1 .left in
     let row-item = rw (c .before .before .before .before .before .before .before .before .before .item2 .given .1) at (c .before .before .before .before .before .before .before .before .before .before .before .before .before .before .before .row-item .ensures) in
     let eat = c .before .before .before .before .before .eat .ensures in
     let state = c .state .ensures in
-    by-steps pre0 (λ b. s-kind (s-false _ _ (kind-off _ _ _ _ at if1) (s-by _ (runs-in row-item) (s-by _ (settled state (runs-always eat)) s-end))))
+    by-steps pre0 (λ b. s-kind (s-false _ _ (kind-off _ _ _ _ at if1) (s-by _ (runs-in row-item) (s-eats _ _ _ (eats-settled state eat) s-end))))
 
 abbrev rows-Inv-loop : rows-lts.InvT-loop
 rows-Inv-loop text toks env table scratch₀ finds₀ left e b s1₀ scratch finds s1 =
@@ -8105,10 +3177,7 @@ rows-μ-loop text toks env table scratch₀ finds₀ left e b s1₀ scratch find
 
 rows-loop-holds :
     (t : ℕ) →
-    rows-lts.Need-loop-holds
-    (row-turn-below t, row-turn.Post)
-    (rows-at t)
-    rows.Post
+    rows-lts.Need-loop-holds (rows-told t) (rows-at t) rows.Post
     rows-Inv-loop
     rows-μ-loop
 rows-loop-holds t c =
@@ -8116,10 +3185,7 @@ rows-loop-holds t c =
     let pre0 = c .before .before .before .before .before .before .pre .1 in
     (loop-starts pre0, refl, refl)
 
-rows-row-turn-requires : (t : ℕ) → rows-lts.Need-row-turn-requires (
-  row-turn-below t,
-  row-turn.Post,
-) (rows-at t) rows.Post rows-Inv-loop rows-μ-loop
+rows-row-turn-requires : (t : ℕ) → rows-lts.Need-row-turn-requires (rows-told t) (rows-at t) rows.Post rows-Inv-loop rows-μ-loop
 rows-row-turn-requires t c κs =
     let falls = c .before .before .before .before .before .before .before .before .before .pre .0 in
     let inv = c .before .before .loop .inv .0 .ok in
@@ -8127,10 +3193,7 @@ rows-row-turn-requires t c κs =
 
 rows-enum-known-turn :
     (t : ℕ) →
-    rows-lts.Need-enum-known-turn
-    (row-turn-below t, row-turn.Post)
-    (rows-at t)
-    rows.Post
+    rows-lts.Need-enum-known-turn (rows-told t) (rows-at t) rows.Post
     rows-Inv-loop
     rows-μ-loop
 rows-enum-known-turn t c =
@@ -8140,10 +3203,7 @@ rows-enum-known-turn t c =
 
 rows-loop-less :
     (t : ℕ) →
-    rows-lts.Need-loop-less
-    (row-turn-below t, row-turn.Post)
-    (rows-at t)
-    rows.Post
+    rows-lts.Need-loop-less (rows-told t) (rows-at t) rows.Post
     rows-Inv-loop
     rows-μ-loop
 rows-loop-less t c =
@@ -8152,10 +3212,7 @@ rows-loop-less t c =
 
 rows-loop-again :
     (t : ℕ) →
-    rows-lts.Need-loop-again
-    (row-turn-below t, row-turn.Post)
-    (rows-at t)
-    rows.Post
+    rows-lts.Need-loop-again (rows-told t) (rows-at t) rows.Post
     rows-Inv-loop
     rows-μ-loop
 rows-loop-again t c =
@@ -8163,10 +3220,7 @@ rows-loop-again t c =
     let row-turn = rw (c .before .turn .given .1) at (c .before .before .before .before .before .before .before .row-turn .ensures) in
     (loop-goes (end-turn-advances true _ _ _ _ _ _) inv (runs-in row-turn), c .before .before .before .before .before .before .before .row-turn .kept .1 .1 .1 .1 .0 ∙ c .before .before .before .before .before .before .before .before .before .before .loop .inv .1, c .before .before .before .before .before .before .before .row-turn .kept .1 .1 .1 .1 .1 .0 ∙ c .before .before .before .before .before .before .before .before .before .before .loop .inv .2)
 
-rows-enum-known-turn-2 : (t : ℕ) → rows-lts.Need-enum-known-turn-2 (
-  row-turn-below t,
-  row-turn.Post,
-) (rows-at t) rows.Post rows-Inv-loop rows-μ-loop
+rows-enum-known-turn-2 : (t : ℕ) → rows-lts.Need-enum-known-turn-2 (rows-told t) (rows-at t) rows.Post rows-Inv-loop rows-μ-loop
 rows-enum-known-turn-2 t c =
     let falls = c .before .before .before .before .before .before .before .before .before .before .before .before .before .before .before .pre .0 in
     let pre0 = c .before .before .before .before .before .before .before .before .before .before .before .before .before .before .before .pre .1 in
@@ -8174,10 +3228,7 @@ rows-enum-known-turn-2 t c =
 
 rows-same-length :
     (t : ℕ) →
-    rows-lts.Need-same-length
-    (row-turn-below t, row-turn.Post)
-    (rows-at t)
-    rows.Post
+    rows-lts.Need-same-length (rows-told t) (rows-at t) rows.Post
     rows-Inv-loop
     rows-μ-loop
 rows-same-length t c =
@@ -8185,10 +3236,7 @@ rows-same-length t c =
 
 rows-same-length-2 :
     (t : ℕ) →
-    rows-lts.Need-same-length-2
-    (row-turn-below t, row-turn.Post)
-    (rows-at t)
-    rows.Post
+    rows-lts.Need-same-length-2 (rows-told t) (rows-at t) rows.Post
     rows-Inv-loop
     rows-μ-loop
 rows-same-length-2 t c =
@@ -8196,10 +3244,7 @@ rows-same-length-2 t c =
 
 rows-returns :
     (t : ℕ) →
-    rows-lts.Need-returns
-    (row-turn-below t, row-turn.Post)
-    (rows-at t)
-    rows.Post
+    rows-lts.Need-returns (rows-told t) (rows-at t) rows.Post
     rows-Inv-loop
     rows-μ-loop
 rows-returns t c =
@@ -8207,129 +3252,37 @@ rows-returns t c =
     let row-turn = rw (c .before .turn2 .given .1) at (c .before .before .before .before .before .before .before .row-turn .ensures) in
     loop-ends (end-turn-advances true _ _ _ _ _ _) inv (runs-in row-turn)
 
-step-peek-requires : (t : ℕ) → step-lts.Need-peek-requires (
-  peek-reads.Asked,
-  peek-reads.Learnt,
-  name-star-reads.Asked,
-  name-star-reads.Learnt,
-  op-step-below t,
-  op-step.Post,
-  or-step-below t,
-  or-step.Post,
-  ascription-reads.Asked,
-  ascription-reads.Learnt,
-  typed-step-reads.Asked,
-  typed-step-reads.Learnt,
-  as-step-below t,
-  as-step.Post,
-) (step-at t) step.Post
+step-peek-requires : (t : ℕ) → step-lts.Need-peek-requires (step-told t) (step-at t) step.Post
 step-peek-requires t c κs =
     let pre0 = c .before .before .before .before .before .before .pre .1 .0 in
     pre0 .reads
 
-step-enum-known-k : (t : ℕ) → step-lts.Need-enum-known-k (
-  peek-reads.Asked,
-  peek-reads.Learnt,
-  name-star-reads.Asked,
-  name-star-reads.Learnt,
-  op-step-below t,
-  op-step.Post,
-  or-step-below t,
-  or-step.Post,
-  ascription-reads.Asked,
-  ascription-reads.Learnt,
-  typed-step-reads.Asked,
-  typed-step-reads.Learnt,
-  as-step-below t,
-  as-step.Post,
-) (step-at t) step.Post
+step-enum-known-k : (t : ℕ) → step-lts.Need-enum-known-k (step-told t) (step-at t) step.Post
 step-enum-known-k t c =
     let falls = c .before .before .before .before .before .before .before .before .pre .0 in
     let pre0 = c .before .before .before .before .before .before .before .before .pre .1 .0 in
     let pre1 = c .before .before .before .before .before .before .before .before .pre .1 .1 in
     search needs
 
-step-enum-told : (t : ℕ) → step-lts.Need-enum-told (
-  peek-reads.Asked,
-  peek-reads.Learnt,
-  name-star-reads.Asked,
-  name-star-reads.Learnt,
-  op-step-below t,
-  op-step.Post,
-  or-step-below t,
-  or-step.Post,
-  ascription-reads.Asked,
-  ascription-reads.Learnt,
-  typed-step-reads.Asked,
-  typed-step-reads.Learnt,
-  as-step-below t,
-  as-step.Post,
-) (step-at t) step.Post
+step-enum-told : (t : ℕ) → step-lts.Need-enum-told (step-told t) (step-at t) step.Post
 step-enum-told t c =
     let falls = c .before .before .before .before .before .before .before .before .pre .0 in
     let pre0 = c .before .before .before .before .before .before .before .before .pre .1 .0 in
     let pre1 = c .before .before .before .before .before .before .before .before .pre .1 .1 in
     search needs
 
-step-returns : (t : ℕ) → step-lts.Need-returns (
-  peek-reads.Asked,
-  peek-reads.Learnt,
-  name-star-reads.Asked,
-  name-star-reads.Learnt,
-  op-step-below t,
-  op-step.Post,
-  or-step-below t,
-  or-step.Post,
-  ascription-reads.Asked,
-  ascription-reads.Learnt,
-  typed-step-reads.Asked,
-  typed-step-reads.Learnt,
-  as-step-below t,
-  as-step.Post,
-) (step-at t) step.Post
+step-returns : (t : ℕ) → step-lts.Need-returns (step-told t) (step-at t) step.Post
 unfolding pat.patStep plan choose chosen
 step-returns t c =
-    let falls = c .before .before .before .before .before .before .before .before .before .pre .0 in
     let pre0 = c .before .before .before .before .before .before .before .before .before .pre .1 .0 in
-    let pre1 = c .before .before .before .before .before .before .before .before .before .pre .1 .1 in
     let peek = rw (c .enum-told .given .1) at (c .before .before .peek .ensures) in
     in-steps pre0 (s-look peek s-end)
 
-step-name-star-requires : (t : ℕ) → step-lts.Need-name-star-requires (
-  peek-reads.Asked,
-  peek-reads.Learnt,
-  name-star-reads.Asked,
-  name-star-reads.Learnt,
-  op-step-below t,
-  op-step.Post,
-  or-step-below t,
-  or-step.Post,
-  ascription-reads.Asked,
-  ascription-reads.Learnt,
-  typed-step-reads.Asked,
-  typed-step-reads.Learnt,
-  as-step-below t,
-  as-step.Post,
-) (step-at t) step.Post
+step-name-star-requires : (t : ℕ) → step-lts.Need-name-star-requires (step-told t) (step-at t) step.Post
 step-name-star-requires t c κs =
     tt
 
-step-op-step-requires : (t : ℕ) → step-lts.Need-op-step-requires (
-  peek-reads.Asked,
-  peek-reads.Learnt,
-  name-star-reads.Asked,
-  name-star-reads.Learnt,
-  op-step-below t,
-  op-step.Post,
-  or-step-below t,
-  or-step.Post,
-  ascription-reads.Asked,
-  ascription-reads.Learnt,
-  typed-step-reads.Asked,
-  typed-step-reads.Learnt,
-  as-step-below t,
-  as-step.Post,
-) (step-at t) step.Post
+step-op-step-requires : (t : ℕ) → step-lts.Need-op-step-requires (step-told t) (step-at t) step.Post
 step-op-step-requires t c κs =
     let falls = c .before .before .before .before .before .before .before .before .before .before .before .before .before .before .pre .0 in
     let pre0 = c .before .before .before .before .before .before .before .before .before .before .before .before .before .before .pre .1 .0 in
@@ -8337,87 +3290,25 @@ step-op-step-requires t c κs =
     let if1 = c .before .before .if1 .taken in
     (omega arith, (pre0, pre1))
 
-step-same-length : (t : ℕ) → step-lts.Need-same-length (
-  peek-reads.Asked,
-  peek-reads.Learnt,
-  name-star-reads.Asked,
-  name-star-reads.Learnt,
-  op-step-below t,
-  op-step.Post,
-  or-step-below t,
-  or-step.Post,
-  ascription-reads.Asked,
-  ascription-reads.Learnt,
-  typed-step-reads.Asked,
-  typed-step-reads.Learnt,
-  as-step-below t,
-  as-step.Post,
-) (step-at t) step.Post
+step-same-length : (t : ℕ) → step-lts.Need-same-length (step-told t) (step-at t) step.Post
 step-same-length t c =
     c .before .before .before .before .op-step .kept .1 .1 .1 .1 .0
 
-step-same-length-2 : (t : ℕ) → step-lts.Need-same-length-2 (
-  peek-reads.Asked,
-  peek-reads.Learnt,
-  name-star-reads.Asked,
-  name-star-reads.Learnt,
-  op-step-below t,
-  op-step.Post,
-  or-step-below t,
-  or-step.Post,
-  ascription-reads.Asked,
-  ascription-reads.Learnt,
-  typed-step-reads.Asked,
-  typed-step-reads.Learnt,
-  as-step-below t,
-  as-step.Post,
-) (step-at t) step.Post
+step-same-length-2 : (t : ℕ) → step-lts.Need-same-length-2 (step-told t) (step-at t) step.Post
 step-same-length-2 t c =
     c .before .before .before .before .op-step .kept .1 .1 .1 .1 .1 .0
 
-step-returns-2 : (t : ℕ) → step-lts.Need-returns-2 (
-  peek-reads.Asked,
-  peek-reads.Learnt,
-  name-star-reads.Asked,
-  name-star-reads.Learnt,
-  op-step-below t,
-  op-step.Post,
-  or-step-below t,
-  or-step.Post,
-  ascription-reads.Asked,
-  ascription-reads.Learnt,
-  typed-step-reads.Asked,
-  typed-step-reads.Learnt,
-  as-step-below t,
-  as-step.Post,
-) (step-at t) step.Post
+step-returns-2 : (t : ℕ) → step-lts.Need-returns-2 (step-told t) (step-at t) step.Post
 unfolding pat.patStep plan choose chosen
 step-returns-2 t c =
-    let falls = c .before .before .before .before .before .before .before .before .before .before .before .before .before .before .before .before .before .before .before .pre .0 in
     let pre0 = c .before .before .before .before .before .before .before .before .before .before .before .before .before .before .before .before .before .before .before .pre .1 .0 in
-    let pre1 = c .before .before .before .before .before .before .before .before .before .before .before .before .before .before .before .before .before .before .before .pre .1 .1 in
     let peek = rw (c .before .before .before .before .before .before .before .before .before .before .k .given .1) at (c .before .before .before .before .before .before .before .before .before .before .before .before .peek .ensures) in
     let name-star = c .before .before .before .before .before .before .before .before .name-star .ensures in
     let if1 = c .before .before .before .before .before .before .before .if1 .taken in
     let op-step = c .before .before .before .before .op-step .ensures in
     in-steps pre0 (s-look peek (s-true _ _ (test-true name-star if1) (s-by _ op-step s-end)))
 
-step-or-step-requires : (t : ℕ) → step-lts.Need-or-step-requires (
-  peek-reads.Asked,
-  peek-reads.Learnt,
-  name-star-reads.Asked,
-  name-star-reads.Learnt,
-  op-step-below t,
-  op-step.Post,
-  or-step-below t,
-  or-step.Post,
-  ascription-reads.Asked,
-  ascription-reads.Learnt,
-  typed-step-reads.Asked,
-  typed-step-reads.Learnt,
-  as-step-below t,
-  as-step.Post,
-) (step-at t) step.Post
+step-or-step-requires : (t : ℕ) → step-lts.Need-or-step-requires (step-told t) (step-at t) step.Post
 step-or-step-requires t c κs =
     let falls = c .before .before .before .before .before .before .before .before .before .before .before .before .before .before .before .pre .0 in
     let pre0 = c .before .before .before .before .before .before .before .before .before .before .before .before .before .before .before .pre .1 .0 in
@@ -8426,65 +3317,18 @@ step-or-step-requires t c κs =
     let if2 = c .before .before .if2 .taken in
     (omega arith, (pre0, pre1))
 
-step-same-length-3 : (t : ℕ) → step-lts.Need-same-length-3 (
-  peek-reads.Asked,
-  peek-reads.Learnt,
-  name-star-reads.Asked,
-  name-star-reads.Learnt,
-  op-step-below t,
-  op-step.Post,
-  or-step-below t,
-  or-step.Post,
-  ascription-reads.Asked,
-  ascription-reads.Learnt,
-  typed-step-reads.Asked,
-  typed-step-reads.Learnt,
-  as-step-below t,
-  as-step.Post,
-) (step-at t) step.Post
+step-same-length-3 : (t : ℕ) → step-lts.Need-same-length-3 (step-told t) (step-at t) step.Post
 step-same-length-3 t c =
     c .before .before .before .before .or-step .kept .1 .1 .1 .1 .0
 
-step-same-length-4 : (t : ℕ) → step-lts.Need-same-length-4 (
-  peek-reads.Asked,
-  peek-reads.Learnt,
-  name-star-reads.Asked,
-  name-star-reads.Learnt,
-  op-step-below t,
-  op-step.Post,
-  or-step-below t,
-  or-step.Post,
-  ascription-reads.Asked,
-  ascription-reads.Learnt,
-  typed-step-reads.Asked,
-  typed-step-reads.Learnt,
-  as-step-below t,
-  as-step.Post,
-) (step-at t) step.Post
+step-same-length-4 : (t : ℕ) → step-lts.Need-same-length-4 (step-told t) (step-at t) step.Post
 step-same-length-4 t c =
     c .before .before .before .before .or-step .kept .1 .1 .1 .1 .1 .0
 
-step-returns-3 : (t : ℕ) → step-lts.Need-returns-3 (
-  peek-reads.Asked,
-  peek-reads.Learnt,
-  name-star-reads.Asked,
-  name-star-reads.Learnt,
-  op-step-below t,
-  op-step.Post,
-  or-step-below t,
-  or-step.Post,
-  ascription-reads.Asked,
-  ascription-reads.Learnt,
-  typed-step-reads.Asked,
-  typed-step-reads.Learnt,
-  as-step-below t,
-  as-step.Post,
-) (step-at t) step.Post
+step-returns-3 : (t : ℕ) → step-lts.Need-returns-3 (step-told t) (step-at t) step.Post
 unfolding pat.patStep plan choose chosen
 step-returns-3 t c =
-    let falls = c .before .before .before .before .before .before .before .before .before .before .before .before .before .before .before .before .before .before .before .before .pre .0 in
     let pre0 = c .before .before .before .before .before .before .before .before .before .before .before .before .before .before .before .before .before .before .before .before .pre .1 .0 in
-    let pre1 = c .before .before .before .before .before .before .before .before .before .before .before .before .before .before .before .before .before .before .before .before .pre .1 .1 in
     let peek = rw (c .before .before .before .before .before .before .before .before .before .before .before .k .given .1) at (c .before .before .before .before .before .before .before .before .before .before .before .before .before .peek .ensures) in
     let name-star = c .before .before .before .before .before .before .before .before .before .name-star .ensures in
     let if1 = c .before .before .before .before .before .before .before .before .if1 .left in
@@ -8492,105 +3336,28 @@ step-returns-3 t c =
     let or-step = c .before .before .before .before .or-step .ensures in
     in-steps pre0 (s-look peek (s-false _ _ (test-false name-star if1) (s-true _ _ (kind-is if2) (s-by _ or-step s-end))))
 
-step-ascription-requires : (t : ℕ) → step-lts.Need-ascription-requires (
-  peek-reads.Asked,
-  peek-reads.Learnt,
-  name-star-reads.Asked,
-  name-star-reads.Learnt,
-  op-step-below t,
-  op-step.Post,
-  or-step-below t,
-  or-step.Post,
-  ascription-reads.Asked,
-  ascription-reads.Learnt,
-  typed-step-reads.Asked,
-  typed-step-reads.Learnt,
-  as-step-below t,
-  as-step.Post,
-) (step-at t) step.Post
+step-ascription-requires : (t : ℕ) → step-lts.Need-ascription-requires (step-told t) (step-at t) step.Post
 step-ascription-requires t c κs =
     tt
 
-step-typed-step-requires : (t : ℕ) → step-lts.Need-typed-step-requires (
-  peek-reads.Asked,
-  peek-reads.Learnt,
-  name-star-reads.Asked,
-  name-star-reads.Learnt,
-  op-step-below t,
-  op-step.Post,
-  or-step-below t,
-  or-step.Post,
-  ascription-reads.Asked,
-  ascription-reads.Learnt,
-  typed-step-reads.Asked,
-  typed-step-reads.Learnt,
-  as-step-below t,
-  as-step.Post,
-) (step-at t) step.Post
+step-typed-step-requires : (t : ℕ) → step-lts.Need-typed-step-requires (step-told t) (step-at t) step.Post
 step-typed-step-requires t c κs =
     let pre0 = c .before .before .before .before .before .before .before .before .before .before .before .before .before .before .before .before .before .pre .1 .0 in
     let pre1 = c .before .before .before .before .before .before .before .before .before .before .before .before .before .before .before .before .before .pre .1 .1 in
     (pre0, pre1)
 
-step-same-length-5 : (t : ℕ) → step-lts.Need-same-length-5 (
-  peek-reads.Asked,
-  peek-reads.Learnt,
-  name-star-reads.Asked,
-  name-star-reads.Learnt,
-  op-step-below t,
-  op-step.Post,
-  or-step-below t,
-  or-step.Post,
-  ascription-reads.Asked,
-  ascription-reads.Learnt,
-  typed-step-reads.Asked,
-  typed-step-reads.Learnt,
-  as-step-below t,
-  as-step.Post,
-) (step-at t) step.Post
+step-same-length-5 : (t : ℕ) → step-lts.Need-same-length-5 (step-told t) (step-at t) step.Post
 step-same-length-5 t c =
     c .before .before .before .before .typed-step .kept .1 .1 .1 .1 .0
 
-step-same-length-6 : (t : ℕ) → step-lts.Need-same-length-6 (
-  peek-reads.Asked,
-  peek-reads.Learnt,
-  name-star-reads.Asked,
-  name-star-reads.Learnt,
-  op-step-below t,
-  op-step.Post,
-  or-step-below t,
-  or-step.Post,
-  ascription-reads.Asked,
-  ascription-reads.Learnt,
-  typed-step-reads.Asked,
-  typed-step-reads.Learnt,
-  as-step-below t,
-  as-step.Post,
-) (step-at t) step.Post
+step-same-length-6 : (t : ℕ) → step-lts.Need-same-length-6 (step-told t) (step-at t) step.Post
 step-same-length-6 t c =
     c .before .before .before .before .typed-step .kept .1 .1 .1 .1 .1 .0
 
-step-returns-4 : (t : ℕ) → step-lts.Need-returns-4 (
-  peek-reads.Asked,
-  peek-reads.Learnt,
-  name-star-reads.Asked,
-  name-star-reads.Learnt,
-  op-step-below t,
-  op-step.Post,
-  or-step-below t,
-  or-step.Post,
-  ascription-reads.Asked,
-  ascription-reads.Learnt,
-  typed-step-reads.Asked,
-  typed-step-reads.Learnt,
-  as-step-below t,
-  as-step.Post,
-) (step-at t) step.Post
+step-returns-4 : (t : ℕ) → step-lts.Need-returns-4 (step-told t) (step-at t) step.Post
 unfolding pat.patStep plan choose chosen
 step-returns-4 t c =
-    let falls = c .before .before .before .before .before .before .before .before .before .before .before .before .before .before .before .before .before .before .before .before .before .before .pre .0 in
     let pre0 = c .before .before .before .before .before .before .before .before .before .before .before .before .before .before .before .before .before .before .before .before .before .before .pre .1 .0 in
-    let pre1 = c .before .before .before .before .before .before .before .before .before .before .before .before .before .before .before .before .before .before .before .before .before .before .pre .1 .1 in
     let peek = rw (c .before .before .before .before .before .before .before .before .before .before .before .before .before .k .given .1) at (c .before .before .before .before .before .before .before .before .before .before .before .before .before .before .before .peek .ensures) in
     let name-star = c .before .before .before .before .before .before .before .before .before .before .before .name-star .ensures in
     let if1 = c .before .before .before .before .before .before .before .before .before .before .if1 .left in
@@ -8600,22 +3367,7 @@ step-returns-4 t c =
     let typed-step = c .before .before .before .before .typed-step .ensures in
     in-steps pre0 (s-look peek (s-false _ _ (test-false name-star if1) (s-false _ _ (kind-not if2) (s-true _ _ (test-true ascription if3) (s-by _ typed-step s-end)))))
 
-step-as-step-requires : (t : ℕ) → step-lts.Need-as-step-requires (
-  peek-reads.Asked,
-  peek-reads.Learnt,
-  name-star-reads.Asked,
-  name-star-reads.Learnt,
-  op-step-below t,
-  op-step.Post,
-  or-step-below t,
-  or-step.Post,
-  ascription-reads.Asked,
-  ascription-reads.Learnt,
-  typed-step-reads.Asked,
-  typed-step-reads.Learnt,
-  as-step-below t,
-  as-step.Post,
-) (step-at t) step.Post
+step-as-step-requires : (t : ℕ) → step-lts.Need-as-step-requires (step-told t) (step-at t) step.Post
 step-as-step-requires t c κs =
     let falls = c .before .before .before .before .before .before .before .before .before .before .before .before .before .before .before .before .before .before .pre .0 in
     let pre0 = c .before .before .before .before .before .before .before .before .before .before .before .before .before .before .before .before .before .before .pre .1 .0 in
@@ -8626,65 +3378,18 @@ step-as-step-requires t c κs =
     let if4 = c .before .before .if4 .taken in
     (omega arith, (pre0, pre1))
 
-step-same-length-7 : (t : ℕ) → step-lts.Need-same-length-7 (
-  peek-reads.Asked,
-  peek-reads.Learnt,
-  name-star-reads.Asked,
-  name-star-reads.Learnt,
-  op-step-below t,
-  op-step.Post,
-  or-step-below t,
-  or-step.Post,
-  ascription-reads.Asked,
-  ascription-reads.Learnt,
-  typed-step-reads.Asked,
-  typed-step-reads.Learnt,
-  as-step-below t,
-  as-step.Post,
-) (step-at t) step.Post
+step-same-length-7 : (t : ℕ) → step-lts.Need-same-length-7 (step-told t) (step-at t) step.Post
 step-same-length-7 t c =
     c .before .before .before .before .as-step .kept .1 .1 .1 .1 .0
 
-step-same-length-8 : (t : ℕ) → step-lts.Need-same-length-8 (
-  peek-reads.Asked,
-  peek-reads.Learnt,
-  name-star-reads.Asked,
-  name-star-reads.Learnt,
-  op-step-below t,
-  op-step.Post,
-  or-step-below t,
-  or-step.Post,
-  ascription-reads.Asked,
-  ascription-reads.Learnt,
-  typed-step-reads.Asked,
-  typed-step-reads.Learnt,
-  as-step-below t,
-  as-step.Post,
-) (step-at t) step.Post
+step-same-length-8 : (t : ℕ) → step-lts.Need-same-length-8 (step-told t) (step-at t) step.Post
 step-same-length-8 t c =
     c .before .before .before .before .as-step .kept .1 .1 .1 .1 .1 .0
 
-step-returns-5 : (t : ℕ) → step-lts.Need-returns-5 (
-  peek-reads.Asked,
-  peek-reads.Learnt,
-  name-star-reads.Asked,
-  name-star-reads.Learnt,
-  op-step-below t,
-  op-step.Post,
-  or-step-below t,
-  or-step.Post,
-  ascription-reads.Asked,
-  ascription-reads.Learnt,
-  typed-step-reads.Asked,
-  typed-step-reads.Learnt,
-  as-step-below t,
-  as-step.Post,
-) (step-at t) step.Post
+step-returns-5 : (t : ℕ) → step-lts.Need-returns-5 (step-told t) (step-at t) step.Post
 unfolding pat.patStep plan choose chosen
 step-returns-5 t c =
-    let falls = c .before .before .before .before .before .before .before .before .before .before .before .before .before .before .before .before .before .before .before .before .before .before .before .pre .0 in
     let pre0 = c .before .before .before .before .before .before .before .before .before .before .before .before .before .before .before .before .before .before .before .before .before .before .before .pre .1 .0 in
-    let pre1 = c .before .before .before .before .before .before .before .before .before .before .before .before .before .before .before .before .before .before .before .before .before .before .before .pre .1 .1 in
     let peek = rw (c .before .before .before .before .before .before .before .before .before .before .before .before .before .before .k .given .1) at (c .before .before .before .before .before .before .before .before .before .before .before .before .before .before .before .before .peek .ensures) in
     let name-star = c .before .before .before .before .before .before .before .before .before .before .before .before .name-star .ensures in
     let if1 = c .before .before .before .before .before .before .before .before .before .before .before .if1 .left in
@@ -8695,27 +3400,10 @@ step-returns-5 t c =
     let as-step = c .before .before .before .before .as-step .ensures in
     in-steps pre0 (s-look peek (s-false _ _ (test-false name-star if1) (s-false _ _ (kind-not if2) (s-false _ _ (test-false ascription if3) (s-true _ _ (kind-is if4) (s-by _ as-step s-end))))))
 
-step-returns-6 : (t : ℕ) → step-lts.Need-returns-6 (
-  peek-reads.Asked,
-  peek-reads.Learnt,
-  name-star-reads.Asked,
-  name-star-reads.Learnt,
-  op-step-below t,
-  op-step.Post,
-  or-step-below t,
-  or-step.Post,
-  ascription-reads.Asked,
-  ascription-reads.Learnt,
-  typed-step-reads.Asked,
-  typed-step-reads.Learnt,
-  as-step-below t,
-  as-step.Post,
-) (step-at t) step.Post
+step-returns-6 : (t : ℕ) → step-lts.Need-returns-6 (step-told t) (step-at t) step.Post
 unfolding pat.patStep plan choose chosen
 step-returns-6 t c =
-    let falls = c .before .before .before .before .before .before .before .before .before .before .before .before .before .before .before .before .pre .0 in
     let pre0 = c .before .before .before .before .before .before .before .before .before .before .before .before .before .before .before .before .pre .1 .0 in
-    let pre1 = c .before .before .before .before .before .before .before .before .before .before .before .before .before .before .before .before .pre .1 .1 in
     let peek = rw (c .before .before .before .before .before .before .before .k .given .1) at (c .before .before .before .before .before .before .before .before .before .peek .ensures) in
     let name-star = c .before .before .before .before .before .name-star .ensures in
     let if1 = c .before .before .before .before .if1 .left in
@@ -8734,10 +3422,7 @@ tail-μ-loop text toks env table scratch₀ finds₀ left min e b s1₀ scratch 
 
 tail-loop-holds :
     (t : ℕ) →
-    tail-lts.Need-loop-holds
-    (step-below t, step.Post)
-    (tail-at t)
-    tail.Post
+    tail-lts.Need-loop-holds (tail-told t) (tail-at t) tail.Post
     tail-Inv-loop
     tail-μ-loop
 tail-loop-holds t c =
@@ -8748,10 +3433,7 @@ tail-loop-holds t c =
 
 tail-step-requires :
     (t : ℕ) →
-    tail-lts.Need-step-requires
-    (step-below t, step.Post)
-    (tail-at t)
-    tail.Post
+    tail-lts.Need-step-requires (tail-told t) (tail-at t) tail.Post
     tail-Inv-loop
     tail-μ-loop
 tail-step-requires t c κs =
@@ -8762,10 +3444,7 @@ tail-step-requires t c κs =
 
 tail-enum-known-turn :
     (t : ℕ) →
-    tail-lts.Need-enum-known-turn
-    (step-below t, step.Post)
-    (tail-at t)
-    tail.Post
+    tail-lts.Need-enum-known-turn (tail-told t) (tail-at t) tail.Post
     tail-Inv-loop
     tail-μ-loop
 tail-enum-known-turn t c =
@@ -8776,10 +3455,7 @@ tail-enum-known-turn t c =
 
 tail-loop-less :
     (t : ℕ) →
-    tail-lts.Need-loop-less
-    (step-below t, step.Post)
-    (tail-at t)
-    tail.Post
+    tail-lts.Need-loop-less (tail-told t) (tail-at t) tail.Post
     tail-Inv-loop
     tail-μ-loop
 tail-loop-less t c =
@@ -8788,10 +3464,7 @@ tail-loop-less t c =
 
 tail-loop-again :
     (t : ℕ) →
-    tail-lts.Need-loop-again
-    (step-below t, step.Post)
-    (tail-at t)
-    tail.Post
+    tail-lts.Need-loop-again (tail-told t) (tail-at t) tail.Post
     tail-Inv-loop
     tail-μ-loop
 tail-loop-again t c =
@@ -8801,10 +3474,7 @@ tail-loop-again t c =
 
 tail-enum-known-turn-2 :
     (t : ℕ) →
-    tail-lts.Need-enum-known-turn-2
-    (step-below t, step.Post)
-    (tail-at t)
-    tail.Post
+    tail-lts.Need-enum-known-turn-2 (tail-told t) (tail-at t) tail.Post
     tail-Inv-loop
     tail-μ-loop
 tail-enum-known-turn-2 t c =
@@ -8815,10 +3485,7 @@ tail-enum-known-turn-2 t c =
 
 tail-same-length :
     (t : ℕ) →
-    tail-lts.Need-same-length
-    (step-below t, step.Post)
-    (tail-at t)
-    tail.Post
+    tail-lts.Need-same-length (tail-told t) (tail-at t) tail.Post
     tail-Inv-loop
     tail-μ-loop
 tail-same-length t c =
@@ -8826,10 +3493,7 @@ tail-same-length t c =
 
 tail-same-length-2 :
     (t : ℕ) →
-    tail-lts.Need-same-length-2
-    (step-below t, step.Post)
-    (tail-at t)
-    tail.Post
+    tail-lts.Need-same-length-2 (tail-told t) (tail-at t) tail.Post
     tail-Inv-loop
     tail-μ-loop
 tail-same-length-2 t c =
@@ -8837,10 +3501,7 @@ tail-same-length-2 t c =
 
 tail-returns :
     (t : ℕ) →
-    tail-lts.Need-returns
-    (step-below t, step.Post)
-    (tail-at t)
-    tail.Post
+    tail-lts.Need-returns (tail-told t) (tail-at t) tail.Post
     tail-Inv-loop
     tail-μ-loop
 tail-returns t c =
@@ -8848,158 +3509,56 @@ tail-returns t c =
     let step = rw (c .before .turn2 .given .1) at (c .before .before .before .before .before .before .before .step .ensures) in
     loop-ends (pat-step-advances _ _ _ _) inv step
 
-vector-refuse-requires : (t : ℕ) → vector-lts.Need-refuse-requires (
-  refuse-reads.Asked,
-  refuse-reads.Learnt,
-  mark-reads.Asked,
-  mark-reads.Learnt,
-  eat-reads.Asked,
-  eat-reads.Learnt,
-  state-reads.Asked,
-  state-reads.Learnt,
-  args-below t,
-  args.Post,
-  close-reads.Asked,
-  close-reads.Learnt,
-) (vector-at t) vector.Post
+vector-refuse-requires : (t : ℕ) → vector-lts.Need-refuse-requires (vector-told t) (vector-at t) vector.Post
 vector-refuse-requires t c κs =
     tt
 
-vector-returns : (t : ℕ) → vector-lts.Need-returns (
-  refuse-reads.Asked,
-  refuse-reads.Learnt,
-  mark-reads.Asked,
-  mark-reads.Learnt,
-  eat-reads.Asked,
-  eat-reads.Learnt,
-  state-reads.Asked,
-  state-reads.Learnt,
-  args-below t,
-  args.Post,
-  close-reads.Asked,
-  close-reads.Learnt,
-) (vector-at t) vector.Post
+vector-returns : (t : ℕ) → vector-lts.Need-returns (vector-told t) (vector-at t) vector.Post
 unfolding pat.vector util.endSep plan choose chosen
 vector-returns t c =
-    let falls = c .before .before .before .before .before .before .before .before .pre .0 in
     let pre0 = c .before .before .before .before .before .before .before .before .pre .1 in
     let if1 = c .before .if1 .taken in
     let refuse = c .refuse .ensures in
     by-steps pre0 (λ b. s-deep if1 refuse s-end)
 
-vector-mark-requires : (t : ℕ) → vector-lts.Need-mark-requires (
-  refuse-reads.Asked,
-  refuse-reads.Learnt,
-  mark-reads.Asked,
-  mark-reads.Learnt,
-  eat-reads.Asked,
-  eat-reads.Learnt,
-  state-reads.Asked,
-  state-reads.Learnt,
-  args-below t,
-  args.Post,
-  close-reads.Asked,
-  close-reads.Learnt,
-) (vector-at t) vector.Post
+vector-mark-requires : (t : ℕ) → vector-lts.Need-mark-requires (vector-told t) (vector-at t) vector.Post
 vector-mark-requires t c κs =
     tt
 
-vector-eat-requires : (t : ℕ) → vector-lts.Need-eat-requires (
-  refuse-reads.Asked,
-  refuse-reads.Learnt,
-  mark-reads.Asked,
-  mark-reads.Learnt,
-  eat-reads.Asked,
-  eat-reads.Learnt,
-  state-reads.Asked,
-  state-reads.Learnt,
-  args-below t,
-  args.Post,
-  close-reads.Asked,
-  close-reads.Learnt,
-) (vector-at t) vector.Post
+vector-eat-requires : (t : ℕ) → vector-lts.Need-eat-requires (vector-told t) (vector-at t) vector.Post
 vector-eat-requires t c κs =
     let falls = c .before .before .before .before .before .before .before .before .before .before .pre .0 in
     let pre0 = c .before .before .before .before .before .before .before .before .before .before .pre .1 in
     let if1 = c .before .before .before .if1 .left in
     let mark = c .before .before .mark .ensures in
     let mark-ok = ok-marks mark pre0 in
-    (mark-ok, omega arith)
+    (mark-ok .reads, mark-ok .logs, mark-ok .holds, omega arith)
 
-vector-state-requires : (t : ℕ) → vector-lts.Need-state-requires (
-  refuse-reads.Asked,
-  refuse-reads.Learnt,
-  mark-reads.Asked,
-  mark-reads.Learnt,
-  eat-reads.Asked,
-  eat-reads.Learnt,
-  state-reads.Asked,
-  state-reads.Learnt,
-  args-below t,
-  args.Post,
-  close-reads.Asked,
-  close-reads.Learnt,
-) (vector-at t) vector.Post
+vector-state-requires : (t : ℕ) → vector-lts.Need-state-requires (vector-told t) (vector-at t) vector.Post
 vector-state-requires t c κs =
     tt
 
-vector-sub-args : (t : ℕ) → vector-lts.Need-sub-args (
-  refuse-reads.Asked,
-  refuse-reads.Learnt,
-  mark-reads.Asked,
-  mark-reads.Learnt,
-  eat-reads.Asked,
-  eat-reads.Learnt,
-  state-reads.Asked,
-  state-reads.Learnt,
-  args-below t,
-  args.Post,
-  close-reads.Asked,
-  close-reads.Learnt,
-) (vector-at t) vector.Post
+vector-sub-args : (t : ℕ) → vector-lts.Need-sub-args (vector-told t) (vector-at t) vector.Post
 vector-sub-args t c =
     let falls = c .before .before .before .before .before .before .before .before .before .before .before .before .before .before .before .before .before .before .pre .0 in
     let pre0 = c .before .before .before .before .before .before .before .before .before .before .before .before .before .before .before .before .before .before .pre .1 in
     let if1 = c .before .before .before .before .before .before .before .before .before .before .before .if1 .left in
     search needs
 
-vector-args-requires : (t : ℕ) → vector-lts.Need-args-requires (
-  refuse-reads.Asked,
-  refuse-reads.Learnt,
-  mark-reads.Asked,
-  mark-reads.Learnt,
-  eat-reads.Asked,
-  eat-reads.Learnt,
-  state-reads.Asked,
-  state-reads.Learnt,
-  args-below t,
-  args.Post,
-  close-reads.Asked,
-  close-reads.Learnt,
-) (vector-at t) vector.Post
+vector-args-requires : (t : ℕ) → vector-lts.Need-args-requires (vector-told t) (vector-at t) vector.Post
 vector-args-requires t c κs =
     let falls = c .before .before .before .before .before .before .before .before .before .before .before .before .before .before .before .before .before .before .pre .0 in
+    let pre0 = c .before .before .before .before .before .before .before .before .before .before .before .before .before .before .before .before .before .before .pre .1 in
     let if1 = c .before .before .before .before .before .before .before .before .before .before .before .if1 .left in
+    let mark = c .before .before .before .before .before .before .before .before .before .before .mark .ensures in
+    let mark-ok = ok-marks mark pre0 in
     let eat = c .before .before .before .before .before .before .before .eat .ensures in
-    let eat-ok = eat .ok in
+    let eat-ok = ok-eats eat mark-ok in
     let state = c .before .before .state .ensures in
     let state-ok = ok-state state eat-ok in
     (omega arith, (state-ok, omega arith))
 
-vector-close-requires : (t : ℕ) → vector-lts.Need-close-requires (
-  refuse-reads.Asked,
-  refuse-reads.Learnt,
-  mark-reads.Asked,
-  mark-reads.Learnt,
-  eat-reads.Asked,
-  eat-reads.Learnt,
-  state-reads.Asked,
-  state-reads.Learnt,
-  args-below t,
-  args.Post,
-  close-reads.Asked,
-  close-reads.Learnt,
-) (vector-at t) vector.Post
+vector-close-requires : (t : ℕ) → vector-lts.Need-close-requires (vector-told t) (vector-at t) vector.Post
 vector-close-requires t c κs =
     let pre0 = c .before .before .before .before .before .before .before .before .before .before .before .before .before .before .before .before .before .before .before .before .before .before .before .before .pre .1 in
     let mark = c .before .before .before .before .before .before .before .before .before .before .before .before .before .before .before .before .mark .ensures in
@@ -9008,57 +3567,17 @@ vector-close-requires t c κs =
     let args2-ok = args2 .ok in
     (args2-ok .logs, small-len mark-ok)
 
-vector-same-length : (t : ℕ) → vector-lts.Need-same-length (
-  refuse-reads.Asked,
-  refuse-reads.Learnt,
-  mark-reads.Asked,
-  mark-reads.Learnt,
-  eat-reads.Asked,
-  eat-reads.Learnt,
-  state-reads.Asked,
-  state-reads.Learnt,
-  args-below t,
-  args.Post,
-  close-reads.Asked,
-  close-reads.Learnt,
-) (vector-at t) vector.Post
+vector-same-length : (t : ℕ) → vector-lts.Need-same-length (vector-told t) (vector-at t) vector.Post
 vector-same-length t c =
-    c .before .before .close .kept .0 ∙ c .before .before .before .before .before .before .before .before .args2 .kept .1 .1 .1 .1 .0 ∙ c .before .before .before .before .before .before .before .before .before .before .before .before .before .before .before .before .eat .kept .1 .1 .1 .1 .0
+    c .before .before .close .kept .0 ∙ c .before .before .before .before .before .before .before .before .args2 .kept .1 .1 .1 .1 .0 ∙ c .before .before .before .before .before .before .before .before .before .before .before .before .before .before .before .before .eat .kept .1 .0
 
-vector-same-length-2 : (t : ℕ) → vector-lts.Need-same-length-2 (
-  refuse-reads.Asked,
-  refuse-reads.Learnt,
-  mark-reads.Asked,
-  mark-reads.Learnt,
-  eat-reads.Asked,
-  eat-reads.Learnt,
-  state-reads.Asked,
-  state-reads.Learnt,
-  args-below t,
-  args.Post,
-  close-reads.Asked,
-  close-reads.Learnt,
-) (vector-at t) vector.Post
+vector-same-length-2 : (t : ℕ) → vector-lts.Need-same-length-2 (vector-told t) (vector-at t) vector.Post
 vector-same-length-2 t c =
-    c .before .before .before .before .before .before .before .before .args2 .kept .1 .1 .1 .1 .1 .0 ∙ c .before .before .before .before .before .before .before .before .before .before .before .before .before .before .before .before .eat .kept .1 .1 .1 .1 .1 .0
+    c .before .before .before .before .before .before .before .before .args2 .kept .1 .1 .1 .1 .1 .0 ∙ c .before .before .before .before .before .before .before .before .before .before .before .before .before .before .before .before .eat .kept .1 .1 .0
 
-vector-returns-2 : (t : ℕ) → vector-lts.Need-returns-2 (
-  refuse-reads.Asked,
-  refuse-reads.Learnt,
-  mark-reads.Asked,
-  mark-reads.Learnt,
-  eat-reads.Asked,
-  eat-reads.Learnt,
-  state-reads.Asked,
-  state-reads.Learnt,
-  args-below t,
-  args.Post,
-  close-reads.Asked,
-  close-reads.Learnt,
-) (vector-at t) vector.Post
+vector-returns-2 : (t : ℕ) → vector-lts.Need-returns-2 (vector-told t) (vector-at t) vector.Post
 unfolding pat.vector util.endSep plan choose chosen
 vector-returns-2 t c =
-    let falls = c .before .before .before .before .before .before .before .before .before .before .before .before .before .before .before .before .before .before .before .before .before .before .before .before .before .before .before .pre .0 in
     let pre0 = c .before .before .before .before .before .before .before .before .before .before .before .before .before .before .before .before .before .before .before .before .before .before .before .before .before .before .before .pre .1 in
     let if1 = c .before .before .before .before .before .before .before .before .before .before .before .before .before .before .before .before .before .before .before .before .if1 .left in
     let mark = c .before .before .before .before .before .before .before .before .before .before .before .before .before .before .before .before .before .before .before .mark .ensures in
@@ -9066,7 +3585,7 @@ vector-returns-2 t c =
     let state = c .before .before .before .before .before .before .before .before .before .before .before .state .ensures in
     let args2 = c .before .before .before .before .before .before .before .before .args2 .ensures in
     let close = c .before .before .close .ensures in
-    by-steps pre0 (λ b. s-mark if1 mark (s-by _ (settled state (runs-always eat)) (s-run args2 (s-close close s-end))))
+    by-steps pre0 (λ b. s-mark if1 mark (s-eats _ _ _ (eats-settled state eat) (s-run args2 (s-close close s-end))))
 
 pub +arg-item+arg-turn+args+as-pat-tl+as-step+at-head+at-must+at-pat+at-round+atom+con+con-head+con-turn+inf-pat+op-step+op-tail+or-step+pat-arg+pat-must+pat-prec+rest+row+row-item+row-turn+rows+step+tail+vector-spec :
     {M : Type 1} → statement M
@@ -9100,20 +3619,7 @@ pub +arg-item+arg-turn+args+as-pat-tl+as-step+at-head+at-must+at-pat+at-round+at
     μ-step
     μ-tail
     μ-vector
-    (λ t. arg-item-lts.spec (
-      refuse-reads.Asked,
-      refuse-reads.Learnt,
-      mark-reads.Asked,
-      mark-reads.Learnt,
-      pat-must-below t,
-      pat-must.Post,
-      at-reads.Asked,
-      at-reads.Learnt,
-      bump-reads.Asked,
-      bump-reads.Learnt,
-      close-reads.Asked,
-      close-reads.Learnt,
-    )
+    (λ t. arg-item-lts.spec (arg-item-told t)
     (arg-item-at t)
     arg-item.Post
     (arg-item-refuse-requires t)
@@ -9131,18 +3637,7 @@ pub +arg-item+arg-turn+args+as-pat-tl+as-step+at-head+at-must+at-pat+at-round+at
     (arg-item-same-length-3 t)
     (arg-item-same-length-4 t)
     (arg-item-returns-3 t))
-    (λ t. arg-turn-lts.spec (
-      at-reads.Asked,
-      at-reads.Learnt,
-      bump-reads.Asked,
-      bump-reads.Learnt,
-      arg-item-below t,
-      arg-item.Post,
-      eat-reads.Asked,
-      eat-reads.Learnt,
-      state-reads.Asked,
-      state-reads.Learnt,
-    )
+    (λ t. arg-turn-lts.spec (arg-turn-told t)
     (arg-turn-at t)
     arg-turn.Post
     (arg-turn-at-requires t)
@@ -9160,8 +3655,7 @@ pub +arg-item+arg-turn+args+as-pat-tl+as-step+at-head+at-must+at-pat+at-round+at
     (arg-turn-same-length-4 t)
     (arg-turn-same-length-5 t)
     (arg-turn-returns-3 t))
-    (λ t. args-lts.spec
-    (arg-turn-below t, arg-turn.Post)
+    (λ t. args-lts.spec (args-told t)
     (args-at t)
     args.Post
     args-Inv-loop
@@ -9175,20 +3669,7 @@ pub +arg-item+arg-turn+args+as-pat-tl+as-step+at-head+at-must+at-pat+at-round+at
     (args-same-length t)
     (args-same-length-2 t)
     (args-returns t))
-    (λ t. as-pat-tl-lts.spec (
-      at-reads.Asked,
-      at-reads.Learnt,
-      refuse-reads.Asked,
-      refuse-reads.Learnt,
-      mark-reads.Asked,
-      mark-reads.Learnt,
-      bump-reads.Asked,
-      bump-reads.Learnt,
-      pat-must-below t,
-      pat-must.Post,
-      close-reads.Asked,
-      close-reads.Learnt,
-    )
+    (λ t. as-pat-tl-lts.spec (as-pat-tl-told t)
     (as-pat-tl-at t)
     as-pat-tl.Post
     (as-pat-tl-at-requires t)
@@ -9203,20 +3684,7 @@ pub +arg-item+arg-turn+args+as-pat-tl+as-step+at-head+at-must+at-pat+at-round+at
     (as-pat-tl-same-length-2 t)
     (as-pat-tl-returns-2 t)
     (as-pat-tl-returns-3 t))
-    (λ t. as-step-lts.spec (
-      is-infix-reads.Asked,
-      is-infix-reads.Learnt,
-      refuse-reads.Asked,
-      refuse-reads.Learnt,
-      mark-reads.Asked,
-      mark-reads.Learnt,
-      as-pat-tl-below t,
-      as-pat-tl.Post,
-      close-reads.Asked,
-      close-reads.Learnt,
-      report-reads.Asked,
-      report-reads.Learnt,
-    )
+    (λ t. as-step-lts.spec (as-step-told t)
     (as-step-at t)
     as-step.Post
     (as-step-is-infix-requires t)
@@ -9237,24 +3705,7 @@ pub +arg-item+arg-turn+args+as-pat-tl+as-step+at-head+at-must+at-pat+at-round+at
     (as-step-same-length-3 t)
     (as-step-same-length-4 t)
     (as-step-returns-4 t))
-    (λ t. at-head-lts.spec (
-      s-con-reads.Asked,
-      s-con-reads.Learnt,
-      bump-reads.Asked,
-      bump-reads.Learnt,
-      close-reads.Asked,
-      close-reads.Learnt,
-      path-infix-reads.Asked,
-      path-infix-reads.Learnt,
-      state-reads.Asked,
-      state-reads.Learnt,
-      name-star-reads.Asked,
-      name-star-reads.Learnt,
-      con-path-reads.Asked,
-      con-path-reads.Learnt,
-      rest-below t,
-      rest.Post,
-    )
+    (λ t. at-head-lts.spec (at-head-told t)
     (at-head-at t)
     at-head.Post
     (at-head-s-con-requires t)
@@ -9283,8 +3734,7 @@ pub +arg-item+arg-turn+args+as-pat-tl+as-step+at-head+at-must+at-pat+at-round+at
     (at-head-same-length-7 t)
     (at-head-same-length-8 t)
     (at-head-returns-5 t))
-    (λ t. at-must-lts.spec
-    (at-pat-below t, at-pat.Post, report-reads.Asked, report-reads.Learnt)
+    (λ t. at-must-lts.spec (at-must-told t)
     (at-must-at t)
     at-must.Post
     (at-must-at-pat-requires t)
@@ -9297,16 +3747,7 @@ pub +arg-item+arg-turn+args+as-pat-tl+as-step+at-head+at-must+at-pat+at-round+at
     (at-must-same-length-3 t)
     (at-must-same-length-4 t)
     (at-must-returns-2 t))
-    (λ t. at-pat-lts.spec (
-      peek-reads.Asked,
-      peek-reads.Learnt,
-      refuse-reads.Asked,
-      refuse-reads.Learnt,
-      mark-reads.Asked,
-      mark-reads.Learnt,
-      at-head-below t,
-      at-head.Post,
-    )
+    (λ t. at-pat-lts.spec (at-pat-told t)
     (at-pat-at t)
     at-pat.Post
     (at-pat-peek-requires t)
@@ -9321,18 +3762,7 @@ pub +arg-item+arg-turn+args+as-pat-tl+as-step+at-head+at-must+at-pat+at-round+at
     (at-pat-same-length t)
     (at-pat-same-length-2 t)
     (at-pat-returns-3 t))
-    (λ t. at-round-lts.spec (
-      at-reads.Asked,
-      at-reads.Learnt,
-      bump-reads.Asked,
-      bump-reads.Learnt,
-      close-reads.Asked,
-      close-reads.Learnt,
-      pat-arg-below t,
-      pat-arg.Post,
-      args-below t,
-      args.Post,
-    )
+    (λ t. at-round-lts.spec (at-round-told t)
     (at-round-at t)
     at-round.Post
     (at-round-at-requires t)
@@ -9353,8 +3783,7 @@ pub +arg-item+arg-turn+args+as-pat-tl+as-step+at-head+at-must+at-pat+at-round+at
     (at-round-same-length-4 t)
     (at-round-same-length-5 t)
     (at-round-returns-3 t))
-    (λ t. atom-lts.spec
-    (at-pat-below t, at-pat.Post, tail-below t, tail.Post)
+    (λ t. atom-lts.spec (atom-told t)
     (atom-at t)
     atom.Post
     (atom-at-pat-requires t)
@@ -9367,14 +3796,7 @@ pub +arg-item+arg-turn+args+as-pat-tl+as-step+at-head+at-must+at-pat+at-round+at
     (atom-same-length-3 t)
     (atom-same-length-4 t)
     (atom-returns-2 t))
-    (λ t. con-lts.spec (
-      con-head-below t,
-      con-head.Post,
-      tail-below t,
-      tail.Post,
-      op-tail-below t,
-      op-tail.Post,
-    )
+    (λ t. con-lts.spec (con-told t)
     (con-at t)
     con.Post
     (con-con-head-requires t)
@@ -9397,18 +3819,7 @@ pub +arg-item+arg-turn+args+as-pat-tl+as-step+at-head+at-must+at-pat+at-round+at
     (con-same-length-7 t)
     (con-same-length-8 t)
     (con-returns-4 t))
-    (λ t. con-head-lts.spec (
-      refuse-reads.Asked,
-      refuse-reads.Learnt,
-      mark-reads.Asked,
-      mark-reads.Learnt,
-      con-name-reads.Asked,
-      con-name-reads.Learnt,
-      state-reads.Asked,
-      state-reads.Learnt,
-      con-turn-below t,
-      con-turn.Post,
-    )
+    (λ t. con-head-lts.spec (con-head-told t)
     (con-head-at t)
     con-head.Post
     (con-head-refuse-requires t)
@@ -9422,22 +3833,7 @@ pub +arg-item+arg-turn+args+as-pat-tl+as-step+at-head+at-must+at-pat+at-round+at
     (con-head-same-length t)
     (con-head-same-length-2 t)
     (con-head-returns-2 t))
-    (λ t. con-turn-lts.spec (
-      peek-reads.Asked,
-      peek-reads.Learnt,
-      close-reads.Asked,
-      close-reads.Learnt,
-      name-star-reads.Asked,
-      name-star-reads.Learnt,
-      fixity-at-reads.Asked,
-      fixity-at-reads.Learnt,
-      at-must-below t,
-      at-must.Post,
-      con-op-reads.Asked,
-      con-op-reads.Learnt,
-      arg-reads.Asked,
-      arg-reads.Learnt,
-    )
+    (λ t. con-turn-lts.spec (con-turn-told t)
     (con-turn-at t)
     con-turn.Post
     (con-turn-peek-requires t)
@@ -9468,18 +3864,7 @@ pub +arg-item+arg-turn+args+as-pat-tl+as-step+at-head+at-must+at-pat+at-round+at
     (con-turn-close-requires-4 t)
     (con-turn-same-length-8 t)
     (con-turn-returns-5 t))
-    (λ t. inf-pat-lts.spec (
-      refuse-reads.Asked,
-      refuse-reads.Learnt,
-      mark-reads.Asked,
-      mark-reads.Learnt,
-      bump-reads.Asked,
-      bump-reads.Learnt,
-      pat-must-below t,
-      pat-must.Post,
-      close-reads.Asked,
-      close-reads.Learnt,
-    )
+    (λ t. inf-pat-lts.spec (inf-pat-told t)
     (inf-pat-at t)
     inf-pat.Post
     (inf-pat-refuse-requires t)
@@ -9492,18 +3877,7 @@ pub +arg-item+arg-turn+args+as-pat-tl+as-step+at-head+at-must+at-pat+at-round+at
     (inf-pat-same-length t)
     (inf-pat-same-length-2 t)
     (inf-pat-returns-2 t))
-    (λ t. op-step-lts.spec (
-      fixity-at-reads.Asked,
-      fixity-at-reads.Learnt,
-      index-reads.Asked,
-      index-reads.Learnt,
-      report-reads.Asked,
-      report-reads.Learnt,
-      should-break-pat-reads.Asked,
-      should-break-pat-reads.Learnt,
-      inf-pat-below t,
-      inf-pat.Post,
-    )
+    (λ t. op-step-lts.spec (op-step-told t)
     (op-step-at t)
     op-step.Post
     (op-step-fixity-at-requires t)
@@ -9523,12 +3897,7 @@ pub +arg-item+arg-turn+args+as-pat-tl+as-step+at-head+at-must+at-pat+at-round+at
     (op-step-same-length-4 t)
     (op-step-same-length-5 t)
     (op-step-returns-3 t))
-    (λ t. op-tail-lts.spec (
-      fixity-at-reads.Asked,
-      fixity-at-reads.Learnt,
-      inf-pat-below t,
-      inf-pat.Post,
-    )
+    (λ t. op-tail-lts.spec (op-tail-told t)
     (op-tail-at t)
     op-tail.Post
     (op-tail-fixity-at-requires t)
@@ -9539,20 +3908,7 @@ pub +arg-item+arg-turn+args+as-pat-tl+as-step+at-head+at-must+at-pat+at-round+at
     (op-tail-same-length t)
     (op-tail-same-length-2 t)
     (op-tail-returns-2 t))
-    (λ t. or-step-lts.spec (
-      is-min-reads.Asked,
-      is-min-reads.Learnt,
-      refuse-reads.Asked,
-      refuse-reads.Learnt,
-      mark-reads.Asked,
-      mark-reads.Learnt,
-      bump-reads.Asked,
-      bump-reads.Learnt,
-      pat-must-below t,
-      pat-must.Post,
-      close-reads.Asked,
-      close-reads.Learnt,
-    )
+    (λ t. or-step-lts.spec (or-step-told t)
     (or-step-at t)
     or-step.Post
     (or-step-is-min-requires t)
@@ -9567,22 +3923,7 @@ pub +arg-item+arg-turn+args+as-pat-tl+as-step+at-head+at-must+at-pat+at-round+at
     (or-step-same-length-2 t)
     (or-step-returns-2 t)
     (or-step-returns-3 t))
-    (λ t. pat-arg-lts.spec (
-      refuse-reads.Asked,
-      refuse-reads.Learnt,
-      mark-reads.Asked,
-      mark-reads.Learnt,
-      pat-must-below t,
-      pat-must.Post,
-      at-reads.Asked,
-      at-reads.Learnt,
-      eat-reads.Asked,
-      eat-reads.Learnt,
-      state-reads.Asked,
-      state-reads.Learnt,
-      close-reads.Asked,
-      close-reads.Learnt,
-    )
+    (λ t. pat-arg-lts.spec (pat-arg-told t)
     (pat-arg-at t)
     pat-arg.Post
     (pat-arg-refuse-requires t)
@@ -9600,12 +3941,7 @@ pub +arg-item+arg-turn+args+as-pat-tl+as-step+at-head+at-must+at-pat+at-round+at
     (pat-arg-same-length-3 t)
     (pat-arg-same-length-4 t)
     (pat-arg-returns-3 t))
-    (λ t. pat-must-lts.spec (
-      pat-prec-below t,
-      pat-prec.Post,
-      report-reads.Asked,
-      report-reads.Learnt,
-    )
+    (λ t. pat-must-lts.spec (pat-must-told t)
     (pat-must-at t)
     pat-must.Post
     (pat-must-pat-prec-requires t)
@@ -9618,18 +3954,7 @@ pub +arg-item+arg-turn+args+as-pat-tl+as-step+at-head+at-must+at-pat+at-round+at
     (pat-must-same-length-3 t)
     (pat-must-same-length-4 t)
     (pat-must-returns-2 t))
-    (λ t. pat-prec-lts.spec (
-      peek-reads.Asked,
-      peek-reads.Learnt,
-      atom-below t,
-      atom.Post,
-      name-star-reads.Asked,
-      name-star-reads.Learnt,
-      con-below t,
-      con.Post,
-      peek-n-reads.Asked,
-      peek-n-reads.Learnt,
-    )
+    (λ t. pat-prec-lts.spec (pat-prec-told t)
     (pat-prec-at t)
     pat-prec.Post
     (pat-prec-peek-requires t)
@@ -9664,20 +3989,7 @@ pub +arg-item+arg-turn+args+as-pat-tl+as-step+at-head+at-must+at-pat+at-round+at
     (pat-prec-same-length-11 t)
     (pat-prec-same-length-12 t)
     (pat-prec-returns-6 t))
-    (λ t. rest-lts.spec (
-      bump-reads.Asked,
-      bump-reads.Learnt,
-      rows-below t,
-      rows.Post,
-      close-reads.Asked,
-      close-reads.Learnt,
-      at-round-below t,
-      at-round.Post,
-      args-below t,
-      args.Post,
-      vector-below t,
-      vector.Post,
-    )
+    (λ t. rest-lts.spec (rest-told t)
     (rest-at t)
     rest.Post
     (rest-bump-requires t)
@@ -9704,34 +4016,7 @@ pub +arg-item+arg-turn+args+as-pat-tl+as-step+at-head+at-must+at-pat+at-round+at
     (rest-same-length-8 t)
     (rest-returns-4 t)
     (rest-returns-5 t))
-    (λ t. row-lts.spec (
-      refuse-reads.Asked,
-      refuse-reads.Learnt,
-      mark-reads.Asked,
-      mark-reads.Learnt,
-      at-reads.Asked,
-      at-reads.Learnt,
-      bump-reads.Asked,
-      bump-reads.Learnt,
-      close-reads.Asked,
-      close-reads.Learnt,
-      at-n-reads.Asked,
-      at-n-reads.Learnt,
-      lab-reads.Asked,
-      lab-reads.Learnt,
-      eat-reads.Asked,
-      eat-reads.Learnt,
-      state-reads.Asked,
-      state-reads.Learnt,
-      pat-must-below t,
-      pat-must.Post,
-      eat-name-star-reads.Asked,
-      eat-name-star-reads.Learnt,
-      ty-annotation-reads.Asked,
-      ty-annotation-reads.Learnt,
-      as-pat-tl-below t,
-      as-pat-tl.Post,
-    )
+    (λ t. row-lts.spec (row-told t)
     (row-at t)
     row.Post
     (row-refuse-requires t)
@@ -9764,20 +4049,7 @@ pub +arg-item+arg-turn+args+as-pat-tl+as-step+at-head+at-must+at-pat+at-round+at
     (row-same-length-4 t)
     (row-same-length-5 t)
     (row-returns-4 t))
-    (λ t. row-item-lts.spec (
-      refuse-reads.Asked,
-      refuse-reads.Learnt,
-      mark-reads.Asked,
-      mark-reads.Learnt,
-      row-below t,
-      row.Post,
-      at-reads.Asked,
-      at-reads.Learnt,
-      bump-reads.Asked,
-      bump-reads.Learnt,
-      close-reads.Asked,
-      close-reads.Learnt,
-    )
+    (λ t. row-item-lts.spec (row-item-told t)
     (row-item-at t)
     row-item.Post
     (row-item-refuse-requires t)
@@ -9795,18 +4067,7 @@ pub +arg-item+arg-turn+args+as-pat-tl+as-step+at-head+at-must+at-pat+at-round+at
     (row-item-same-length-3 t)
     (row-item-same-length-4 t)
     (row-item-returns-3 t))
-    (λ t. row-turn-lts.spec (
-      at-reads.Asked,
-      at-reads.Learnt,
-      bump-reads.Asked,
-      bump-reads.Learnt,
-      row-item-below t,
-      row-item.Post,
-      eat-reads.Asked,
-      eat-reads.Learnt,
-      state-reads.Asked,
-      state-reads.Learnt,
-    )
+    (λ t. row-turn-lts.spec (row-turn-told t)
     (row-turn-at t)
     row-turn.Post
     (row-turn-at-requires t)
@@ -9824,8 +4085,7 @@ pub +arg-item+arg-turn+args+as-pat-tl+as-step+at-head+at-must+at-pat+at-round+at
     (row-turn-same-length-4 t)
     (row-turn-same-length-5 t)
     (row-turn-returns-3 t))
-    (λ t. rows-lts.spec
-    (row-turn-below t, row-turn.Post)
+    (λ t. rows-lts.spec (rows-told t)
     (rows-at t)
     rows.Post
     rows-Inv-loop
@@ -9839,22 +4099,7 @@ pub +arg-item+arg-turn+args+as-pat-tl+as-step+at-head+at-must+at-pat+at-round+at
     (rows-same-length t)
     (rows-same-length-2 t)
     (rows-returns t))
-    (λ t. step-lts.spec (
-      peek-reads.Asked,
-      peek-reads.Learnt,
-      name-star-reads.Asked,
-      name-star-reads.Learnt,
-      op-step-below t,
-      op-step.Post,
-      or-step-below t,
-      or-step.Post,
-      ascription-reads.Asked,
-      ascription-reads.Learnt,
-      typed-step-reads.Asked,
-      typed-step-reads.Learnt,
-      as-step-below t,
-      as-step.Post,
-    )
+    (λ t. step-lts.spec (step-told t)
     (step-at t)
     step.Post
     (step-peek-requires t)
@@ -9880,8 +4125,7 @@ pub +arg-item+arg-turn+args+as-pat-tl+as-step+at-head+at-must+at-pat+at-round+at
     (step-same-length-8 t)
     (step-returns-5 t)
     (step-returns-6 t))
-    (λ t. tail-lts.spec
-    (step-below t, step.Post)
+    (λ t. tail-lts.spec (tail-told t)
     (tail-at t)
     tail.Post
     tail-Inv-loop
@@ -9895,20 +4139,7 @@ pub +arg-item+arg-turn+args+as-pat-tl+as-step+at-head+at-must+at-pat+at-round+at
     (tail-same-length t)
     (tail-same-length-2 t)
     (tail-returns t))
-    λ t. vector-lts.spec (
-      refuse-reads.Asked,
-      refuse-reads.Learnt,
-      mark-reads.Asked,
-      mark-reads.Learnt,
-      eat-reads.Asked,
-      eat-reads.Learnt,
-      state-reads.Asked,
-      state-reads.Learnt,
-      args-below t,
-      args.Post,
-      close-reads.Asked,
-      close-reads.Learnt,
-    )
+    λ t. vector-lts.spec (vector-told t)
     (vector-at t)
     vector.Post
     (vector-refuse-requires t)

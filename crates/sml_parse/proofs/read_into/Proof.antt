@@ -31,16 +31,16 @@ same-length-5 c = search needs
 
 returns : tie.Need-returns
 returns c =
-    let a = c .before .before .before .before .before .before .before .before .before .before .before .before .before .before .before .before .before .before .before .before .before .before .before .before .before .before .before .before .before .before .before .before .before .before .before .before .before .args in
-    let r = c .before .before .before .before .before .before .before .before .before .before .before .before .before .before .before .before .before .before .before .before .before .root in
+    let a = c .before .before .before .before .before .before .before .before .before .before .before .before .before .before .before .before .before .before .before .before .before .before .before .before .before .before .before .before .before .before .before .before .before .before .before .args in
+    let r = c .before .before .before .before .before .before .before .before .before .before .before .before .before .before .before .before .before .before .before .root in
     c .before .before .before .before .before .before .before .before .refuse-all .ensures
-    ∙ was-refused (a .text .now) (a .toks .now) (a .env .now) (a .depth) (a .mode) (a .scratch .now) (a .nodes .now) (a .finds .now) (a .last .now) _ _ (c .before .before .before .before .before .before .before .before .before .before .before .before .before .before .before .before .before .before .before .before .before .before .before .before .before .start-state .ensures .1) (r .ensures) (r .kept .1 .1 .1 .1 .0) (r .kept .1 .1 .1 .1 .1 .0) (c .before .before .before .before .before .before .before .before .before .before .before .before .before .if1 .taken)
+    ∙ was-refused (a .text .now) (a .toks .now) (a .env .now) (a .depth) (a .mode) (a .scratch .now) (a .nodes .now) (a .finds .now) (a .last .now) _ _ (c .before .before .before .before .before .before .before .before .before .before .before .before .before .before .before .before .before .before .before .before .before .before .before .start-state .ensures .1) (r .ensures) (r .kept .1 .1 .1 .1 .0) (r .kept .1 .1 .1 .1 .1 .0) (c .before .before .before .before .before .before .before .before .before .before .before .before .before .if1 .taken)
 
 hand-out-requires : tie.Need-hand-out-requires
 hand-out-requires c κs =
-    let a = c .before .before .before .before .before .before .before .before .before .before .before .before .before .before .before .before .before .before .before .before .before .before .before .before .before .before .before .before .before .args in
-    let r = c .before .before .before .before .before .before .before .before .before .before .before .before .before .root in
-    (r .ensures .ok, was-grown (a .text .now) (a .toks .now) (a .env .now) (a .depth) (a .mode) (a .scratch .now) (a .nodes .now) (a .finds .now) (a .last .now) _ _ (c .before .before .before .before .before .before .before .before .before .before .before .before .before .before .before .before .before .start-state .ensures .1) (r .ensures) (c .before .before .before .before .before .if1 .left))
+    let a = c .before .before .before .before .before .before .before .before .before .before .before .before .before .before .before .before .before .before .before .before .before .before .before .before .before .before .before .before .args in
+    let r = c .before .before .before .before .before .before .before .before .before .before .before .before .root in
+    (r .ensures .ok, was-grown (a .text .now) (a .toks .now) (a .env .now) (a .depth) (a .mode) (a .scratch .now) (a .nodes .now) (a .finds .now) (a .last .now) _ _ (c .before .before .before .before .before .before .before .before .before .before .before .before .before .before .before .before .start-state .ensures .1) (r .ensures) (c .before .before .before .before .before .before .if1 .left))
 
 same-length-6 : tie.Need-same-length-6
 same-length-6 c = search needs
@@ -51,18 +51,12 @@ same-length-7 c = search needs
 same-length-8 : tie.Need-same-length-8
 same-length-8 c = search needs
 
-same-length-9 : tie.Need-same-length-9
-same-length-9 c = search needs
-
-same-length-10 : tie.Need-same-length-10
-same-length-10 c = search needs
-
 returns-2 : tie.Need-returns-2
 returns-2 c =
-    let a = c .before .before .before .before .before .before .before .before .before .before .before .before .before .before .before .before .before .before .before .before .before .before .before .before .before .before .before .before .before .before .before .before .before .before .before .before .before .before .args in
-    let r = c .before .before .before .before .before .before .before .before .before .before .before .before .before .before .before .before .before .before .before .before .before .before .root in
+    let a = c .before .before .before .before .before .before .before .before .before .before .before .before .before .before .before .before .before .before .before .before .before .before .before .before .before .before .before .before .before .before .before .before .before .before .before .before .before .args in
+    let r = c .before .before .before .before .before .before .before .before .before .before .before .before .before .before .before .before .before .before .before .before .before .root in
     c .before .before .before .before .before .before .before .before .hand-out .ensures
-    ∙ was-handed (a .text .now) (a .toks .now) (a .env .now) (a .depth) (a .mode) (a .scratch .now) (a .nodes .now) (a .finds .now) (a .last .now) _ _ (c .before .before .before .before .before .before .before .before .before .before .before .before .before .before .before .before .before .before .before .before .before .before .before .before .before .before .start-state .ensures .1) (r .ensures) (r .kept .1 .1 .1 .1 .0) (r .kept .1 .1 .1 .1 .1 .0) (c .before .before .before .before .before .before .before .before .before .before .before .before .before .before .if1 .left)
+    ∙ was-handed (a .text .now) (a .toks .now) (a .env .now) (a .depth) (a .mode) (a .scratch .now) (a .nodes .now) (a .finds .now) (a .last .now) _ _ (c .before .before .before .before .before .before .before .before .before .before .before .before .before .before .before .before .before .before .before .before .before .before .before .before .before .start-state .ensures .1) (r .ensures) (r .kept .1 .1 .1 .1 .0) (r .kept .1 .1 .1 .1 .1 .0) (c .before .before .before .before .before .before .before .before .before .before .before .before .before .before .before .if1 .left)
 
 pub read-into-spec : {M : Type 1} → statement M
 read-into-spec =
@@ -75,12 +69,10 @@ read-into-spec =
     same-length-2
     same-length-3
     same-length-4
-    same-length-5
     returns
     hand-out-requires
+    same-length-5
     same-length-6
     same-length-7
     same-length-8
-    same-length-9
-    same-length-10
     returns-2)

@@ -1,11 +1,10 @@
 -- by hand: three tests, no program.
-use native.Mathlib.Omega.{arith}
 use mathlib.Core.Path.{sym, _∙_}
 use borrow.Author.Tests.{not-true, not-false}
 use Rattle.grammar.specs.Read.{refusal}
 use Rattle.parser.specs.Checks.{settings-alone}
 use Rattle.sml_parse.specs.Entry.{callOf}
-use Rattle.sml_parse.proofs.Answers.{bad-settings, bad-records, bad-env, was-good, was-tested, small-mode}
+use Rattle.sml_parse.proofs.Answers.{bad-settings, bad-records, bad-env, was-good, was-tested}
 use borrow.Author.Needs.{needs}
 use Rattle.sml_parse.proofs.read_short.Statement.{statement}
 use Rattle.sml_parse.proofs.read_short.Tie as tie
@@ -94,12 +93,6 @@ returns-3 c =
     let r = sym (c .before .before .before .before .before .before .before .before .before .before .before .before .before .before .before .before .before .records-fit .ensures) ∙ not-false _ (c .before .before .before .before .before .before .before .before .before .before .before .before .before .before .before .before .if2 .left) in
     c .before .before .before .before .before .before .before .before .refuse-all3 .ensures ∙ sym (bad-env k s r (rw (c .before .before .before .before .before .before .before .before .before .before .before .before .before .enum-told .given .1) at (c .before .before .before .before .before .before .before .before .before .before .before .before .before .before .before .form-of .ensures)))
 
-cast-read-with : tie.Need-cast-read-with
-cast-read-with c =
-    let a = c .before .before .before .before .before .before .before .before .before .before .before .before .before .before .before .args in
-    let k = callOf (a .text .now) (a .toks .now) (a .env .now) (a .depth) (a .mode) (a .scratch .now) (a .nodes .now) (a .finds .now) (a .last .now) in
-    omega (arith, small-mode k (sym (settings-alone k) ∙ sym (c .before .before .before .before .before .before .before .settings-fit .ensures) ∙ not-false _ (c .before .before .before .before .before .before .if1 .left)))
-
 read-with-requires : tie.Need-read-with-requires
 read-with-requires c κs =
     let a = c .before .before .before .before .before .before .before .before .before .before .before .before .before .before .before .before .before .before .before .args in
@@ -155,7 +148,6 @@ read-short-spec =
     same-length-11
     same-length-12
     returns-3
-    cast-read-with
     read-with-requires
     same-length-13
     same-length-14

@@ -1,12 +1,8 @@
 -- by tools/prove
-use Rattle.grammar.specs.Util as util
-use Rattle.grammar.specs.Ty as types
-use Rattle.grammar.specs.Root as root
-use Rattle.grammar.specs.SyntaxKind as SK
 use Rattle.laws.specs.Progress.{end-turn-advances, star-advances, ty-step-advances}
 use Rattle.parser.specs.View.{mem}
-use Rattle.parser.specs.Runs.{runs-in, runs-always, kind-at, kind-off, kind-is, kind-not, ok-bumps, ok-marks, ok-state, small-len, Loops, turns, loop-starts, loop-goes, loop-falls, loop-ends}
-use Rattle.parser.specs.Plans.{plan, choose, chosen, in-steps, by-steps, s-rule, s-look, s-kind, s-true, s-false, s-bump, s-close, s-report, s-mark, s-deep, s-by, s-run, settled, s-end}
+use Rattle.parser.specs.Runs.{runs-in, kind-at, kind-off, kind-is, kind-not, ok-bumps, ok-marks, ok-eats, ok-takes, ok-state, small-len, Loops, turns, loop-starts, loop-goes, loop-falls, loop-ends}
+use Rattle.parser.specs.Plans.{plan, choose, chosen, in-steps, by-steps, s-rule, s-look, s-kind, s-true, s-false, s-bump, s-close, s-report, s-mark, s-deep, s-by, s-eats, s-takes, s-run, settled, eats-settled, s-end}
 use borrow.Author.Tests.{lt-ltb, le-ltb}
 use borrow.Author.Needs.{needs}
 use native.Mathlib.Omega.{arith}
@@ -14,6 +10,10 @@ use mathlib.Core.Path.{_≡_, refl, _∙_}
 use lib.ListN.{length}
 use Prim.Native.Nat.{_+_, _-_, _*_}
 use mathlib.Core.Bool.{true}
+use Rattle.grammar.specs.Util as util
+use Rattle.grammar.specs.Ty as types
+use Rattle.grammar.specs.Root as root
+use Rattle.grammar.specs.SyntaxKind as SK
 use Prim.Native.Nat.{ℕ, _<_}
 use borrow.Fn.Kinds.{In}
 use borrow.Fn.PlainCycle.{Measures, is, falls, and}
@@ -301,96 +301,94 @@ abbrev ty-tuple-below : ℕ → In 6 ty-tuple-kinds.ps
 ty-tuple-below t =
     and 6 ty-tuple-kinds.ps (falls 6 ty-tuple-kinds.ps _<_ μ-ty-tuple t) ty-tuple.Pre
 
-arg-item-refuse-requires : (t : ℕ) → arg-item-lts.Need-refuse-requires (
-  refuse-reads.Asked,
-  refuse-reads.Learnt,
-  mark-reads.Asked,
-  mark-reads.Learnt,
-  ty-must-below t,
-  ty-must.Post,
-  at-reads.Asked,
-  at-reads.Learnt,
-  bump-reads.Asked,
-  bump-reads.Learnt,
-  close-reads.Asked,
-  close-reads.Learnt,
-) (arg-item-at t) arg-item.Post
+-- what the calls of a function ask and say
+abbrev arg-item-told : ℕ → arg-item-lts.Claims
+arg-item-told t = (refuse-reads.Asked, refuse-reads.Learnt, mark-reads.Asked, mark-reads.Learnt, ty-must-below t, ty-must.Post, at-reads.Asked, at-reads.Learnt, bump-reads.Asked, bump-reads.Learnt, close-reads.Asked, close-reads.Learnt)
+
+abbrev arg-turn-told : ℕ → arg-turn-lts.Claims
+arg-turn-told t = (at-reads.Asked, at-reads.Learnt, bump-reads.Asked, bump-reads.Learnt, arg-item-below t, arg-item.Post, eat-reads.Asked, eat-reads.Learnt, state-reads.Asked, state-reads.Learnt)
+
+abbrev row-item-told : ℕ → row-item-lts.Claims
+row-item-told t = (refuse-reads.Asked, refuse-reads.Learnt, mark-reads.Asked, mark-reads.Learnt, ty-row-below t, ty-row.Post, at-reads.Asked, at-reads.Learnt, bump-reads.Asked, bump-reads.Learnt, close-reads.Asked, close-reads.Learnt)
+
+abbrev row-turn-told : ℕ → row-turn-lts.Claims
+row-turn-told t = (at-reads.Asked, at-reads.Learnt, bump-reads.Asked, bump-reads.Learnt, row-item-below t, row-item.Post, eat-reads.Asked, eat-reads.Learnt, state-reads.Asked, state-reads.Learnt)
+
+abbrev star-factor-told : ℕ → star-factor-lts.Claims
+star-factor-told t = (refuse-reads.Asked, refuse-reads.Learnt, mark-reads.Asked, mark-reads.Learnt, bump-reads.Asked, bump-reads.Learnt, ty-must-below t, ty-must.Post, close-reads.Asked, close-reads.Learnt)
+
+abbrev star-tail-told : ℕ → star-tail-lts.Claims
+star-tail-told t = (star-turn-below t, star-turn.Post)
+
+abbrev star-turn-told : ℕ → star-turn-lts.Claims
+star-turn-told t = (at-reads.Asked, at-reads.Learnt, star-factor-below t, star-factor.Post)
+
+abbrev ty-arg-told : ℕ → ty-arg-lts.Claims
+ty-arg-told t = (refuse-reads.Asked, refuse-reads.Learnt, mark-reads.Asked, mark-reads.Learnt, ty-must-below t, ty-must.Post, at-reads.Asked, at-reads.Learnt, eat-reads.Asked, eat-reads.Learnt, state-reads.Asked, state-reads.Learnt, close-reads.Asked, close-reads.Learnt)
+
+abbrev ty-args-told : ℕ → ty-args-lts.Claims
+ty-args-told t = (arg-turn-below t, arg-turn.Post)
+
+abbrev ty-arrow-told : ℕ → ty-arrow-lts.Claims
+ty-arrow-told t = (refuse-reads.Asked, refuse-reads.Learnt, mark-reads.Asked, mark-reads.Learnt, bump-reads.Asked, bump-reads.Learnt, ty-must-below t, ty-must.Post, close-reads.Asked, close-reads.Learnt)
+
+abbrev ty-head-told : ℕ → ty-head-lts.Claims
+ty-head-told t = (bump-reads.Asked, bump-reads.Learnt, close-reads.Asked, close-reads.Learnt, ty-inner-below t, ty-inner.Post)
+
+abbrev ty-inner-told : ℕ → ty-inner-lts.Claims
+ty-inner-told t = (bump-reads.Asked, bump-reads.Learnt, ty-rows-below t, ty-rows.Post, close-reads.Asked, close-reads.Learnt, ty-round-below t, ty-round.Post, path-must-reads.Asked, path-must-reads.Learnt, state-reads.Asked, state-reads.Learnt)
+
+abbrev ty-must-told : ℕ → ty-must-lts.Claims
+ty-must-told t = (ty-prec-below t, ty-prec.Post, report-reads.Asked, report-reads.Learnt)
+
+abbrev ty-prec-told : ℕ → ty-prec-lts.Claims
+ty-prec-told t = (peek-reads.Asked, peek-reads.Learnt, refuse-reads.Asked, refuse-reads.Learnt, mark-reads.Asked, mark-reads.Learnt, ty-head-below t, ty-head.Post, ty-tail-below t, ty-tail.Post)
+
+abbrev ty-round-told : ℕ → ty-round-lts.Claims
+ty-round-told t = (ty-seq-below t, ty-seq.Post, path-must-reads.Asked, path-must-reads.Learnt, state-reads.Asked, state-reads.Learnt, close-reads.Asked, close-reads.Learnt, bump-reads.Asked, bump-reads.Learnt)
+
+abbrev ty-row-told : ℕ → ty-row-lts.Claims
+ty-row-told t = (lab-reads.Asked, lab-reads.Learnt, bump-ascription-reads.Asked, bump-ascription-reads.Learnt, ty-must-below t, ty-must.Post)
+
+abbrev ty-rows-told : ℕ → ty-rows-lts.Claims
+ty-rows-told t = (row-turn-below t, row-turn.Post)
+
+abbrev ty-seq-told : ℕ → ty-seq-lts.Claims
+ty-seq-told t = (refuse-reads.Asked, refuse-reads.Learnt, mark-reads.Asked, mark-reads.Learnt, bump-reads.Asked, bump-reads.Learnt, ty-arg-below t, ty-arg.Post, ty-args-below t, ty-args.Post, close-reads.Asked, close-reads.Learnt)
+
+abbrev ty-step-told : ℕ → ty-step-lts.Claims
+ty-step-told t = (peek-reads.Asked, peek-reads.Learnt, ty-arrow-below t, ty-arrow.Post, ty-tuple-below t, ty-tuple.Post, ty-con-reads.Asked, ty-con-reads.Learnt)
+
+abbrev ty-tail-told : ℕ → ty-tail-lts.Claims
+ty-tail-told t = (ty-step-below t, ty-step.Post)
+
+abbrev ty-tuple-told : ℕ → ty-tuple-lts.Claims
+ty-tuple-told t = (refuse-reads.Asked, refuse-reads.Learnt, mark-reads.Asked, mark-reads.Learnt, star-tail-below t, star-tail.Post, close-reads.Asked, close-reads.Learnt)
+
+arg-item-refuse-requires : (t : ℕ) → arg-item-lts.Need-refuse-requires (arg-item-told t) (arg-item-at t) arg-item.Post
 arg-item-refuse-requires t c κs =
     tt
 
-arg-item-returns : (t : ℕ) → arg-item-lts.Need-returns (
-  refuse-reads.Asked,
-  refuse-reads.Learnt,
-  mark-reads.Asked,
-  mark-reads.Learnt,
-  ty-must-below t,
-  ty-must.Post,
-  at-reads.Asked,
-  at-reads.Learnt,
-  bump-reads.Asked,
-  bump-reads.Learnt,
-  close-reads.Asked,
-  close-reads.Learnt,
-) (arg-item-at t) arg-item.Post
+arg-item-returns : (t : ℕ) → arg-item-lts.Need-returns (arg-item-told t) (arg-item-at t) arg-item.Post
 unfolding util.endItem plan choose chosen
 arg-item-returns t c =
-    let falls = c .before .before .before .before .before .before .before .before .pre .0 in
     let pre0 = c .before .before .before .before .before .before .before .before .pre .1 in
     let if1 = c .before .if1 .taken in
     let refuse = c .refuse .ensures in
     by-steps pre0 (λ b. s-deep if1 refuse s-end)
 
-arg-item-mark-requires : (t : ℕ) → arg-item-lts.Need-mark-requires (
-  refuse-reads.Asked,
-  refuse-reads.Learnt,
-  mark-reads.Asked,
-  mark-reads.Learnt,
-  ty-must-below t,
-  ty-must.Post,
-  at-reads.Asked,
-  at-reads.Learnt,
-  bump-reads.Asked,
-  bump-reads.Learnt,
-  close-reads.Asked,
-  close-reads.Learnt,
-) (arg-item-at t) arg-item.Post
+arg-item-mark-requires : (t : ℕ) → arg-item-lts.Need-mark-requires (arg-item-told t) (arg-item-at t) arg-item.Post
 arg-item-mark-requires t c κs =
     tt
 
-arg-item-sub-ty-must : (t : ℕ) → arg-item-lts.Need-sub-ty-must (
-  refuse-reads.Asked,
-  refuse-reads.Learnt,
-  mark-reads.Asked,
-  mark-reads.Learnt,
-  ty-must-below t,
-  ty-must.Post,
-  at-reads.Asked,
-  at-reads.Learnt,
-  bump-reads.Asked,
-  bump-reads.Learnt,
-  close-reads.Asked,
-  close-reads.Learnt,
-) (arg-item-at t) arg-item.Post
+arg-item-sub-ty-must : (t : ℕ) → arg-item-lts.Need-sub-ty-must (arg-item-told t) (arg-item-at t) arg-item.Post
 arg-item-sub-ty-must t c =
     let falls = c .before .before .before .before .before .before .before .before .before .before .pre .0 in
     let pre0 = c .before .before .before .before .before .before .before .before .before .before .pre .1 in
     let if1 = c .before .before .before .if1 .left in
     search needs
 
-arg-item-ty-must-requires : (t : ℕ) → arg-item-lts.Need-ty-must-requires (
-  refuse-reads.Asked,
-  refuse-reads.Learnt,
-  mark-reads.Asked,
-  mark-reads.Learnt,
-  ty-must-below t,
-  ty-must.Post,
-  at-reads.Asked,
-  at-reads.Learnt,
-  bump-reads.Asked,
-  bump-reads.Learnt,
-  close-reads.Asked,
-  close-reads.Learnt,
-) (arg-item-at t) arg-item.Post
+arg-item-ty-must-requires : (t : ℕ) → arg-item-lts.Need-ty-must-requires (arg-item-told t) (arg-item-at t) arg-item.Post
 arg-item-ty-must-requires t c κs =
     let falls = c .before .before .before .before .before .before .before .before .before .before .pre .0 in
     let pre0 = c .before .before .before .before .before .before .before .before .before .before .pre .1 in
@@ -399,58 +397,19 @@ arg-item-ty-must-requires t c κs =
     let mark-ok = ok-marks mark pre0 in
     (omega arith, mark-ok)
 
-arg-item-at-requires : (t : ℕ) → arg-item-lts.Need-at-requires (
-  refuse-reads.Asked,
-  refuse-reads.Learnt,
-  mark-reads.Asked,
-  mark-reads.Learnt,
-  ty-must-below t,
-  ty-must.Post,
-  at-reads.Asked,
-  at-reads.Learnt,
-  bump-reads.Asked,
-  bump-reads.Learnt,
-  close-reads.Asked,
-  close-reads.Learnt,
-) (arg-item-at t) arg-item.Post
+arg-item-at-requires : (t : ℕ) → arg-item-lts.Need-at-requires (arg-item-told t) (arg-item-at t) arg-item.Post
 arg-item-at-requires t c κs =
     let ty-must = c .before .before .before .before .ty-must .ensures in
     let ty-must-ok = ty-must .ok in
     ty-must-ok .reads
 
-arg-item-bump-requires : (t : ℕ) → arg-item-lts.Need-bump-requires (
-  refuse-reads.Asked,
-  refuse-reads.Learnt,
-  mark-reads.Asked,
-  mark-reads.Learnt,
-  ty-must-below t,
-  ty-must.Post,
-  at-reads.Asked,
-  at-reads.Learnt,
-  bump-reads.Asked,
-  bump-reads.Learnt,
-  close-reads.Asked,
-  close-reads.Learnt,
-) (arg-item-at t) arg-item.Post
+arg-item-bump-requires : (t : ℕ) → arg-item-lts.Need-bump-requires (arg-item-told t) (arg-item-at t) arg-item.Post
 arg-item-bump-requires t c κs =
     let ty-must = c .before .before .before .before .before .before .before .ty-must .ensures in
     let ty-must-ok = ty-must .ok in
     (ty-must-ok .reads, ty-must-ok .logs)
 
-arg-item-close-requires : (t : ℕ) → arg-item-lts.Need-close-requires (
-  refuse-reads.Asked,
-  refuse-reads.Learnt,
-  mark-reads.Asked,
-  mark-reads.Learnt,
-  ty-must-below t,
-  ty-must.Post,
-  at-reads.Asked,
-  at-reads.Learnt,
-  bump-reads.Asked,
-  bump-reads.Learnt,
-  close-reads.Asked,
-  close-reads.Learnt,
-) (arg-item-at t) arg-item.Post
+arg-item-close-requires : (t : ℕ) → arg-item-lts.Need-close-requires (arg-item-told t) (arg-item-at t) arg-item.Post
 arg-item-close-requires t c κs =
     let pre0 = c .before .before .before .before .before .before .before .before .before .before .before .before .before .before .before .before .before .before .before .before .before .before .pre .1 in
     let mark = c .before .before .before .before .before .before .before .before .before .before .before .before .before .before .mark .ensures in
@@ -461,57 +420,17 @@ arg-item-close-requires t c κs =
     let bump-ok = ok-bumps bump ty-must-ok in
     (bump-ok .logs, small-len mark-ok)
 
-arg-item-same-length : (t : ℕ) → arg-item-lts.Need-same-length (
-  refuse-reads.Asked,
-  refuse-reads.Learnt,
-  mark-reads.Asked,
-  mark-reads.Learnt,
-  ty-must-below t,
-  ty-must.Post,
-  at-reads.Asked,
-  at-reads.Learnt,
-  bump-reads.Asked,
-  bump-reads.Learnt,
-  close-reads.Asked,
-  close-reads.Learnt,
-) (arg-item-at t) arg-item.Post
+arg-item-same-length : (t : ℕ) → arg-item-lts.Need-same-length (arg-item-told t) (arg-item-at t) arg-item.Post
 arg-item-same-length t c =
     c .before .before .close .kept .0 ∙ c .before .before .before .before .before .before .bump .kept .1 .0 ∙ c .before .before .before .before .before .before .before .before .before .before .before .before .before .before .ty-must .kept .1 .1 .1 .1 .0
 
-arg-item-same-length-2 : (t : ℕ) → arg-item-lts.Need-same-length-2 (
-  refuse-reads.Asked,
-  refuse-reads.Learnt,
-  mark-reads.Asked,
-  mark-reads.Learnt,
-  ty-must-below t,
-  ty-must.Post,
-  at-reads.Asked,
-  at-reads.Learnt,
-  bump-reads.Asked,
-  bump-reads.Learnt,
-  close-reads.Asked,
-  close-reads.Learnt,
-) (arg-item-at t) arg-item.Post
+arg-item-same-length-2 : (t : ℕ) → arg-item-lts.Need-same-length-2 (arg-item-told t) (arg-item-at t) arg-item.Post
 arg-item-same-length-2 t c =
     c .before .before .before .before .before .before .before .before .before .before .before .before .before .before .ty-must .kept .1 .1 .1 .1 .1 .0
 
-arg-item-returns-2 : (t : ℕ) → arg-item-lts.Need-returns-2 (
-  refuse-reads.Asked,
-  refuse-reads.Learnt,
-  mark-reads.Asked,
-  mark-reads.Learnt,
-  ty-must-below t,
-  ty-must.Post,
-  at-reads.Asked,
-  at-reads.Learnt,
-  bump-reads.Asked,
-  bump-reads.Learnt,
-  close-reads.Asked,
-  close-reads.Learnt,
-) (arg-item-at t) arg-item.Post
+arg-item-returns-2 : (t : ℕ) → arg-item-lts.Need-returns-2 (arg-item-told t) (arg-item-at t) arg-item.Post
 unfolding util.endItem plan choose chosen
 arg-item-returns-2 t c =
-    let falls = c .before .before .before .before .before .before .before .before .before .before .before .before .before .before .before .before .before .before .before .before .before .before .before .before .before .pre .0 in
     let pre0 = c .before .before .before .before .before .before .before .before .before .before .before .before .before .before .before .before .before .before .before .before .before .before .before .before .before .pre .1 in
     let if1 = c .before .before .before .before .before .before .before .before .before .before .before .before .before .before .before .before .before .before .if1 .left in
     let mark = c .before .before .before .before .before .before .before .before .before .before .before .before .before .before .before .before .before .mark .ensures in
@@ -522,20 +441,7 @@ arg-item-returns-2 t c =
     let close = c .before .before .close .ensures in
     by-steps pre0 (λ b. s-mark if1 mark (s-by _ (runs-in ty-must) (s-kind (s-true _ _ (kind-at _ _ _ _ at if2) (s-bump bump (s-close close s-end))))))
 
-arg-item-close-requires-2 : (t : ℕ) → arg-item-lts.Need-close-requires-2 (
-  refuse-reads.Asked,
-  refuse-reads.Learnt,
-  mark-reads.Asked,
-  mark-reads.Learnt,
-  ty-must-below t,
-  ty-must.Post,
-  at-reads.Asked,
-  at-reads.Learnt,
-  bump-reads.Asked,
-  bump-reads.Learnt,
-  close-reads.Asked,
-  close-reads.Learnt,
-) (arg-item-at t) arg-item.Post
+arg-item-close-requires-2 : (t : ℕ) → arg-item-lts.Need-close-requires-2 (arg-item-told t) (arg-item-at t) arg-item.Post
 arg-item-close-requires-2 t c κs =
     let pre0 = c .before .before .before .before .before .before .before .before .before .before .before .before .before .before .before .before .before .before .pre .1 in
     let mark = c .before .before .before .before .before .before .before .before .before .before .mark .ensures in
@@ -544,57 +450,17 @@ arg-item-close-requires-2 t c κs =
     let ty-must-ok = ty-must .ok in
     (ty-must-ok .logs, small-len mark-ok)
 
-arg-item-same-length-3 : (t : ℕ) → arg-item-lts.Need-same-length-3 (
-  refuse-reads.Asked,
-  refuse-reads.Learnt,
-  mark-reads.Asked,
-  mark-reads.Learnt,
-  ty-must-below t,
-  ty-must.Post,
-  at-reads.Asked,
-  at-reads.Learnt,
-  bump-reads.Asked,
-  bump-reads.Learnt,
-  close-reads.Asked,
-  close-reads.Learnt,
-) (arg-item-at t) arg-item.Post
+arg-item-same-length-3 : (t : ℕ) → arg-item-lts.Need-same-length-3 (arg-item-told t) (arg-item-at t) arg-item.Post
 arg-item-same-length-3 t c =
     c .before .before .close2 .kept .0 ∙ c .before .before .before .before .before .before .before .before .before .before .ty-must .kept .1 .1 .1 .1 .0
 
-arg-item-same-length-4 : (t : ℕ) → arg-item-lts.Need-same-length-4 (
-  refuse-reads.Asked,
-  refuse-reads.Learnt,
-  mark-reads.Asked,
-  mark-reads.Learnt,
-  ty-must-below t,
-  ty-must.Post,
-  at-reads.Asked,
-  at-reads.Learnt,
-  bump-reads.Asked,
-  bump-reads.Learnt,
-  close-reads.Asked,
-  close-reads.Learnt,
-) (arg-item-at t) arg-item.Post
+arg-item-same-length-4 : (t : ℕ) → arg-item-lts.Need-same-length-4 (arg-item-told t) (arg-item-at t) arg-item.Post
 arg-item-same-length-4 t c =
     c .before .before .before .before .before .before .before .before .before .before .ty-must .kept .1 .1 .1 .1 .1 .0
 
-arg-item-returns-3 : (t : ℕ) → arg-item-lts.Need-returns-3 (
-  refuse-reads.Asked,
-  refuse-reads.Learnt,
-  mark-reads.Asked,
-  mark-reads.Learnt,
-  ty-must-below t,
-  ty-must.Post,
-  at-reads.Asked,
-  at-reads.Learnt,
-  bump-reads.Asked,
-  bump-reads.Learnt,
-  close-reads.Asked,
-  close-reads.Learnt,
-) (arg-item-at t) arg-item.Post
+arg-item-returns-3 : (t : ℕ) → arg-item-lts.Need-returns-3 (arg-item-told t) (arg-item-at t) arg-item.Post
 unfolding util.endItem plan choose chosen
 arg-item-returns-3 t c =
-    let falls = c .before .before .before .before .before .before .before .before .before .before .before .before .before .before .before .before .before .before .before .before .before .pre .0 in
     let pre0 = c .before .before .before .before .before .before .before .before .before .before .before .before .before .before .before .before .before .before .before .before .before .pre .1 in
     let if1 = c .before .before .before .before .before .before .before .before .before .before .before .before .before .before .if1 .left in
     let mark = c .before .before .before .before .before .before .before .before .before .before .before .before .before .mark .ensures in
@@ -604,357 +470,123 @@ arg-item-returns-3 t c =
     let close2 = c .before .before .close2 .ensures in
     by-steps pre0 (λ b. s-mark if1 mark (s-by _ (runs-in ty-must) (s-kind (s-false _ _ (kind-off _ _ _ _ at if2) (s-close close2 s-end)))))
 
-arg-turn-at-requires : (t : ℕ) → arg-turn-lts.Need-at-requires (
-  at-reads.Asked,
-  at-reads.Learnt,
-  bump-reads.Asked,
-  bump-reads.Learnt,
-  arg-item-below t,
-  arg-item.Post,
-  eat-reads.Asked,
-  eat-reads.Learnt,
-  state-reads.Asked,
-  state-reads.Learnt,
-) (arg-turn-at t) arg-turn.Post
+arg-turn-at-requires : (t : ℕ) → arg-turn-lts.Need-at-requires (arg-turn-told t) (arg-turn-at t) arg-turn.Post
 arg-turn-at-requires t c κs =
     let pre0 = c .before .before .before .before .before .before .pre .1 in
     pre0 .reads
 
-arg-turn-bump-requires : (t : ℕ) → arg-turn-lts.Need-bump-requires (
-  at-reads.Asked,
-  at-reads.Learnt,
-  bump-reads.Asked,
-  bump-reads.Learnt,
-  arg-item-below t,
-  arg-item.Post,
-  eat-reads.Asked,
-  eat-reads.Learnt,
-  state-reads.Asked,
-  state-reads.Learnt,
-) (arg-turn-at t) arg-turn.Post
+arg-turn-bump-requires : (t : ℕ) → arg-turn-lts.Need-bump-requires (arg-turn-told t) (arg-turn-at t) arg-turn.Post
 arg-turn-bump-requires t c κs =
     let pre0 = c .before .before .before .before .before .before .before .before .before .pre .1 in
     (pre0 .reads, pre0 .logs)
 
-arg-turn-same-length : (t : ℕ) → arg-turn-lts.Need-same-length (
-  at-reads.Asked,
-  at-reads.Learnt,
-  bump-reads.Asked,
-  bump-reads.Learnt,
-  arg-item-below t,
-  arg-item.Post,
-  eat-reads.Asked,
-  eat-reads.Learnt,
-  state-reads.Asked,
-  state-reads.Learnt,
-) (arg-turn-at t) arg-turn.Post
+arg-turn-same-length : (t : ℕ) → arg-turn-lts.Need-same-length (arg-turn-told t) (arg-turn-at t) arg-turn.Post
 arg-turn-same-length t c =
     c .before .before .bump .kept .1 .0
 
-arg-turn-returns : (t : ℕ) → arg-turn-lts.Need-returns (
-  at-reads.Asked,
-  at-reads.Learnt,
-  bump-reads.Asked,
-  bump-reads.Learnt,
-  arg-item-below t,
-  arg-item.Post,
-  eat-reads.Asked,
-  eat-reads.Learnt,
-  state-reads.Asked,
-  state-reads.Learnt,
-) (arg-turn-at t) arg-turn.Post
+arg-turn-returns : (t : ℕ) → arg-turn-lts.Need-returns (arg-turn-told t) (arg-turn-at t) arg-turn.Post
 unfolding util.endTurn plan choose chosen
 arg-turn-returns t c =
-    let falls = c .before .before .before .before .before .before .before .before .before .before .before .before .pre .0 in
     let pre0 = c .before .before .before .before .before .before .before .before .before .before .before .before .pre .1 in
     let at = c .before .before .before .before .before .at .ensures in
     let if1 = c .before .before .before .before .if1 .taken in
     let bump = c .before .before .bump .ensures in
     by-steps pre0 (λ b. s-kind (s-true _ _ (kind-at _ _ _ _ at if1) (s-bump bump s-end)))
 
-arg-turn-arg-item-requires : (t : ℕ) → arg-turn-lts.Need-arg-item-requires (
-  at-reads.Asked,
-  at-reads.Learnt,
-  bump-reads.Asked,
-  bump-reads.Learnt,
-  arg-item-below t,
-  arg-item.Post,
-  eat-reads.Asked,
-  eat-reads.Learnt,
-  state-reads.Asked,
-  state-reads.Learnt,
-) (arg-turn-at t) arg-turn.Post
+arg-turn-arg-item-requires : (t : ℕ) → arg-turn-lts.Need-arg-item-requires (arg-turn-told t) (arg-turn-at t) arg-turn.Post
 arg-turn-arg-item-requires t c κs =
     let falls = c .before .before .before .before .before .before .before .before .before .before .pre .0 in
     let pre0 = c .before .before .before .before .before .before .before .before .before .before .pre .1 in
     let if1 = c .before .before .if1 .left in
     (omega arith, pre0)
 
-arg-turn-enum-known-item : (t : ℕ) → arg-turn-lts.Need-enum-known-item (
-  at-reads.Asked,
-  at-reads.Learnt,
-  bump-reads.Asked,
-  bump-reads.Learnt,
-  arg-item-below t,
-  arg-item.Post,
-  eat-reads.Asked,
-  eat-reads.Learnt,
-  state-reads.Asked,
-  state-reads.Learnt,
-) (arg-turn-at t) arg-turn.Post
+arg-turn-enum-known-item : (t : ℕ) → arg-turn-lts.Need-enum-known-item (arg-turn-told t) (arg-turn-at t) arg-turn.Post
 arg-turn-enum-known-item t c =
     let falls = c .before .before .before .before .before .before .before .before .before .before .before .before .before .before .before .before .pre .0 in
     let pre0 = c .before .before .before .before .before .before .before .before .before .before .before .before .before .before .before .before .pre .1 in
     let if1 = c .before .before .before .before .before .before .before .before .if1 .left in
     search needs
 
-arg-turn-enum-known-item-2 : (t : ℕ) → arg-turn-lts.Need-enum-known-item-2 (
-  at-reads.Asked,
-  at-reads.Learnt,
-  bump-reads.Asked,
-  bump-reads.Learnt,
-  arg-item-below t,
-  arg-item.Post,
-  eat-reads.Asked,
-  eat-reads.Learnt,
-  state-reads.Asked,
-  state-reads.Learnt,
-) (arg-turn-at t) arg-turn.Post
+arg-turn-enum-known-item-2 : (t : ℕ) → arg-turn-lts.Need-enum-known-item-2 (arg-turn-told t) (arg-turn-at t) arg-turn.Post
 arg-turn-enum-known-item-2 t c =
     let falls = c .before .before .before .before .before .before .before .before .before .before .before .before .before .before .before .before .pre .0 in
     let pre0 = c .before .before .before .before .before .before .before .before .before .before .before .before .before .before .before .before .pre .1 in
     let if1 = c .before .before .before .before .before .before .before .before .if1 .left in
     search needs
 
-arg-turn-eat-requires : (t : ℕ) → arg-turn-lts.Need-eat-requires (
-  at-reads.Asked,
-  at-reads.Learnt,
-  bump-reads.Asked,
-  bump-reads.Learnt,
-  arg-item-below t,
-  arg-item.Post,
-  eat-reads.Asked,
-  eat-reads.Learnt,
-  state-reads.Asked,
-  state-reads.Learnt,
-) (arg-turn-at t) arg-turn.Post
+arg-turn-eat-requires : (t : ℕ) → arg-turn-lts.Need-eat-requires (arg-turn-told t) (arg-turn-at t) arg-turn.Post
 arg-turn-eat-requires t c κs =
     let falls = c .before .before .before .before .before .before .before .before .before .before .before .before .before .before .before .before .before .before .before .before .pre .0 in
     let at = c .before .before .before .before .before .before .before .before .before .before .before .before .before .at .ensures in
     let if1 = c .before .before .before .before .before .before .before .before .before .before .before .before .if1 .left in
     let arg-item = rw (c .before .before .before .item2 .given .1) at (c .before .before .before .before .before .before .before .before .before .arg-item .ensures) in
     let arg-item-ok = arg-item .ok in
-    (arg-item-ok, omega arith)
+    (arg-item-ok .reads, arg-item-ok .logs, arg-item-ok .holds, omega arith)
 
-arg-turn-state-requires : (t : ℕ) → arg-turn-lts.Need-state-requires (
-  at-reads.Asked,
-  at-reads.Learnt,
-  bump-reads.Asked,
-  bump-reads.Learnt,
-  arg-item-below t,
-  arg-item.Post,
-  eat-reads.Asked,
-  eat-reads.Learnt,
-  state-reads.Asked,
-  state-reads.Learnt,
-) (arg-turn-at t) arg-turn.Post
+arg-turn-state-requires : (t : ℕ) → arg-turn-lts.Need-state-requires (arg-turn-told t) (arg-turn-at t) arg-turn.Post
 arg-turn-state-requires t c κs =
     tt
 
-arg-turn-same-length-2 : (t : ℕ) → arg-turn-lts.Need-same-length-2 (
-  at-reads.Asked,
-  at-reads.Learnt,
-  bump-reads.Asked,
-  bump-reads.Learnt,
-  arg-item-below t,
-  arg-item.Post,
-  eat-reads.Asked,
-  eat-reads.Learnt,
-  state-reads.Asked,
-  state-reads.Learnt,
-) (arg-turn-at t) arg-turn.Post
+arg-turn-same-length-2 : (t : ℕ) → arg-turn-lts.Need-same-length-2 (arg-turn-told t) (arg-turn-at t) arg-turn.Post
 arg-turn-same-length-2 t c =
     c .before .before .before .before .before .before .before .arg-item .kept .1 .1 .1 .1 .0
 
-arg-turn-same-length-3 : (t : ℕ) → arg-turn-lts.Need-same-length-3 (
-  at-reads.Asked,
-  at-reads.Learnt,
-  bump-reads.Asked,
-  bump-reads.Learnt,
-  arg-item-below t,
-  arg-item.Post,
-  eat-reads.Asked,
-  eat-reads.Learnt,
-  state-reads.Asked,
-  state-reads.Learnt,
-) (arg-turn-at t) arg-turn.Post
+arg-turn-same-length-3 : (t : ℕ) → arg-turn-lts.Need-same-length-3 (arg-turn-told t) (arg-turn-at t) arg-turn.Post
 arg-turn-same-length-3 t c =
     c .before .before .before .before .before .before .before .arg-item .kept .1 .1 .1 .1 .1 .0
 
-arg-turn-returns-2 : (t : ℕ) → arg-turn-lts.Need-returns-2 (
-  at-reads.Asked,
-  at-reads.Learnt,
-  bump-reads.Asked,
-  bump-reads.Learnt,
-  arg-item-below t,
-  arg-item.Post,
-  eat-reads.Asked,
-  eat-reads.Learnt,
-  state-reads.Asked,
-  state-reads.Learnt,
-) (arg-turn-at t) arg-turn.Post
+arg-turn-returns-2 : (t : ℕ) → arg-turn-lts.Need-returns-2 (arg-turn-told t) (arg-turn-at t) arg-turn.Post
 unfolding util.endTurn plan choose chosen
 arg-turn-returns-2 t c =
-    let falls = c .before .before .before .before .before .before .before .before .before .before .before .before .before .before .before .before .before .before .pre .0 in
     let pre0 = c .before .before .before .before .before .before .before .before .before .before .before .before .before .before .before .before .before .before .pre .1 in
     let at = c .before .before .before .before .before .before .before .before .before .before .before .at .ensures in
     let if1 = c .before .before .before .before .before .before .before .before .before .before .if1 .left in
     let arg-item = rw (c .before .item .given .1) at (c .before .before .before .before .before .before .before .arg-item .ensures) in
     by-steps pre0 (λ b. s-kind (s-false _ _ (kind-off _ _ _ _ at if1) (s-by _ (runs-in arg-item) s-end)))
 
-arg-turn-same-length-4 : (t : ℕ) → arg-turn-lts.Need-same-length-4 (
-  at-reads.Asked,
-  at-reads.Learnt,
-  bump-reads.Asked,
-  bump-reads.Learnt,
-  arg-item-below t,
-  arg-item.Post,
-  eat-reads.Asked,
-  eat-reads.Learnt,
-  state-reads.Asked,
-  state-reads.Learnt,
-) (arg-turn-at t) arg-turn.Post
+arg-turn-same-length-4 : (t : ℕ) → arg-turn-lts.Need-same-length-4 (arg-turn-told t) (arg-turn-at t) arg-turn.Post
 arg-turn-same-length-4 t c =
-    c .before .before .before .before .before .eat .kept .1 .1 .1 .1 .0 ∙ c .before .before .before .before .before .before .before .before .before .before .before .before .before .before .before .arg-item .kept .1 .1 .1 .1 .0
+    c .before .before .before .before .before .eat .kept .1 .0 ∙ c .before .before .before .before .before .before .before .before .before .before .before .before .before .before .before .arg-item .kept .1 .1 .1 .1 .0
 
-arg-turn-same-length-5 : (t : ℕ) → arg-turn-lts.Need-same-length-5 (
-  at-reads.Asked,
-  at-reads.Learnt,
-  bump-reads.Asked,
-  bump-reads.Learnt,
-  arg-item-below t,
-  arg-item.Post,
-  eat-reads.Asked,
-  eat-reads.Learnt,
-  state-reads.Asked,
-  state-reads.Learnt,
-) (arg-turn-at t) arg-turn.Post
+arg-turn-same-length-5 : (t : ℕ) → arg-turn-lts.Need-same-length-5 (arg-turn-told t) (arg-turn-at t) arg-turn.Post
 arg-turn-same-length-5 t c =
-    c .before .before .before .before .before .eat .kept .1 .1 .1 .1 .1 .0 ∙ c .before .before .before .before .before .before .before .before .before .before .before .before .before .before .before .arg-item .kept .1 .1 .1 .1 .1 .0
+    c .before .before .before .before .before .eat .kept .1 .1 .0 ∙ c .before .before .before .before .before .before .before .before .before .before .before .before .before .before .before .arg-item .kept .1 .1 .1 .1 .1 .0
 
-arg-turn-returns-3 : (t : ℕ) → arg-turn-lts.Need-returns-3 (
-  at-reads.Asked,
-  at-reads.Learnt,
-  bump-reads.Asked,
-  bump-reads.Learnt,
-  arg-item-below t,
-  arg-item.Post,
-  eat-reads.Asked,
-  eat-reads.Learnt,
-  state-reads.Asked,
-  state-reads.Learnt,
-) (arg-turn-at t) arg-turn.Post
+arg-turn-returns-3 : (t : ℕ) → arg-turn-lts.Need-returns-3 (arg-turn-told t) (arg-turn-at t) arg-turn.Post
 unfolding util.endTurn plan choose chosen
 arg-turn-returns-3 t c =
-    let falls = c .before .before .before .before .before .before .before .before .before .before .before .before .before .before .before .before .before .before .before .before .before .before .before .before .before .before .pre .0 in
     let pre0 = c .before .before .before .before .before .before .before .before .before .before .before .before .before .before .before .before .before .before .before .before .before .before .before .before .before .before .pre .1 in
     let at = c .before .before .before .before .before .before .before .before .before .before .before .before .before .before .before .before .before .before .before .at .ensures in
     let if1 = c .before .before .before .before .before .before .before .before .before .before .before .before .before .before .before .before .before .before .if1 .left in
     let arg-item = rw (c .before .before .before .before .before .before .before .before .before .item2 .given .1) at (c .before .before .before .before .before .before .before .before .before .before .before .before .before .before .before .arg-item .ensures) in
     let eat = c .before .before .before .before .before .eat .ensures in
     let state = c .state .ensures in
-    by-steps pre0 (λ b. s-kind (s-false _ _ (kind-off _ _ _ _ at if1) (s-by _ (runs-in arg-item) (s-by _ (settled state (runs-always eat)) s-end))))
+    by-steps pre0 (λ b. s-kind (s-false _ _ (kind-off _ _ _ _ at if1) (s-by _ (runs-in arg-item) (s-eats _ _ _ (eats-settled state eat) s-end))))
 
-row-item-refuse-requires : (t : ℕ) → row-item-lts.Need-refuse-requires (
-  refuse-reads.Asked,
-  refuse-reads.Learnt,
-  mark-reads.Asked,
-  mark-reads.Learnt,
-  ty-row-below t,
-  ty-row.Post,
-  at-reads.Asked,
-  at-reads.Learnt,
-  bump-reads.Asked,
-  bump-reads.Learnt,
-  close-reads.Asked,
-  close-reads.Learnt,
-) (row-item-at t) row-item.Post
+row-item-refuse-requires : (t : ℕ) → row-item-lts.Need-refuse-requires (row-item-told t) (row-item-at t) row-item.Post
 row-item-refuse-requires t c κs =
     tt
 
-row-item-returns : (t : ℕ) → row-item-lts.Need-returns (
-  refuse-reads.Asked,
-  refuse-reads.Learnt,
-  mark-reads.Asked,
-  mark-reads.Learnt,
-  ty-row-below t,
-  ty-row.Post,
-  at-reads.Asked,
-  at-reads.Learnt,
-  bump-reads.Asked,
-  bump-reads.Learnt,
-  close-reads.Asked,
-  close-reads.Learnt,
-) (row-item-at t) row-item.Post
+row-item-returns : (t : ℕ) → row-item-lts.Need-returns (row-item-told t) (row-item-at t) row-item.Post
 unfolding util.endItem plan choose chosen
 row-item-returns t c =
-    let falls = c .before .before .before .before .before .before .before .before .pre .0 in
     let pre0 = c .before .before .before .before .before .before .before .before .pre .1 in
     let if1 = c .before .if1 .taken in
     let refuse = c .refuse .ensures in
     by-steps pre0 (λ b. s-deep if1 refuse s-end)
 
-row-item-mark-requires : (t : ℕ) → row-item-lts.Need-mark-requires (
-  refuse-reads.Asked,
-  refuse-reads.Learnt,
-  mark-reads.Asked,
-  mark-reads.Learnt,
-  ty-row-below t,
-  ty-row.Post,
-  at-reads.Asked,
-  at-reads.Learnt,
-  bump-reads.Asked,
-  bump-reads.Learnt,
-  close-reads.Asked,
-  close-reads.Learnt,
-) (row-item-at t) row-item.Post
+row-item-mark-requires : (t : ℕ) → row-item-lts.Need-mark-requires (row-item-told t) (row-item-at t) row-item.Post
 row-item-mark-requires t c κs =
     tt
 
-row-item-sub-ty-row : (t : ℕ) → row-item-lts.Need-sub-ty-row (
-  refuse-reads.Asked,
-  refuse-reads.Learnt,
-  mark-reads.Asked,
-  mark-reads.Learnt,
-  ty-row-below t,
-  ty-row.Post,
-  at-reads.Asked,
-  at-reads.Learnt,
-  bump-reads.Asked,
-  bump-reads.Learnt,
-  close-reads.Asked,
-  close-reads.Learnt,
-) (row-item-at t) row-item.Post
+row-item-sub-ty-row : (t : ℕ) → row-item-lts.Need-sub-ty-row (row-item-told t) (row-item-at t) row-item.Post
 row-item-sub-ty-row t c =
     let falls = c .before .before .before .before .before .before .before .before .before .before .pre .0 in
     let pre0 = c .before .before .before .before .before .before .before .before .before .before .pre .1 in
     let if1 = c .before .before .before .if1 .left in
     search needs
 
-row-item-ty-row-requires : (t : ℕ) → row-item-lts.Need-ty-row-requires (
-  refuse-reads.Asked,
-  refuse-reads.Learnt,
-  mark-reads.Asked,
-  mark-reads.Learnt,
-  ty-row-below t,
-  ty-row.Post,
-  at-reads.Asked,
-  at-reads.Learnt,
-  bump-reads.Asked,
-  bump-reads.Learnt,
-  close-reads.Asked,
-  close-reads.Learnt,
-) (row-item-at t) row-item.Post
+row-item-ty-row-requires : (t : ℕ) → row-item-lts.Need-ty-row-requires (row-item-told t) (row-item-at t) row-item.Post
 row-item-ty-row-requires t c κs =
     let falls = c .before .before .before .before .before .before .before .before .before .before .pre .0 in
     let pre0 = c .before .before .before .before .before .before .before .before .before .before .pre .1 in
@@ -963,58 +595,19 @@ row-item-ty-row-requires t c κs =
     let mark-ok = ok-marks mark pre0 in
     (omega arith, mark-ok)
 
-row-item-at-requires : (t : ℕ) → row-item-lts.Need-at-requires (
-  refuse-reads.Asked,
-  refuse-reads.Learnt,
-  mark-reads.Asked,
-  mark-reads.Learnt,
-  ty-row-below t,
-  ty-row.Post,
-  at-reads.Asked,
-  at-reads.Learnt,
-  bump-reads.Asked,
-  bump-reads.Learnt,
-  close-reads.Asked,
-  close-reads.Learnt,
-) (row-item-at t) row-item.Post
+row-item-at-requires : (t : ℕ) → row-item-lts.Need-at-requires (row-item-told t) (row-item-at t) row-item.Post
 row-item-at-requires t c κs =
     let ty-row = c .before .before .before .before .ty-row .ensures in
     let ty-row-ok = ty-row .ok in
     ty-row-ok .reads
 
-row-item-bump-requires : (t : ℕ) → row-item-lts.Need-bump-requires (
-  refuse-reads.Asked,
-  refuse-reads.Learnt,
-  mark-reads.Asked,
-  mark-reads.Learnt,
-  ty-row-below t,
-  ty-row.Post,
-  at-reads.Asked,
-  at-reads.Learnt,
-  bump-reads.Asked,
-  bump-reads.Learnt,
-  close-reads.Asked,
-  close-reads.Learnt,
-) (row-item-at t) row-item.Post
+row-item-bump-requires : (t : ℕ) → row-item-lts.Need-bump-requires (row-item-told t) (row-item-at t) row-item.Post
 row-item-bump-requires t c κs =
     let ty-row = c .before .before .before .before .before .before .before .ty-row .ensures in
     let ty-row-ok = ty-row .ok in
     (ty-row-ok .reads, ty-row-ok .logs)
 
-row-item-close-requires : (t : ℕ) → row-item-lts.Need-close-requires (
-  refuse-reads.Asked,
-  refuse-reads.Learnt,
-  mark-reads.Asked,
-  mark-reads.Learnt,
-  ty-row-below t,
-  ty-row.Post,
-  at-reads.Asked,
-  at-reads.Learnt,
-  bump-reads.Asked,
-  bump-reads.Learnt,
-  close-reads.Asked,
-  close-reads.Learnt,
-) (row-item-at t) row-item.Post
+row-item-close-requires : (t : ℕ) → row-item-lts.Need-close-requires (row-item-told t) (row-item-at t) row-item.Post
 row-item-close-requires t c κs =
     let pre0 = c .before .before .before .before .before .before .before .before .before .before .before .before .before .before .before .before .before .before .before .before .before .before .pre .1 in
     let mark = c .before .before .before .before .before .before .before .before .before .before .before .before .before .before .mark .ensures in
@@ -1025,57 +618,17 @@ row-item-close-requires t c κs =
     let bump-ok = ok-bumps bump ty-row-ok in
     (bump-ok .logs, small-len mark-ok)
 
-row-item-same-length : (t : ℕ) → row-item-lts.Need-same-length (
-  refuse-reads.Asked,
-  refuse-reads.Learnt,
-  mark-reads.Asked,
-  mark-reads.Learnt,
-  ty-row-below t,
-  ty-row.Post,
-  at-reads.Asked,
-  at-reads.Learnt,
-  bump-reads.Asked,
-  bump-reads.Learnt,
-  close-reads.Asked,
-  close-reads.Learnt,
-) (row-item-at t) row-item.Post
+row-item-same-length : (t : ℕ) → row-item-lts.Need-same-length (row-item-told t) (row-item-at t) row-item.Post
 row-item-same-length t c =
     c .before .before .close .kept .0 ∙ c .before .before .before .before .before .before .bump .kept .1 .0 ∙ c .before .before .before .before .before .before .before .before .before .before .before .before .before .before .ty-row .kept .1 .1 .1 .1 .0
 
-row-item-same-length-2 : (t : ℕ) → row-item-lts.Need-same-length-2 (
-  refuse-reads.Asked,
-  refuse-reads.Learnt,
-  mark-reads.Asked,
-  mark-reads.Learnt,
-  ty-row-below t,
-  ty-row.Post,
-  at-reads.Asked,
-  at-reads.Learnt,
-  bump-reads.Asked,
-  bump-reads.Learnt,
-  close-reads.Asked,
-  close-reads.Learnt,
-) (row-item-at t) row-item.Post
+row-item-same-length-2 : (t : ℕ) → row-item-lts.Need-same-length-2 (row-item-told t) (row-item-at t) row-item.Post
 row-item-same-length-2 t c =
     c .before .before .before .before .before .before .before .before .before .before .before .before .before .before .ty-row .kept .1 .1 .1 .1 .1 .0
 
-row-item-returns-2 : (t : ℕ) → row-item-lts.Need-returns-2 (
-  refuse-reads.Asked,
-  refuse-reads.Learnt,
-  mark-reads.Asked,
-  mark-reads.Learnt,
-  ty-row-below t,
-  ty-row.Post,
-  at-reads.Asked,
-  at-reads.Learnt,
-  bump-reads.Asked,
-  bump-reads.Learnt,
-  close-reads.Asked,
-  close-reads.Learnt,
-) (row-item-at t) row-item.Post
+row-item-returns-2 : (t : ℕ) → row-item-lts.Need-returns-2 (row-item-told t) (row-item-at t) row-item.Post
 unfolding util.endItem plan choose chosen
 row-item-returns-2 t c =
-    let falls = c .before .before .before .before .before .before .before .before .before .before .before .before .before .before .before .before .before .before .before .before .before .before .before .before .before .pre .0 in
     let pre0 = c .before .before .before .before .before .before .before .before .before .before .before .before .before .before .before .before .before .before .before .before .before .before .before .before .before .pre .1 in
     let if1 = c .before .before .before .before .before .before .before .before .before .before .before .before .before .before .before .before .before .before .if1 .left in
     let mark = c .before .before .before .before .before .before .before .before .before .before .before .before .before .before .before .before .before .mark .ensures in
@@ -1086,20 +639,7 @@ row-item-returns-2 t c =
     let close = c .before .before .close .ensures in
     by-steps pre0 (λ b. s-mark if1 mark (s-by _ (runs-in ty-row) (s-kind (s-true _ _ (kind-at _ _ _ _ at if2) (s-bump bump (s-close close s-end))))))
 
-row-item-close-requires-2 : (t : ℕ) → row-item-lts.Need-close-requires-2 (
-  refuse-reads.Asked,
-  refuse-reads.Learnt,
-  mark-reads.Asked,
-  mark-reads.Learnt,
-  ty-row-below t,
-  ty-row.Post,
-  at-reads.Asked,
-  at-reads.Learnt,
-  bump-reads.Asked,
-  bump-reads.Learnt,
-  close-reads.Asked,
-  close-reads.Learnt,
-) (row-item-at t) row-item.Post
+row-item-close-requires-2 : (t : ℕ) → row-item-lts.Need-close-requires-2 (row-item-told t) (row-item-at t) row-item.Post
 row-item-close-requires-2 t c κs =
     let pre0 = c .before .before .before .before .before .before .before .before .before .before .before .before .before .before .before .before .before .before .pre .1 in
     let mark = c .before .before .before .before .before .before .before .before .before .before .mark .ensures in
@@ -1108,57 +648,17 @@ row-item-close-requires-2 t c κs =
     let ty-row-ok = ty-row .ok in
     (ty-row-ok .logs, small-len mark-ok)
 
-row-item-same-length-3 : (t : ℕ) → row-item-lts.Need-same-length-3 (
-  refuse-reads.Asked,
-  refuse-reads.Learnt,
-  mark-reads.Asked,
-  mark-reads.Learnt,
-  ty-row-below t,
-  ty-row.Post,
-  at-reads.Asked,
-  at-reads.Learnt,
-  bump-reads.Asked,
-  bump-reads.Learnt,
-  close-reads.Asked,
-  close-reads.Learnt,
-) (row-item-at t) row-item.Post
+row-item-same-length-3 : (t : ℕ) → row-item-lts.Need-same-length-3 (row-item-told t) (row-item-at t) row-item.Post
 row-item-same-length-3 t c =
     c .before .before .close2 .kept .0 ∙ c .before .before .before .before .before .before .before .before .before .before .ty-row .kept .1 .1 .1 .1 .0
 
-row-item-same-length-4 : (t : ℕ) → row-item-lts.Need-same-length-4 (
-  refuse-reads.Asked,
-  refuse-reads.Learnt,
-  mark-reads.Asked,
-  mark-reads.Learnt,
-  ty-row-below t,
-  ty-row.Post,
-  at-reads.Asked,
-  at-reads.Learnt,
-  bump-reads.Asked,
-  bump-reads.Learnt,
-  close-reads.Asked,
-  close-reads.Learnt,
-) (row-item-at t) row-item.Post
+row-item-same-length-4 : (t : ℕ) → row-item-lts.Need-same-length-4 (row-item-told t) (row-item-at t) row-item.Post
 row-item-same-length-4 t c =
     c .before .before .before .before .before .before .before .before .before .before .ty-row .kept .1 .1 .1 .1 .1 .0
 
-row-item-returns-3 : (t : ℕ) → row-item-lts.Need-returns-3 (
-  refuse-reads.Asked,
-  refuse-reads.Learnt,
-  mark-reads.Asked,
-  mark-reads.Learnt,
-  ty-row-below t,
-  ty-row.Post,
-  at-reads.Asked,
-  at-reads.Learnt,
-  bump-reads.Asked,
-  bump-reads.Learnt,
-  close-reads.Asked,
-  close-reads.Learnt,
-) (row-item-at t) row-item.Post
+row-item-returns-3 : (t : ℕ) → row-item-lts.Need-returns-3 (row-item-told t) (row-item-at t) row-item.Post
 unfolding util.endItem plan choose chosen
 row-item-returns-3 t c =
-    let falls = c .before .before .before .before .before .before .before .before .before .before .before .before .before .before .before .before .before .before .before .before .before .pre .0 in
     let pre0 = c .before .before .before .before .before .before .before .before .before .before .before .before .before .before .before .before .before .before .before .before .before .pre .1 in
     let if1 = c .before .before .before .before .before .before .before .before .before .before .before .before .before .before .if1 .left in
     let mark = c .before .before .before .before .before .before .before .before .before .before .before .before .before .mark .ensures in
@@ -1168,365 +668,130 @@ row-item-returns-3 t c =
     let close2 = c .before .before .close2 .ensures in
     by-steps pre0 (λ b. s-mark if1 mark (s-by _ (runs-in ty-row) (s-kind (s-false _ _ (kind-off _ _ _ _ at if2) (s-close close2 s-end)))))
 
-row-turn-at-requires : (t : ℕ) → row-turn-lts.Need-at-requires (
-  at-reads.Asked,
-  at-reads.Learnt,
-  bump-reads.Asked,
-  bump-reads.Learnt,
-  row-item-below t,
-  row-item.Post,
-  eat-reads.Asked,
-  eat-reads.Learnt,
-  state-reads.Asked,
-  state-reads.Learnt,
-) (row-turn-at t) row-turn.Post
+row-turn-at-requires : (t : ℕ) → row-turn-lts.Need-at-requires (row-turn-told t) (row-turn-at t) row-turn.Post
 row-turn-at-requires t c κs =
     let pre0 = c .before .before .before .before .before .before .pre .1 in
     pre0 .reads
 
-row-turn-bump-requires : (t : ℕ) → row-turn-lts.Need-bump-requires (
-  at-reads.Asked,
-  at-reads.Learnt,
-  bump-reads.Asked,
-  bump-reads.Learnt,
-  row-item-below t,
-  row-item.Post,
-  eat-reads.Asked,
-  eat-reads.Learnt,
-  state-reads.Asked,
-  state-reads.Learnt,
-) (row-turn-at t) row-turn.Post
+row-turn-bump-requires : (t : ℕ) → row-turn-lts.Need-bump-requires (row-turn-told t) (row-turn-at t) row-turn.Post
 row-turn-bump-requires t c κs =
     let pre0 = c .before .before .before .before .before .before .before .before .before .pre .1 in
     (pre0 .reads, pre0 .logs)
 
-row-turn-same-length : (t : ℕ) → row-turn-lts.Need-same-length (
-  at-reads.Asked,
-  at-reads.Learnt,
-  bump-reads.Asked,
-  bump-reads.Learnt,
-  row-item-below t,
-  row-item.Post,
-  eat-reads.Asked,
-  eat-reads.Learnt,
-  state-reads.Asked,
-  state-reads.Learnt,
-) (row-turn-at t) row-turn.Post
+row-turn-same-length : (t : ℕ) → row-turn-lts.Need-same-length (row-turn-told t) (row-turn-at t) row-turn.Post
 row-turn-same-length t c =
     c .before .before .bump .kept .1 .0
 
-row-turn-returns : (t : ℕ) → row-turn-lts.Need-returns (
-  at-reads.Asked,
-  at-reads.Learnt,
-  bump-reads.Asked,
-  bump-reads.Learnt,
-  row-item-below t,
-  row-item.Post,
-  eat-reads.Asked,
-  eat-reads.Learnt,
-  state-reads.Asked,
-  state-reads.Learnt,
-) (row-turn-at t) row-turn.Post
+row-turn-returns : (t : ℕ) → row-turn-lts.Need-returns (row-turn-told t) (row-turn-at t) row-turn.Post
 unfolding util.endTurn plan choose chosen
 row-turn-returns t c =
-    let falls = c .before .before .before .before .before .before .before .before .before .before .before .before .pre .0 in
     let pre0 = c .before .before .before .before .before .before .before .before .before .before .before .before .pre .1 in
     let at = c .before .before .before .before .before .at .ensures in
     let if1 = c .before .before .before .before .if1 .taken in
     let bump = c .before .before .bump .ensures in
     by-steps pre0 (λ b. s-kind (s-true _ _ (kind-at _ _ _ _ at if1) (s-bump bump s-end)))
 
-row-turn-row-item-requires : (t : ℕ) → row-turn-lts.Need-row-item-requires (
-  at-reads.Asked,
-  at-reads.Learnt,
-  bump-reads.Asked,
-  bump-reads.Learnt,
-  row-item-below t,
-  row-item.Post,
-  eat-reads.Asked,
-  eat-reads.Learnt,
-  state-reads.Asked,
-  state-reads.Learnt,
-) (row-turn-at t) row-turn.Post
+row-turn-row-item-requires : (t : ℕ) → row-turn-lts.Need-row-item-requires (row-turn-told t) (row-turn-at t) row-turn.Post
 row-turn-row-item-requires t c κs =
     let falls = c .before .before .before .before .before .before .before .before .before .before .pre .0 in
     let pre0 = c .before .before .before .before .before .before .before .before .before .before .pre .1 in
     let if1 = c .before .before .if1 .left in
     (omega arith, pre0)
 
-row-turn-enum-known-item : (t : ℕ) → row-turn-lts.Need-enum-known-item (
-  at-reads.Asked,
-  at-reads.Learnt,
-  bump-reads.Asked,
-  bump-reads.Learnt,
-  row-item-below t,
-  row-item.Post,
-  eat-reads.Asked,
-  eat-reads.Learnt,
-  state-reads.Asked,
-  state-reads.Learnt,
-) (row-turn-at t) row-turn.Post
+row-turn-enum-known-item : (t : ℕ) → row-turn-lts.Need-enum-known-item (row-turn-told t) (row-turn-at t) row-turn.Post
 row-turn-enum-known-item t c =
     let falls = c .before .before .before .before .before .before .before .before .before .before .before .before .before .before .before .before .pre .0 in
     let pre0 = c .before .before .before .before .before .before .before .before .before .before .before .before .before .before .before .before .pre .1 in
     let if1 = c .before .before .before .before .before .before .before .before .if1 .left in
     search needs
 
-row-turn-enum-known-item-2 : (t : ℕ) → row-turn-lts.Need-enum-known-item-2 (
-  at-reads.Asked,
-  at-reads.Learnt,
-  bump-reads.Asked,
-  bump-reads.Learnt,
-  row-item-below t,
-  row-item.Post,
-  eat-reads.Asked,
-  eat-reads.Learnt,
-  state-reads.Asked,
-  state-reads.Learnt,
-) (row-turn-at t) row-turn.Post
+row-turn-enum-known-item-2 : (t : ℕ) → row-turn-lts.Need-enum-known-item-2 (row-turn-told t) (row-turn-at t) row-turn.Post
 row-turn-enum-known-item-2 t c =
     let falls = c .before .before .before .before .before .before .before .before .before .before .before .before .before .before .before .before .pre .0 in
     let pre0 = c .before .before .before .before .before .before .before .before .before .before .before .before .before .before .before .before .pre .1 in
     let if1 = c .before .before .before .before .before .before .before .before .if1 .left in
     search needs
 
-row-turn-eat-requires : (t : ℕ) → row-turn-lts.Need-eat-requires (
-  at-reads.Asked,
-  at-reads.Learnt,
-  bump-reads.Asked,
-  bump-reads.Learnt,
-  row-item-below t,
-  row-item.Post,
-  eat-reads.Asked,
-  eat-reads.Learnt,
-  state-reads.Asked,
-  state-reads.Learnt,
-) (row-turn-at t) row-turn.Post
+row-turn-eat-requires : (t : ℕ) → row-turn-lts.Need-eat-requires (row-turn-told t) (row-turn-at t) row-turn.Post
 row-turn-eat-requires t c κs =
     let falls = c .before .before .before .before .before .before .before .before .before .before .before .before .before .before .before .before .before .before .before .before .pre .0 in
     let at = c .before .before .before .before .before .before .before .before .before .before .before .before .before .at .ensures in
     let if1 = c .before .before .before .before .before .before .before .before .before .before .before .before .if1 .left in
     let row-item = rw (c .before .before .before .item2 .given .1) at (c .before .before .before .before .before .before .before .before .before .row-item .ensures) in
     let row-item-ok = row-item .ok in
-    (row-item-ok, omega arith)
+    (row-item-ok .reads, row-item-ok .logs, row-item-ok .holds, omega arith)
 
-row-turn-state-requires : (t : ℕ) → row-turn-lts.Need-state-requires (
-  at-reads.Asked,
-  at-reads.Learnt,
-  bump-reads.Asked,
-  bump-reads.Learnt,
-  row-item-below t,
-  row-item.Post,
-  eat-reads.Asked,
-  eat-reads.Learnt,
-  state-reads.Asked,
-  state-reads.Learnt,
-) (row-turn-at t) row-turn.Post
+row-turn-state-requires : (t : ℕ) → row-turn-lts.Need-state-requires (row-turn-told t) (row-turn-at t) row-turn.Post
 row-turn-state-requires t c κs =
     tt
 
-row-turn-same-length-2 : (t : ℕ) → row-turn-lts.Need-same-length-2 (
-  at-reads.Asked,
-  at-reads.Learnt,
-  bump-reads.Asked,
-  bump-reads.Learnt,
-  row-item-below t,
-  row-item.Post,
-  eat-reads.Asked,
-  eat-reads.Learnt,
-  state-reads.Asked,
-  state-reads.Learnt,
-) (row-turn-at t) row-turn.Post
+row-turn-same-length-2 : (t : ℕ) → row-turn-lts.Need-same-length-2 (row-turn-told t) (row-turn-at t) row-turn.Post
 row-turn-same-length-2 t c =
     c .before .before .before .before .before .before .before .row-item .kept .1 .1 .1 .1 .0
 
-row-turn-same-length-3 : (t : ℕ) → row-turn-lts.Need-same-length-3 (
-  at-reads.Asked,
-  at-reads.Learnt,
-  bump-reads.Asked,
-  bump-reads.Learnt,
-  row-item-below t,
-  row-item.Post,
-  eat-reads.Asked,
-  eat-reads.Learnt,
-  state-reads.Asked,
-  state-reads.Learnt,
-) (row-turn-at t) row-turn.Post
+row-turn-same-length-3 : (t : ℕ) → row-turn-lts.Need-same-length-3 (row-turn-told t) (row-turn-at t) row-turn.Post
 row-turn-same-length-3 t c =
     c .before .before .before .before .before .before .before .row-item .kept .1 .1 .1 .1 .1 .0
 
-row-turn-returns-2 : (t : ℕ) → row-turn-lts.Need-returns-2 (
-  at-reads.Asked,
-  at-reads.Learnt,
-  bump-reads.Asked,
-  bump-reads.Learnt,
-  row-item-below t,
-  row-item.Post,
-  eat-reads.Asked,
-  eat-reads.Learnt,
-  state-reads.Asked,
-  state-reads.Learnt,
-) (row-turn-at t) row-turn.Post
+row-turn-returns-2 : (t : ℕ) → row-turn-lts.Need-returns-2 (row-turn-told t) (row-turn-at t) row-turn.Post
 unfolding util.endTurn plan choose chosen
 row-turn-returns-2 t c =
-    let falls = c .before .before .before .before .before .before .before .before .before .before .before .before .before .before .before .before .before .before .pre .0 in
     let pre0 = c .before .before .before .before .before .before .before .before .before .before .before .before .before .before .before .before .before .before .pre .1 in
     let at = c .before .before .before .before .before .before .before .before .before .before .before .at .ensures in
     let if1 = c .before .before .before .before .before .before .before .before .before .before .if1 .left in
     let row-item = rw (c .before .item .given .1) at (c .before .before .before .before .before .before .before .row-item .ensures) in
     by-steps pre0 (λ b. s-kind (s-false _ _ (kind-off _ _ _ _ at if1) (s-by _ (runs-in row-item) s-end)))
 
-row-turn-same-length-4 : (t : ℕ) → row-turn-lts.Need-same-length-4 (
-  at-reads.Asked,
-  at-reads.Learnt,
-  bump-reads.Asked,
-  bump-reads.Learnt,
-  row-item-below t,
-  row-item.Post,
-  eat-reads.Asked,
-  eat-reads.Learnt,
-  state-reads.Asked,
-  state-reads.Learnt,
-) (row-turn-at t) row-turn.Post
+row-turn-same-length-4 : (t : ℕ) → row-turn-lts.Need-same-length-4 (row-turn-told t) (row-turn-at t) row-turn.Post
 row-turn-same-length-4 t c =
-    c .before .before .before .before .before .eat .kept .1 .1 .1 .1 .0 ∙ c .before .before .before .before .before .before .before .before .before .before .before .before .before .before .before .row-item .kept .1 .1 .1 .1 .0
+    c .before .before .before .before .before .eat .kept .1 .0 ∙ c .before .before .before .before .before .before .before .before .before .before .before .before .before .before .before .row-item .kept .1 .1 .1 .1 .0
 
-row-turn-same-length-5 : (t : ℕ) → row-turn-lts.Need-same-length-5 (
-  at-reads.Asked,
-  at-reads.Learnt,
-  bump-reads.Asked,
-  bump-reads.Learnt,
-  row-item-below t,
-  row-item.Post,
-  eat-reads.Asked,
-  eat-reads.Learnt,
-  state-reads.Asked,
-  state-reads.Learnt,
-) (row-turn-at t) row-turn.Post
+row-turn-same-length-5 : (t : ℕ) → row-turn-lts.Need-same-length-5 (row-turn-told t) (row-turn-at t) row-turn.Post
 row-turn-same-length-5 t c =
-    c .before .before .before .before .before .eat .kept .1 .1 .1 .1 .1 .0 ∙ c .before .before .before .before .before .before .before .before .before .before .before .before .before .before .before .row-item .kept .1 .1 .1 .1 .1 .0
+    c .before .before .before .before .before .eat .kept .1 .1 .0 ∙ c .before .before .before .before .before .before .before .before .before .before .before .before .before .before .before .row-item .kept .1 .1 .1 .1 .1 .0
 
-row-turn-returns-3 : (t : ℕ) → row-turn-lts.Need-returns-3 (
-  at-reads.Asked,
-  at-reads.Learnt,
-  bump-reads.Asked,
-  bump-reads.Learnt,
-  row-item-below t,
-  row-item.Post,
-  eat-reads.Asked,
-  eat-reads.Learnt,
-  state-reads.Asked,
-  state-reads.Learnt,
-) (row-turn-at t) row-turn.Post
+row-turn-returns-3 : (t : ℕ) → row-turn-lts.Need-returns-3 (row-turn-told t) (row-turn-at t) row-turn.Post
 unfolding util.endTurn plan choose chosen
 row-turn-returns-3 t c =
-    let falls = c .before .before .before .before .before .before .before .before .before .before .before .before .before .before .before .before .before .before .before .before .before .before .before .before .before .before .pre .0 in
     let pre0 = c .before .before .before .before .before .before .before .before .before .before .before .before .before .before .before .before .before .before .before .before .before .before .before .before .before .before .pre .1 in
     let at = c .before .before .before .before .before .before .before .before .before .before .before .before .before .before .before .before .before .before .before .at .ensures in
     let if1 = c .before .before .before .before .before .before .before .before .before .before .before .before .before .before .before .before .before .before .if1 .left in
     let row-item = rw (c .before .before .before .before .before .before .before .before .before .item2 .given .1) at (c .before .before .before .before .before .before .before .before .before .before .before .before .before .before .before .row-item .ensures) in
     let eat = c .before .before .before .before .before .eat .ensures in
     let state = c .state .ensures in
-    by-steps pre0 (λ b. s-kind (s-false _ _ (kind-off _ _ _ _ at if1) (s-by _ (runs-in row-item) (s-by _ (settled state (runs-always eat)) s-end))))
+    by-steps pre0 (λ b. s-kind (s-false _ _ (kind-off _ _ _ _ at if1) (s-by _ (runs-in row-item) (s-eats _ _ _ (eats-settled state eat) s-end))))
 
-star-factor-refuse-requires : (t : ℕ) → star-factor-lts.Need-refuse-requires (
-  refuse-reads.Asked,
-  refuse-reads.Learnt,
-  mark-reads.Asked,
-  mark-reads.Learnt,
-  bump-reads.Asked,
-  bump-reads.Learnt,
-  ty-must-below t,
-  ty-must.Post,
-  close-reads.Asked,
-  close-reads.Learnt,
-) (star-factor-at t) star-factor.Post
+star-factor-refuse-requires : (t : ℕ) → star-factor-lts.Need-refuse-requires (star-factor-told t) (star-factor-at t) star-factor.Post
 star-factor-refuse-requires t c κs =
     tt
 
-star-factor-returns : (t : ℕ) → star-factor-lts.Need-returns (
-  refuse-reads.Asked,
-  refuse-reads.Learnt,
-  mark-reads.Asked,
-  mark-reads.Learnt,
-  bump-reads.Asked,
-  bump-reads.Learnt,
-  ty-must-below t,
-  ty-must.Post,
-  close-reads.Asked,
-  close-reads.Learnt,
-) (star-factor-at t) star-factor.Post
+star-factor-returns : (t : ℕ) → star-factor-lts.Need-returns (star-factor-told t) (star-factor-at t) star-factor.Post
 unfolding types.starFactor plan choose chosen
 star-factor-returns t c =
-    let falls = c .before .before .before .before .before .before .before .before .pre .0 in
     let pre0 = c .before .before .before .before .before .before .before .before .pre .1 in
     let if1 = c .before .if1 .taken in
     let refuse = c .refuse .ensures in
     by-steps pre0 (λ b. s-deep if1 refuse s-end)
 
-star-factor-mark-requires : (t : ℕ) → star-factor-lts.Need-mark-requires (
-  refuse-reads.Asked,
-  refuse-reads.Learnt,
-  mark-reads.Asked,
-  mark-reads.Learnt,
-  bump-reads.Asked,
-  bump-reads.Learnt,
-  ty-must-below t,
-  ty-must.Post,
-  close-reads.Asked,
-  close-reads.Learnt,
-) (star-factor-at t) star-factor.Post
+star-factor-mark-requires : (t : ℕ) → star-factor-lts.Need-mark-requires (star-factor-told t) (star-factor-at t) star-factor.Post
 star-factor-mark-requires t c κs =
     tt
 
-star-factor-bump-requires : (t : ℕ) → star-factor-lts.Need-bump-requires (
-  refuse-reads.Asked,
-  refuse-reads.Learnt,
-  mark-reads.Asked,
-  mark-reads.Learnt,
-  bump-reads.Asked,
-  bump-reads.Learnt,
-  ty-must-below t,
-  ty-must.Post,
-  close-reads.Asked,
-  close-reads.Learnt,
-) (star-factor-at t) star-factor.Post
+star-factor-bump-requires : (t : ℕ) → star-factor-lts.Need-bump-requires (star-factor-told t) (star-factor-at t) star-factor.Post
 star-factor-bump-requires t c κs =
     let pre0 = c .before .before .before .before .before .before .before .before .before .pre .1 in
     let mark = c .before .mark .ensures in
     let mark-ok = ok-marks mark pre0 in
     (mark-ok .reads, mark-ok .logs)
 
-star-factor-sub-ty-must : (t : ℕ) → star-factor-lts.Need-sub-ty-must (
-  refuse-reads.Asked,
-  refuse-reads.Learnt,
-  mark-reads.Asked,
-  mark-reads.Learnt,
-  bump-reads.Asked,
-  bump-reads.Learnt,
-  ty-must-below t,
-  ty-must.Post,
-  close-reads.Asked,
-  close-reads.Learnt,
-) (star-factor-at t) star-factor.Post
+star-factor-sub-ty-must : (t : ℕ) → star-factor-lts.Need-sub-ty-must (star-factor-told t) (star-factor-at t) star-factor.Post
 star-factor-sub-ty-must t c =
     let falls = c .before .before .before .before .before .before .before .before .before .before .before .before .before .before .pre .0 in
     let pre0 = c .before .before .before .before .before .before .before .before .before .before .before .before .before .before .pre .1 in
     let if1 = c .before .before .before .before .before .before .before .if1 .left in
     search needs
 
-star-factor-ty-must-requires : (t : ℕ) → star-factor-lts.Need-ty-must-requires (
-  refuse-reads.Asked,
-  refuse-reads.Learnt,
-  mark-reads.Asked,
-  mark-reads.Learnt,
-  bump-reads.Asked,
-  bump-reads.Learnt,
-  ty-must-below t,
-  ty-must.Post,
-  close-reads.Asked,
-  close-reads.Learnt,
-) (star-factor-at t) star-factor.Post
+star-factor-ty-must-requires : (t : ℕ) → star-factor-lts.Need-ty-must-requires (star-factor-told t) (star-factor-at t) star-factor.Post
 star-factor-ty-must-requires t c κs =
     let falls = c .before .before .before .before .before .before .before .before .before .before .before .before .before .before .pre .0 in
     let pre0 = c .before .before .before .before .before .before .before .before .before .before .before .before .before .before .pre .1 in
@@ -1537,18 +802,7 @@ star-factor-ty-must-requires t c κs =
     let bump-ok = ok-bumps bump mark-ok in
     (omega arith, bump-ok)
 
-star-factor-close-requires : (t : ℕ) → star-factor-lts.Need-close-requires (
-  refuse-reads.Asked,
-  refuse-reads.Learnt,
-  mark-reads.Asked,
-  mark-reads.Learnt,
-  bump-reads.Asked,
-  bump-reads.Learnt,
-  ty-must-below t,
-  ty-must.Post,
-  close-reads.Asked,
-  close-reads.Learnt,
-) (star-factor-at t) star-factor.Post
+star-factor-close-requires : (t : ℕ) → star-factor-lts.Need-close-requires (star-factor-told t) (star-factor-at t) star-factor.Post
 star-factor-close-requires t c κs =
     let pre0 = c .before .before .before .before .before .before .before .before .before .before .before .before .before .before .before .before .before .before .before .before .pre .1 in
     let mark = c .before .before .before .before .before .before .before .before .before .before .before .before .mark .ensures in
@@ -1557,51 +811,17 @@ star-factor-close-requires t c κs =
     let ty-must-ok = ty-must .ok in
     (ty-must-ok .logs, small-len mark-ok)
 
-star-factor-same-length : (t : ℕ) → star-factor-lts.Need-same-length (
-  refuse-reads.Asked,
-  refuse-reads.Learnt,
-  mark-reads.Asked,
-  mark-reads.Learnt,
-  bump-reads.Asked,
-  bump-reads.Learnt,
-  ty-must-below t,
-  ty-must.Post,
-  close-reads.Asked,
-  close-reads.Learnt,
-) (star-factor-at t) star-factor.Post
+star-factor-same-length : (t : ℕ) → star-factor-lts.Need-same-length (star-factor-told t) (star-factor-at t) star-factor.Post
 star-factor-same-length t c =
     c .before .before .close .kept .0 ∙ c .before .before .before .before .before .before .before .before .ty-must .kept .1 .1 .1 .1 .0 ∙ c .before .before .before .before .before .before .before .before .before .before .before .before .before .bump .kept .1 .0
 
-star-factor-same-length-2 : (t : ℕ) → star-factor-lts.Need-same-length-2 (
-  refuse-reads.Asked,
-  refuse-reads.Learnt,
-  mark-reads.Asked,
-  mark-reads.Learnt,
-  bump-reads.Asked,
-  bump-reads.Learnt,
-  ty-must-below t,
-  ty-must.Post,
-  close-reads.Asked,
-  close-reads.Learnt,
-) (star-factor-at t) star-factor.Post
+star-factor-same-length-2 : (t : ℕ) → star-factor-lts.Need-same-length-2 (star-factor-told t) (star-factor-at t) star-factor.Post
 star-factor-same-length-2 t c =
     c .before .before .before .before .before .before .before .before .ty-must .kept .1 .1 .1 .1 .1 .0
 
-star-factor-returns-2 : (t : ℕ) → star-factor-lts.Need-returns-2 (
-  refuse-reads.Asked,
-  refuse-reads.Learnt,
-  mark-reads.Asked,
-  mark-reads.Learnt,
-  bump-reads.Asked,
-  bump-reads.Learnt,
-  ty-must-below t,
-  ty-must.Post,
-  close-reads.Asked,
-  close-reads.Learnt,
-) (star-factor-at t) star-factor.Post
+star-factor-returns-2 : (t : ℕ) → star-factor-lts.Need-returns-2 (star-factor-told t) (star-factor-at t) star-factor.Post
 unfolding types.starFactor plan choose chosen
 star-factor-returns-2 t c =
-    let falls = c .before .before .before .before .before .before .before .before .before .before .before .before .before .before .before .before .before .before .before .before .before .before .before .pre .0 in
     let pre0 = c .before .before .before .before .before .before .before .before .before .before .before .before .before .before .before .before .before .before .before .before .before .before .before .pre .1 in
     let if1 = c .before .before .before .before .before .before .before .before .before .before .before .before .before .before .before .before .if1 .left in
     let mark = c .before .before .before .before .before .before .before .before .before .before .before .before .before .before .before .mark .ensures in
@@ -1619,10 +839,7 @@ star-tail-μ-loop text toks env table scratch₀ finds₀ left b s1₀ scratch f
 
 star-tail-loop-holds :
     (t : ℕ) →
-    star-tail-lts.Need-loop-holds
-    (star-turn-below t, star-turn.Post)
-    (star-tail-at t)
-    star-tail.Post
+    star-tail-lts.Need-loop-holds (star-tail-told t) (star-tail-at t) star-tail.Post
     star-tail-Inv-loop
     star-tail-μ-loop
 star-tail-loop-holds t c =
@@ -1630,19 +847,13 @@ star-tail-loop-holds t c =
     let pre0 = c .before .before .before .before .before .before .pre .1 in
     (loop-starts pre0, refl, refl)
 
-star-tail-star-turn-requires : (t : ℕ) → star-tail-lts.Need-star-turn-requires (
-  star-turn-below t,
-  star-turn.Post,
-) (star-tail-at t) star-tail.Post star-tail-Inv-loop star-tail-μ-loop
+star-tail-star-turn-requires : (t : ℕ) → star-tail-lts.Need-star-turn-requires (star-tail-told t) (star-tail-at t) star-tail.Post star-tail-Inv-loop star-tail-μ-loop
 star-tail-star-turn-requires t c κs =
     let falls = c .before .before .before .before .before .before .before .before .before .pre .0 in
     let inv = c .before .before .loop .inv .0 .ok in
     (omega arith, inv)
 
-star-tail-enum-known-turn : (t : ℕ) → star-tail-lts.Need-enum-known-turn (
-  star-turn-below t,
-  star-turn.Post,
-) (star-tail-at t) star-tail.Post star-tail-Inv-loop star-tail-μ-loop
+star-tail-enum-known-turn : (t : ℕ) → star-tail-lts.Need-enum-known-turn (star-tail-told t) (star-tail-at t) star-tail.Post star-tail-Inv-loop star-tail-μ-loop
 star-tail-enum-known-turn t c =
     let falls = c .before .before .before .before .before .before .before .before .before .before .before .before .before .before .before .pre .0 in
     let pre0 = c .before .before .before .before .before .before .before .before .before .before .before .before .before .before .before .pre .1 in
@@ -1650,10 +861,7 @@ star-tail-enum-known-turn t c =
 
 star-tail-loop-less :
     (t : ℕ) →
-    star-tail-lts.Need-loop-less
-    (star-turn-below t, star-turn.Post)
-    (star-tail-at t)
-    star-tail.Post
+    star-tail-lts.Need-loop-less (star-tail-told t) (star-tail-at t) star-tail.Post
     star-tail-Inv-loop
     star-tail-μ-loop
 star-tail-loop-less t c =
@@ -1662,10 +870,7 @@ star-tail-loop-less t c =
 
 star-tail-loop-again :
     (t : ℕ) →
-    star-tail-lts.Need-loop-again
-    (star-turn-below t, star-turn.Post)
-    (star-tail-at t)
-    star-tail.Post
+    star-tail-lts.Need-loop-again (star-tail-told t) (star-tail-at t) star-tail.Post
     star-tail-Inv-loop
     star-tail-μ-loop
 star-tail-loop-again t c =
@@ -1673,35 +878,23 @@ star-tail-loop-again t c =
     let star-turn = rw (c .before .turn .given .1) at (c .before .before .before .before .before .before .before .star-turn .ensures) in
     (loop-goes (star-advances _ _) inv (runs-in star-turn), c .before .before .before .before .before .before .before .star-turn .kept .1 .1 .1 .1 .0 ∙ c .before .before .before .before .before .before .before .before .before .before .loop .inv .1, c .before .before .before .before .before .before .before .star-turn .kept .1 .1 .1 .1 .1 .0 ∙ c .before .before .before .before .before .before .before .before .before .before .loop .inv .2)
 
-star-tail-enum-known-turn-2 : (t : ℕ) → star-tail-lts.Need-enum-known-turn-2 (
-  star-turn-below t,
-  star-turn.Post,
-) (star-tail-at t) star-tail.Post star-tail-Inv-loop star-tail-μ-loop
+star-tail-enum-known-turn-2 : (t : ℕ) → star-tail-lts.Need-enum-known-turn-2 (star-tail-told t) (star-tail-at t) star-tail.Post star-tail-Inv-loop star-tail-μ-loop
 star-tail-enum-known-turn-2 t c =
     let falls = c .before .before .before .before .before .before .before .before .before .before .before .before .before .before .before .pre .0 in
     let pre0 = c .before .before .before .before .before .before .before .before .before .before .before .before .before .before .before .pre .1 in
     search needs
 
-star-tail-same-length : (t : ℕ) → star-tail-lts.Need-same-length (
-  star-turn-below t,
-  star-turn.Post,
-) (star-tail-at t) star-tail.Post star-tail-Inv-loop star-tail-μ-loop
+star-tail-same-length : (t : ℕ) → star-tail-lts.Need-same-length (star-tail-told t) (star-tail-at t) star-tail.Post star-tail-Inv-loop star-tail-μ-loop
 star-tail-same-length t c =
     c .before .before .before .before .before .before .before .star-turn .kept .1 .1 .1 .1 .0 ∙ c .before .before .before .before .before .before .before .before .before .before .loop .inv .1
 
-star-tail-same-length-2 : (t : ℕ) → star-tail-lts.Need-same-length-2 (
-  star-turn-below t,
-  star-turn.Post,
-) (star-tail-at t) star-tail.Post star-tail-Inv-loop star-tail-μ-loop
+star-tail-same-length-2 : (t : ℕ) → star-tail-lts.Need-same-length-2 (star-tail-told t) (star-tail-at t) star-tail.Post star-tail-Inv-loop star-tail-μ-loop
 star-tail-same-length-2 t c =
     c .before .before .before .before .before .before .before .star-turn .kept .1 .1 .1 .1 .1 .0 ∙ c .before .before .before .before .before .before .before .before .before .before .loop .inv .2
 
 star-tail-returns :
     (t : ℕ) →
-    star-tail-lts.Need-returns
-    (star-turn-below t, star-turn.Post)
-    (star-tail-at t)
-    star-tail.Post
+    star-tail-lts.Need-returns (star-tail-told t) (star-tail-at t) star-tail.Post
     star-tail-Inv-loop
     star-tail-μ-loop
 star-tail-returns t c =
@@ -1709,175 +902,67 @@ star-tail-returns t c =
     let star-turn = rw (c .before .turn2 .given .1) at (c .before .before .before .before .before .before .before .star-turn .ensures) in
     loop-ends (star-advances _ _) inv (runs-in star-turn)
 
-star-turn-at-requires : (t : ℕ) → star-turn-lts.Need-at-requires (
-  at-reads.Asked,
-  at-reads.Learnt,
-  star-factor-below t,
-  star-factor.Post,
-) (star-turn-at t) star-turn.Post
+star-turn-at-requires : (t : ℕ) → star-turn-lts.Need-at-requires (star-turn-told t) (star-turn-at t) star-turn.Post
 star-turn-at-requires t c κs =
     let pre0 = c .before .before .before .before .before .before .pre .1 in
     pre0 .reads
 
-star-turn-star-factor-requires : (t : ℕ) → star-turn-lts.Need-star-factor-requires (
-  at-reads.Asked,
-  at-reads.Learnt,
-  star-factor-below t,
-  star-factor.Post,
-) (star-turn-at t) star-turn.Post
+star-turn-star-factor-requires : (t : ℕ) → star-turn-lts.Need-star-factor-requires (star-turn-told t) (star-turn-at t) star-turn.Post
 star-turn-star-factor-requires t c κs =
     let falls = c .before .before .before .before .before .before .before .before .before .before .pre .0 in
     let pre0 = c .before .before .before .before .before .before .before .before .before .before .pre .1 in
     let if1 = c .before .before .if1 .taken in
     (omega arith, pre0)
 
-star-turn-same-length : (t : ℕ) → star-turn-lts.Need-same-length (
-  at-reads.Asked,
-  at-reads.Learnt,
-  star-factor-below t,
-  star-factor.Post,
-) (star-turn-at t) star-turn.Post
+star-turn-same-length : (t : ℕ) → star-turn-lts.Need-same-length (star-turn-told t) (star-turn-at t) star-turn.Post
 star-turn-same-length t c =
     c .before .before .before .before .star-factor .kept .1 .1 .1 .1 .0
 
-star-turn-same-length-2 : (t : ℕ) → star-turn-lts.Need-same-length-2 (
-  at-reads.Asked,
-  at-reads.Learnt,
-  star-factor-below t,
-  star-factor.Post,
-) (star-turn-at t) star-turn.Post
+star-turn-same-length-2 : (t : ℕ) → star-turn-lts.Need-same-length-2 (star-turn-told t) (star-turn-at t) star-turn.Post
 star-turn-same-length-2 t c =
     c .before .before .before .before .star-factor .kept .1 .1 .1 .1 .1 .0
 
-star-turn-returns : (t : ℕ) → star-turn-lts.Need-returns (
-  at-reads.Asked,
-  at-reads.Learnt,
-  star-factor-below t,
-  star-factor.Post,
-) (star-turn-at t) star-turn.Post
+star-turn-returns : (t : ℕ) → star-turn-lts.Need-returns (star-turn-told t) (star-turn-at t) star-turn.Post
 unfolding types.starTurn plan choose chosen
 star-turn-returns t c =
-    let falls = c .before .before .before .before .before .before .before .before .before .before .before .before .before .before .before .pre .0 in
     let pre0 = c .before .before .before .before .before .before .before .before .before .before .before .before .before .before .before .pre .1 in
     let at = c .before .before .before .before .before .before .before .before .at .ensures in
     let if1 = c .before .before .before .before .before .before .before .if1 .taken in
     let star-factor = c .before .before .before .before .star-factor .ensures in
     by-steps pre0 (λ b. s-kind (s-true _ _ (kind-at _ _ _ _ at if1) (s-by _ (runs-in star-factor) s-end)))
 
-star-turn-returns-2 : (t : ℕ) → star-turn-lts.Need-returns-2 (
-  at-reads.Asked,
-  at-reads.Learnt,
-  star-factor-below t,
-  star-factor.Post,
-) (star-turn-at t) star-turn.Post
+star-turn-returns-2 : (t : ℕ) → star-turn-lts.Need-returns-2 (star-turn-told t) (star-turn-at t) star-turn.Post
 unfolding types.starTurn plan choose chosen
 star-turn-returns-2 t c =
-    let falls = c .before .before .before .before .before .before .before .before .pre .0 in
     let pre0 = c .before .before .before .before .before .before .before .before .pre .1 in
     let at = c .before .at .ensures in
     let if1 = c .if1 .left in
     by-steps pre0 (λ b. s-kind (s-false _ _ (kind-off _ _ _ _ at if1) s-end))
 
-ty-arg-refuse-requires : (t : ℕ) → ty-arg-lts.Need-refuse-requires (
-  refuse-reads.Asked,
-  refuse-reads.Learnt,
-  mark-reads.Asked,
-  mark-reads.Learnt,
-  ty-must-below t,
-  ty-must.Post,
-  at-reads.Asked,
-  at-reads.Learnt,
-  eat-reads.Asked,
-  eat-reads.Learnt,
-  state-reads.Asked,
-  state-reads.Learnt,
-  close-reads.Asked,
-  close-reads.Learnt,
-) (ty-arg-at t) ty-arg.Post
+ty-arg-refuse-requires : (t : ℕ) → ty-arg-lts.Need-refuse-requires (ty-arg-told t) (ty-arg-at t) ty-arg.Post
 ty-arg-refuse-requires t c κs =
     tt
 
-ty-arg-returns : (t : ℕ) → ty-arg-lts.Need-returns (
-  refuse-reads.Asked,
-  refuse-reads.Learnt,
-  mark-reads.Asked,
-  mark-reads.Learnt,
-  ty-must-below t,
-  ty-must.Post,
-  at-reads.Asked,
-  at-reads.Learnt,
-  eat-reads.Asked,
-  eat-reads.Learnt,
-  state-reads.Asked,
-  state-reads.Learnt,
-  close-reads.Asked,
-  close-reads.Learnt,
-) (ty-arg-at t) ty-arg.Post
+ty-arg-returns : (t : ℕ) → ty-arg-lts.Need-returns (ty-arg-told t) (ty-arg-at t) ty-arg.Post
 unfolding types.tyArg plan choose chosen
 ty-arg-returns t c =
-    let falls = c .before .before .before .before .before .before .before .before .pre .0 in
     let pre0 = c .before .before .before .before .before .before .before .before .pre .1 in
     let if1 = c .before .if1 .taken in
     let refuse = c .refuse .ensures in
     by-steps pre0 (λ b. s-deep if1 refuse s-end)
 
-ty-arg-mark-requires : (t : ℕ) → ty-arg-lts.Need-mark-requires (
-  refuse-reads.Asked,
-  refuse-reads.Learnt,
-  mark-reads.Asked,
-  mark-reads.Learnt,
-  ty-must-below t,
-  ty-must.Post,
-  at-reads.Asked,
-  at-reads.Learnt,
-  eat-reads.Asked,
-  eat-reads.Learnt,
-  state-reads.Asked,
-  state-reads.Learnt,
-  close-reads.Asked,
-  close-reads.Learnt,
-) (ty-arg-at t) ty-arg.Post
+ty-arg-mark-requires : (t : ℕ) → ty-arg-lts.Need-mark-requires (ty-arg-told t) (ty-arg-at t) ty-arg.Post
 ty-arg-mark-requires t c κs =
     tt
 
-ty-arg-sub-ty-must : (t : ℕ) → ty-arg-lts.Need-sub-ty-must (
-  refuse-reads.Asked,
-  refuse-reads.Learnt,
-  mark-reads.Asked,
-  mark-reads.Learnt,
-  ty-must-below t,
-  ty-must.Post,
-  at-reads.Asked,
-  at-reads.Learnt,
-  eat-reads.Asked,
-  eat-reads.Learnt,
-  state-reads.Asked,
-  state-reads.Learnt,
-  close-reads.Asked,
-  close-reads.Learnt,
-) (ty-arg-at t) ty-arg.Post
+ty-arg-sub-ty-must : (t : ℕ) → ty-arg-lts.Need-sub-ty-must (ty-arg-told t) (ty-arg-at t) ty-arg.Post
 ty-arg-sub-ty-must t c =
     let falls = c .before .before .before .before .before .before .before .before .before .before .pre .0 in
     let pre0 = c .before .before .before .before .before .before .before .before .before .before .pre .1 in
     let if1 = c .before .before .before .if1 .left in
     search needs
 
-ty-arg-ty-must-requires : (t : ℕ) → ty-arg-lts.Need-ty-must-requires (
-  refuse-reads.Asked,
-  refuse-reads.Learnt,
-  mark-reads.Asked,
-  mark-reads.Learnt,
-  ty-must-below t,
-  ty-must.Post,
-  at-reads.Asked,
-  at-reads.Learnt,
-  eat-reads.Asked,
-  eat-reads.Learnt,
-  state-reads.Asked,
-  state-reads.Learnt,
-  close-reads.Asked,
-  close-reads.Learnt,
-) (ty-arg-at t) ty-arg.Post
+ty-arg-ty-must-requires : (t : ℕ) → ty-arg-lts.Need-ty-must-requires (ty-arg-told t) (ty-arg-at t) ty-arg.Post
 ty-arg-ty-must-requires t c κs =
     let falls = c .before .before .before .before .before .before .before .before .before .before .pre .0 in
     let pre0 = c .before .before .before .before .before .before .before .before .before .before .pre .1 in
@@ -1886,84 +971,23 @@ ty-arg-ty-must-requires t c κs =
     let mark-ok = ok-marks mark pre0 in
     (omega arith, mark-ok)
 
-ty-arg-at-requires : (t : ℕ) → ty-arg-lts.Need-at-requires (
-  refuse-reads.Asked,
-  refuse-reads.Learnt,
-  mark-reads.Asked,
-  mark-reads.Learnt,
-  ty-must-below t,
-  ty-must.Post,
-  at-reads.Asked,
-  at-reads.Learnt,
-  eat-reads.Asked,
-  eat-reads.Learnt,
-  state-reads.Asked,
-  state-reads.Learnt,
-  close-reads.Asked,
-  close-reads.Learnt,
-) (ty-arg-at t) ty-arg.Post
+ty-arg-at-requires : (t : ℕ) → ty-arg-lts.Need-at-requires (ty-arg-told t) (ty-arg-at t) ty-arg.Post
 ty-arg-at-requires t c κs =
     let ty-must = c .before .before .before .before .ty-must .ensures in
     let ty-must-ok = ty-must .ok in
     ty-must-ok .reads
 
-ty-arg-same-length : (t : ℕ) → ty-arg-lts.Need-same-length (
-  refuse-reads.Asked,
-  refuse-reads.Learnt,
-  mark-reads.Asked,
-  mark-reads.Learnt,
-  ty-must-below t,
-  ty-must.Post,
-  at-reads.Asked,
-  at-reads.Learnt,
-  eat-reads.Asked,
-  eat-reads.Learnt,
-  state-reads.Asked,
-  state-reads.Learnt,
-  close-reads.Asked,
-  close-reads.Learnt,
-) (ty-arg-at t) ty-arg.Post
+ty-arg-same-length : (t : ℕ) → ty-arg-lts.Need-same-length (ty-arg-told t) (ty-arg-at t) ty-arg.Post
 ty-arg-same-length t c =
     c .before .before .before .before .before .before .ty-must .kept .1 .1 .1 .1 .0
 
-ty-arg-same-length-2 : (t : ℕ) → ty-arg-lts.Need-same-length-2 (
-  refuse-reads.Asked,
-  refuse-reads.Learnt,
-  mark-reads.Asked,
-  mark-reads.Learnt,
-  ty-must-below t,
-  ty-must.Post,
-  at-reads.Asked,
-  at-reads.Learnt,
-  eat-reads.Asked,
-  eat-reads.Learnt,
-  state-reads.Asked,
-  state-reads.Learnt,
-  close-reads.Asked,
-  close-reads.Learnt,
-) (ty-arg-at t) ty-arg.Post
+ty-arg-same-length-2 : (t : ℕ) → ty-arg-lts.Need-same-length-2 (ty-arg-told t) (ty-arg-at t) ty-arg.Post
 ty-arg-same-length-2 t c =
     c .before .before .before .before .before .before .ty-must .kept .1 .1 .1 .1 .1 .0
 
-ty-arg-returns-2 : (t : ℕ) → ty-arg-lts.Need-returns-2 (
-  refuse-reads.Asked,
-  refuse-reads.Learnt,
-  mark-reads.Asked,
-  mark-reads.Learnt,
-  ty-must-below t,
-  ty-must.Post,
-  at-reads.Asked,
-  at-reads.Learnt,
-  eat-reads.Asked,
-  eat-reads.Learnt,
-  state-reads.Asked,
-  state-reads.Learnt,
-  close-reads.Asked,
-  close-reads.Learnt,
-) (ty-arg-at t) ty-arg.Post
+ty-arg-returns-2 : (t : ℕ) → ty-arg-lts.Need-returns-2 (ty-arg-told t) (ty-arg-at t) ty-arg.Post
 unfolding types.tyArg plan choose chosen
 ty-arg-returns-2 t c =
-    let falls = c .before .before .before .before .before .before .before .before .before .before .before .before .before .before .before .before .before .pre .0 in
     let pre0 = c .before .before .before .before .before .before .before .before .before .before .before .before .before .before .before .before .before .pre .1 in
     let if1 = c .before .before .before .before .before .before .before .before .before .before .if1 .left in
     let mark = c .before .before .before .before .before .before .before .before .before .mark .ensures in
@@ -1972,132 +996,43 @@ ty-arg-returns-2 t c =
     let if2 = c .if2 .taken in
     by-steps pre0 (λ b. s-mark if1 mark (s-by _ (runs-in ty-must) (s-kind (s-true _ _ (kind-at _ _ _ _ at if2) s-end))))
 
-ty-arg-eat-requires : (t : ℕ) → ty-arg-lts.Need-eat-requires (
-  refuse-reads.Asked,
-  refuse-reads.Learnt,
-  mark-reads.Asked,
-  mark-reads.Learnt,
-  ty-must-below t,
-  ty-must.Post,
-  at-reads.Asked,
-  at-reads.Learnt,
-  eat-reads.Asked,
-  eat-reads.Learnt,
-  state-reads.Asked,
-  state-reads.Learnt,
-  close-reads.Asked,
-  close-reads.Learnt,
-) (ty-arg-at t) ty-arg.Post
+ty-arg-eat-requires : (t : ℕ) → ty-arg-lts.Need-eat-requires (ty-arg-told t) (ty-arg-at t) ty-arg.Post
 ty-arg-eat-requires t c κs =
     let falls = c .before .before .before .before .before .before .before .before .before .before .before .before .before .before .before .before .before .before .before .pre .0 in
     let if1 = c .before .before .before .before .before .before .before .before .before .before .before .before .if1 .left in
     let ty-must = c .before .before .before .before .before .before .before .before .ty-must .ensures in
     let ty-must-ok = ty-must .ok in
     let if2 = c .before .before .if2 .left in
-    (ty-must-ok, omega arith)
+    (ty-must-ok .reads, ty-must-ok .logs, ty-must-ok .holds, omega arith)
 
-ty-arg-state-requires : (t : ℕ) → ty-arg-lts.Need-state-requires (
-  refuse-reads.Asked,
-  refuse-reads.Learnt,
-  mark-reads.Asked,
-  mark-reads.Learnt,
-  ty-must-below t,
-  ty-must.Post,
-  at-reads.Asked,
-  at-reads.Learnt,
-  eat-reads.Asked,
-  eat-reads.Learnt,
-  state-reads.Asked,
-  state-reads.Learnt,
-  close-reads.Asked,
-  close-reads.Learnt,
-) (ty-arg-at t) ty-arg.Post
+ty-arg-state-requires : (t : ℕ) → ty-arg-lts.Need-state-requires (ty-arg-told t) (ty-arg-at t) ty-arg.Post
 ty-arg-state-requires t c κs =
     tt
 
-ty-arg-close-requires : (t : ℕ) → ty-arg-lts.Need-close-requires (
-  refuse-reads.Asked,
-  refuse-reads.Learnt,
-  mark-reads.Asked,
-  mark-reads.Learnt,
-  ty-must-below t,
-  ty-must.Post,
-  at-reads.Asked,
-  at-reads.Learnt,
-  eat-reads.Asked,
-  eat-reads.Learnt,
-  state-reads.Asked,
-  state-reads.Learnt,
-  close-reads.Asked,
-  close-reads.Learnt,
-) (ty-arg-at t) ty-arg.Post
+ty-arg-close-requires : (t : ℕ) → ty-arg-lts.Need-close-requires (ty-arg-told t) (ty-arg-at t) ty-arg.Post
 ty-arg-close-requires t c κs =
     let pre0 = c .before .before .before .before .before .before .before .before .before .before .before .before .before .before .before .before .before .before .before .before .before .before .before .before .before .before .pre .1 in
     let mark = c .before .before .before .before .before .before .before .before .before .before .before .before .before .before .before .before .before .before .mark .ensures in
     let mark-ok = ok-marks mark pre0 in
+    let ty-must = c .before .before .before .before .before .before .before .before .before .before .before .before .before .before .before .ty-must .ensures in
+    let ty-must-ok = ty-must .ok in
     let eat = c .before .before .before .before .before .before .eat .ensures in
-    let eat-ok = eat .ok in
+    let eat-ok = ok-eats eat ty-must-ok in
     let state = c .before .state .ensures in
     let state-ok = ok-state state eat-ok in
     (state-ok .logs, small-len mark-ok)
 
-ty-arg-same-length-3 : (t : ℕ) → ty-arg-lts.Need-same-length-3 (
-  refuse-reads.Asked,
-  refuse-reads.Learnt,
-  mark-reads.Asked,
-  mark-reads.Learnt,
-  ty-must-below t,
-  ty-must.Post,
-  at-reads.Asked,
-  at-reads.Learnt,
-  eat-reads.Asked,
-  eat-reads.Learnt,
-  state-reads.Asked,
-  state-reads.Learnt,
-  close-reads.Asked,
-  close-reads.Learnt,
-) (ty-arg-at t) ty-arg.Post
+ty-arg-same-length-3 : (t : ℕ) → ty-arg-lts.Need-same-length-3 (ty-arg-told t) (ty-arg-at t) ty-arg.Post
 ty-arg-same-length-3 t c =
-    c .before .before .close .kept .0 ∙ c .before .before .before .before .before .before .before .before .before .eat .kept .1 .1 .1 .1 .0 ∙ c .before .before .before .before .before .before .before .before .before .before .before .before .before .before .before .before .before .before .ty-must .kept .1 .1 .1 .1 .0
+    c .before .before .close .kept .0 ∙ c .before .before .before .before .before .before .before .before .before .eat .kept .1 .0 ∙ c .before .before .before .before .before .before .before .before .before .before .before .before .before .before .before .before .before .before .ty-must .kept .1 .1 .1 .1 .0
 
-ty-arg-same-length-4 : (t : ℕ) → ty-arg-lts.Need-same-length-4 (
-  refuse-reads.Asked,
-  refuse-reads.Learnt,
-  mark-reads.Asked,
-  mark-reads.Learnt,
-  ty-must-below t,
-  ty-must.Post,
-  at-reads.Asked,
-  at-reads.Learnt,
-  eat-reads.Asked,
-  eat-reads.Learnt,
-  state-reads.Asked,
-  state-reads.Learnt,
-  close-reads.Asked,
-  close-reads.Learnt,
-) (ty-arg-at t) ty-arg.Post
+ty-arg-same-length-4 : (t : ℕ) → ty-arg-lts.Need-same-length-4 (ty-arg-told t) (ty-arg-at t) ty-arg.Post
 ty-arg-same-length-4 t c =
-    c .before .before .before .before .before .before .before .before .before .eat .kept .1 .1 .1 .1 .1 .0 ∙ c .before .before .before .before .before .before .before .before .before .before .before .before .before .before .before .before .before .before .ty-must .kept .1 .1 .1 .1 .1 .0
+    c .before .before .before .before .before .before .before .before .before .eat .kept .1 .1 .0 ∙ c .before .before .before .before .before .before .before .before .before .before .before .before .before .before .before .before .before .before .ty-must .kept .1 .1 .1 .1 .1 .0
 
-ty-arg-returns-3 : (t : ℕ) → ty-arg-lts.Need-returns-3 (
-  refuse-reads.Asked,
-  refuse-reads.Learnt,
-  mark-reads.Asked,
-  mark-reads.Learnt,
-  ty-must-below t,
-  ty-must.Post,
-  at-reads.Asked,
-  at-reads.Learnt,
-  eat-reads.Asked,
-  eat-reads.Learnt,
-  state-reads.Asked,
-  state-reads.Learnt,
-  close-reads.Asked,
-  close-reads.Learnt,
-) (ty-arg-at t) ty-arg.Post
+ty-arg-returns-3 : (t : ℕ) → ty-arg-lts.Need-returns-3 (ty-arg-told t) (ty-arg-at t) ty-arg.Post
 unfolding types.tyArg plan choose chosen
 ty-arg-returns-3 t c =
-    let falls = c .before .before .before .before .before .before .before .before .before .before .before .before .before .before .before .before .before .before .before .before .before .before .before .before .before .before .before .before .before .pre .0 in
     let pre0 = c .before .before .before .before .before .before .before .before .before .before .before .before .before .before .before .before .before .before .before .before .before .before .before .before .before .before .before .before .before .pre .1 in
     let if1 = c .before .before .before .before .before .before .before .before .before .before .before .before .before .before .before .before .before .before .before .before .before .before .if1 .left in
     let mark = c .before .before .before .before .before .before .before .before .before .before .before .before .before .before .before .before .before .before .before .before .before .mark .ensures in
@@ -2107,7 +1042,7 @@ ty-arg-returns-3 t c =
     let eat = c .before .before .before .before .before .before .before .before .before .eat .ensures in
     let state = c .before .before .before .before .state .ensures in
     let close = c .before .before .close .ensures in
-    by-steps pre0 (λ b. s-mark if1 mark (s-by _ (runs-in ty-must) (s-kind (s-false _ _ (kind-off _ _ _ _ at if2) (s-by _ (settled state (runs-always eat)) (s-close close s-end))))))
+    by-steps pre0 (λ b. s-mark if1 mark (s-by _ (runs-in ty-must) (s-kind (s-false _ _ (kind-off _ _ _ _ at if2) (s-eats _ _ _ (eats-settled state eat) (s-close close s-end))))))
 
 abbrev ty-args-Inv-loop : ty-args-lts.InvT-loop
 ty-args-Inv-loop text toks env table scratch₀ finds₀ left b s1₀ scratch finds s1 =
@@ -2118,10 +1053,7 @@ ty-args-μ-loop text toks env table scratch₀ finds₀ left b s1₀ scratch fin
 
 ty-args-loop-holds :
     (t : ℕ) →
-    ty-args-lts.Need-loop-holds
-    (arg-turn-below t, arg-turn.Post)
-    (ty-args-at t)
-    ty-args.Post
+    ty-args-lts.Need-loop-holds (ty-args-told t) (ty-args-at t) ty-args.Post
     ty-args-Inv-loop
     ty-args-μ-loop
 ty-args-loop-holds t c =
@@ -2129,19 +1061,13 @@ ty-args-loop-holds t c =
     let pre0 = c .before .before .before .before .before .before .pre .1 in
     (loop-starts pre0, refl, refl)
 
-ty-args-arg-turn-requires : (t : ℕ) → ty-args-lts.Need-arg-turn-requires (
-  arg-turn-below t,
-  arg-turn.Post,
-) (ty-args-at t) ty-args.Post ty-args-Inv-loop ty-args-μ-loop
+ty-args-arg-turn-requires : (t : ℕ) → ty-args-lts.Need-arg-turn-requires (ty-args-told t) (ty-args-at t) ty-args.Post ty-args-Inv-loop ty-args-μ-loop
 ty-args-arg-turn-requires t c κs =
     let falls = c .before .before .before .before .before .before .before .before .before .pre .0 in
     let inv = c .before .before .loop .inv .0 .ok in
     (omega arith, inv)
 
-ty-args-enum-known-turn : (t : ℕ) → ty-args-lts.Need-enum-known-turn (
-  arg-turn-below t,
-  arg-turn.Post,
-) (ty-args-at t) ty-args.Post ty-args-Inv-loop ty-args-μ-loop
+ty-args-enum-known-turn : (t : ℕ) → ty-args-lts.Need-enum-known-turn (ty-args-told t) (ty-args-at t) ty-args.Post ty-args-Inv-loop ty-args-μ-loop
 ty-args-enum-known-turn t c =
     let falls = c .before .before .before .before .before .before .before .before .before .before .before .before .before .before .before .pre .0 in
     let pre0 = c .before .before .before .before .before .before .before .before .before .before .before .before .before .before .before .pre .1 in
@@ -2149,10 +1075,7 @@ ty-args-enum-known-turn t c =
 
 ty-args-loop-less :
     (t : ℕ) →
-    ty-args-lts.Need-loop-less
-    (arg-turn-below t, arg-turn.Post)
-    (ty-args-at t)
-    ty-args.Post
+    ty-args-lts.Need-loop-less (ty-args-told t) (ty-args-at t) ty-args.Post
     ty-args-Inv-loop
     ty-args-μ-loop
 ty-args-loop-less t c =
@@ -2161,10 +1084,7 @@ ty-args-loop-less t c =
 
 ty-args-loop-again :
     (t : ℕ) →
-    ty-args-lts.Need-loop-again
-    (arg-turn-below t, arg-turn.Post)
-    (ty-args-at t)
-    ty-args.Post
+    ty-args-lts.Need-loop-again (ty-args-told t) (ty-args-at t) ty-args.Post
     ty-args-Inv-loop
     ty-args-μ-loop
 ty-args-loop-again t c =
@@ -2172,10 +1092,7 @@ ty-args-loop-again t c =
     let arg-turn = rw (c .before .turn .given .1) at (c .before .before .before .before .before .before .before .arg-turn .ensures) in
     (loop-goes (end-turn-advances true _ _ _ _ _ _) inv (runs-in arg-turn), c .before .before .before .before .before .before .before .arg-turn .kept .1 .1 .1 .1 .0 ∙ c .before .before .before .before .before .before .before .before .before .before .loop .inv .1, c .before .before .before .before .before .before .before .arg-turn .kept .1 .1 .1 .1 .1 .0 ∙ c .before .before .before .before .before .before .before .before .before .before .loop .inv .2)
 
-ty-args-enum-known-turn-2 : (t : ℕ) → ty-args-lts.Need-enum-known-turn-2 (
-  arg-turn-below t,
-  arg-turn.Post,
-) (ty-args-at t) ty-args.Post ty-args-Inv-loop ty-args-μ-loop
+ty-args-enum-known-turn-2 : (t : ℕ) → ty-args-lts.Need-enum-known-turn-2 (ty-args-told t) (ty-args-at t) ty-args.Post ty-args-Inv-loop ty-args-μ-loop
 ty-args-enum-known-turn-2 t c =
     let falls = c .before .before .before .before .before .before .before .before .before .before .before .before .before .before .before .pre .0 in
     let pre0 = c .before .before .before .before .before .before .before .before .before .before .before .before .before .before .before .pre .1 in
@@ -2183,10 +1100,7 @@ ty-args-enum-known-turn-2 t c =
 
 ty-args-same-length :
     (t : ℕ) →
-    ty-args-lts.Need-same-length
-    (arg-turn-below t, arg-turn.Post)
-    (ty-args-at t)
-    ty-args.Post
+    ty-args-lts.Need-same-length (ty-args-told t) (ty-args-at t) ty-args.Post
     ty-args-Inv-loop
     ty-args-μ-loop
 ty-args-same-length t c =
@@ -2194,10 +1108,7 @@ ty-args-same-length t c =
 
 ty-args-same-length-2 :
     (t : ℕ) →
-    ty-args-lts.Need-same-length-2
-    (arg-turn-below t, arg-turn.Post)
-    (ty-args-at t)
-    ty-args.Post
+    ty-args-lts.Need-same-length-2 (ty-args-told t) (ty-args-at t) ty-args.Post
     ty-args-Inv-loop
     ty-args-μ-loop
 ty-args-same-length-2 t c =
@@ -2205,10 +1116,7 @@ ty-args-same-length-2 t c =
 
 ty-args-returns :
     (t : ℕ) →
-    ty-args-lts.Need-returns
-    (arg-turn-below t, arg-turn.Post)
-    (ty-args-at t)
-    ty-args.Post
+    ty-args-lts.Need-returns (ty-args-told t) (ty-args-at t) ty-args.Post
     ty-args-Inv-loop
     ty-args-μ-loop
 ty-args-returns t c =
@@ -2216,87 +1124,30 @@ ty-args-returns t c =
     let arg-turn = rw (c .before .turn2 .given .1) at (c .before .before .before .before .before .before .before .arg-turn .ensures) in
     loop-ends (end-turn-advances true _ _ _ _ _ _) inv (runs-in arg-turn)
 
-ty-arrow-refuse-requires : (t : ℕ) → ty-arrow-lts.Need-refuse-requires (
-  refuse-reads.Asked,
-  refuse-reads.Learnt,
-  mark-reads.Asked,
-  mark-reads.Learnt,
-  bump-reads.Asked,
-  bump-reads.Learnt,
-  ty-must-below t,
-  ty-must.Post,
-  close-reads.Asked,
-  close-reads.Learnt,
-) (ty-arrow-at t) ty-arrow.Post
+ty-arrow-refuse-requires : (t : ℕ) → ty-arrow-lts.Need-refuse-requires (ty-arrow-told t) (ty-arrow-at t) ty-arrow.Post
 ty-arrow-refuse-requires t c κs =
     tt
 
-ty-arrow-returns : (t : ℕ) → ty-arrow-lts.Need-returns (
-  refuse-reads.Asked,
-  refuse-reads.Learnt,
-  mark-reads.Asked,
-  mark-reads.Learnt,
-  bump-reads.Asked,
-  bump-reads.Learnt,
-  ty-must-below t,
-  ty-must.Post,
-  close-reads.Asked,
-  close-reads.Learnt,
-) (ty-arrow-at t) ty-arrow.Post
+ty-arrow-returns : (t : ℕ) → ty-arrow-lts.Need-returns (ty-arrow-told t) (ty-arrow-at t) ty-arrow.Post
 unfolding types.tyArrow plan choose chosen
 ty-arrow-returns t c =
-    let falls = c .before .before .before .before .before .before .before .before .pre .0 in
     let pre0 = c .before .before .before .before .before .before .before .before .pre .1 .0 in
-    let pre1 = c .before .before .before .before .before .before .before .before .pre .1 .1 in
     let if1 = c .before .if1 .taken in
     let refuse = c .refuse .ensures in
     in-steps pre0 (s-deep if1 refuse s-end)
 
-ty-arrow-mark-requires : (t : ℕ) → ty-arrow-lts.Need-mark-requires (
-  refuse-reads.Asked,
-  refuse-reads.Learnt,
-  mark-reads.Asked,
-  mark-reads.Learnt,
-  bump-reads.Asked,
-  bump-reads.Learnt,
-  ty-must-below t,
-  ty-must.Post,
-  close-reads.Asked,
-  close-reads.Learnt,
-) (ty-arrow-at t) ty-arrow.Post
+ty-arrow-mark-requires : (t : ℕ) → ty-arrow-lts.Need-mark-requires (ty-arrow-told t) (ty-arrow-at t) ty-arrow.Post
 ty-arrow-mark-requires t c κs =
     tt
 
-ty-arrow-bump-requires : (t : ℕ) → ty-arrow-lts.Need-bump-requires (
-  refuse-reads.Asked,
-  refuse-reads.Learnt,
-  mark-reads.Asked,
-  mark-reads.Learnt,
-  bump-reads.Asked,
-  bump-reads.Learnt,
-  ty-must-below t,
-  ty-must.Post,
-  close-reads.Asked,
-  close-reads.Learnt,
-) (ty-arrow-at t) ty-arrow.Post
+ty-arrow-bump-requires : (t : ℕ) → ty-arrow-lts.Need-bump-requires (ty-arrow-told t) (ty-arrow-at t) ty-arrow.Post
 ty-arrow-bump-requires t c κs =
     let pre0 = c .before .before .before .before .before .before .before .before .before .pre .1 .0 in
     let mark = c .mark .ensures in
     let mark-ok = ok-marks mark pre0 in
     (mark-ok .reads, mark-ok .logs)
 
-ty-arrow-sub-ty-must : (t : ℕ) → ty-arrow-lts.Need-sub-ty-must (
-  refuse-reads.Asked,
-  refuse-reads.Learnt,
-  mark-reads.Asked,
-  mark-reads.Learnt,
-  bump-reads.Asked,
-  bump-reads.Learnt,
-  ty-must-below t,
-  ty-must.Post,
-  close-reads.Asked,
-  close-reads.Learnt,
-) (ty-arrow-at t) ty-arrow.Post
+ty-arrow-sub-ty-must : (t : ℕ) → ty-arrow-lts.Need-sub-ty-must (ty-arrow-told t) (ty-arrow-at t) ty-arrow.Post
 ty-arrow-sub-ty-must t c =
     let falls = c .before .before .before .before .before .before .before .before .before .before .before .before .before .before .pre .0 in
     let pre0 = c .before .before .before .before .before .before .before .before .before .before .before .before .before .before .pre .1 .0 in
@@ -2304,18 +1155,7 @@ ty-arrow-sub-ty-must t c =
     let if1 = c .before .before .before .before .before .before .before .if1 .left in
     search needs
 
-ty-arrow-ty-must-requires : (t : ℕ) → ty-arrow-lts.Need-ty-must-requires (
-  refuse-reads.Asked,
-  refuse-reads.Learnt,
-  mark-reads.Asked,
-  mark-reads.Learnt,
-  bump-reads.Asked,
-  bump-reads.Learnt,
-  ty-must-below t,
-  ty-must.Post,
-  close-reads.Asked,
-  close-reads.Learnt,
-) (ty-arrow-at t) ty-arrow.Post
+ty-arrow-ty-must-requires : (t : ℕ) → ty-arrow-lts.Need-ty-must-requires (ty-arrow-told t) (ty-arrow-at t) ty-arrow.Post
 ty-arrow-ty-must-requires t c κs =
     let falls = c .before .before .before .before .before .before .before .before .before .before .before .before .before .before .pre .0 in
     let pre0 = c .before .before .before .before .before .before .before .before .before .before .before .before .before .before .pre .1 .0 in
@@ -2327,71 +1167,25 @@ ty-arrow-ty-must-requires t c κs =
     let bump-ok = ok-bumps bump mark-ok in
     (omega arith, bump-ok)
 
-ty-arrow-close-requires : (t : ℕ) → ty-arrow-lts.Need-close-requires (
-  refuse-reads.Asked,
-  refuse-reads.Learnt,
-  mark-reads.Asked,
-  mark-reads.Learnt,
-  bump-reads.Asked,
-  bump-reads.Learnt,
-  ty-must-below t,
-  ty-must.Post,
-  close-reads.Asked,
-  close-reads.Learnt,
-) (ty-arrow-at t) ty-arrow.Post
+ty-arrow-close-requires : (t : ℕ) → ty-arrow-lts.Need-close-requires (ty-arrow-told t) (ty-arrow-at t) ty-arrow.Post
 ty-arrow-close-requires t c κs =
     let pre1 = c .before .before .before .before .before .before .before .before .before .before .before .before .before .before .before .before .before .before .before .before .pre .1 .1 in
     let ty-must = c .before .before .before .before .before .ty-must .ensures in
     let ty-must-ok = ty-must .ok in
     (ty-must-ok .logs, pre1)
 
-ty-arrow-same-length : (t : ℕ) → ty-arrow-lts.Need-same-length (
-  refuse-reads.Asked,
-  refuse-reads.Learnt,
-  mark-reads.Asked,
-  mark-reads.Learnt,
-  bump-reads.Asked,
-  bump-reads.Learnt,
-  ty-must-below t,
-  ty-must.Post,
-  close-reads.Asked,
-  close-reads.Learnt,
-) (ty-arrow-at t) ty-arrow.Post
+ty-arrow-same-length : (t : ℕ) → ty-arrow-lts.Need-same-length (ty-arrow-told t) (ty-arrow-at t) ty-arrow.Post
 ty-arrow-same-length t c =
     c .before .before .close .kept .0 ∙ c .before .before .before .before .before .before .before .before .ty-must .kept .1 .1 .1 .1 .0 ∙ c .before .before .before .before .before .before .before .before .before .before .before .before .before .bump .kept .1 .0
 
-ty-arrow-same-length-2 : (t : ℕ) → ty-arrow-lts.Need-same-length-2 (
-  refuse-reads.Asked,
-  refuse-reads.Learnt,
-  mark-reads.Asked,
-  mark-reads.Learnt,
-  bump-reads.Asked,
-  bump-reads.Learnt,
-  ty-must-below t,
-  ty-must.Post,
-  close-reads.Asked,
-  close-reads.Learnt,
-) (ty-arrow-at t) ty-arrow.Post
+ty-arrow-same-length-2 : (t : ℕ) → ty-arrow-lts.Need-same-length-2 (ty-arrow-told t) (ty-arrow-at t) ty-arrow.Post
 ty-arrow-same-length-2 t c =
     c .before .before .before .before .before .before .before .before .ty-must .kept .1 .1 .1 .1 .1 .0
 
-ty-arrow-returns-2 : (t : ℕ) → ty-arrow-lts.Need-returns-2 (
-  refuse-reads.Asked,
-  refuse-reads.Learnt,
-  mark-reads.Asked,
-  mark-reads.Learnt,
-  bump-reads.Asked,
-  bump-reads.Learnt,
-  ty-must-below t,
-  ty-must.Post,
-  close-reads.Asked,
-  close-reads.Learnt,
-) (ty-arrow-at t) ty-arrow.Post
+ty-arrow-returns-2 : (t : ℕ) → ty-arrow-lts.Need-returns-2 (ty-arrow-told t) (ty-arrow-at t) ty-arrow.Post
 unfolding types.tyArrow plan choose chosen
 ty-arrow-returns-2 t c =
-    let falls = c .before .before .before .before .before .before .before .before .before .before .before .before .before .before .before .before .before .before .before .before .before .before .before .pre .0 in
     let pre0 = c .before .before .before .before .before .before .before .before .before .before .before .before .before .before .before .before .before .before .before .before .before .before .before .pre .1 .0 in
-    let pre1 = c .before .before .before .before .before .before .before .before .before .before .before .before .before .before .before .before .before .before .before .before .before .before .before .pre .1 .1 in
     let if1 = c .before .before .before .before .before .before .before .before .before .before .before .before .before .before .before .before .if1 .left in
     let mark = c .before .before .before .before .before .before .before .before .before .before .before .before .before .before .mark .ensures in
     let bump = c .before .before .before .before .before .before .before .before .before .before .before .before .before .bump .ensures in
@@ -2399,26 +1193,12 @@ ty-arrow-returns-2 t c =
     let close = c .before .before .close .ensures in
     in-steps pre0 (s-mark if1 mark (s-bump bump (s-by _ (runs-in ty-must) (s-close close s-end))))
 
-ty-head-bump-requires : (t : ℕ) → ty-head-lts.Need-bump-requires (
-  bump-reads.Asked,
-  bump-reads.Learnt,
-  close-reads.Asked,
-  close-reads.Learnt,
-  ty-inner-below t,
-  ty-inner.Post,
-) (ty-head-at t) ty-head.Post
+ty-head-bump-requires : (t : ℕ) → ty-head-lts.Need-bump-requires (ty-head-told t) (ty-head-at t) ty-head.Post
 ty-head-bump-requires t c κs =
     let pre0 = c .before .before .before .before .before .before .before .before .pre .1 .0 in
     (pre0 .reads, pre0 .logs)
 
-ty-head-close-requires : (t : ℕ) → ty-head-lts.Need-close-requires (
-  bump-reads.Asked,
-  bump-reads.Learnt,
-  close-reads.Asked,
-  close-reads.Learnt,
-  ty-inner-below t,
-  ty-inner.Post,
-) (ty-head-at t) ty-head.Post
+ty-head-close-requires : (t : ℕ) → ty-head-lts.Need-close-requires (ty-head-told t) (ty-head-at t) ty-head.Post
 ty-head-close-requires t c κs =
     let pre0 = c .before .before .before .before .before .before .before .before .before .before .before .before .pre .1 .0 in
     let pre1 = c .before .before .before .before .before .before .before .before .before .before .before .before .pre .1 .1 in
@@ -2426,55 +1206,25 @@ ty-head-close-requires t c κs =
     let bump-ok = ok-bumps bump pre0 in
     (bump-ok .logs, pre1)
 
-ty-head-same-length : (t : ℕ) → ty-head-lts.Need-same-length (
-  bump-reads.Asked,
-  bump-reads.Learnt,
-  close-reads.Asked,
-  close-reads.Learnt,
-  ty-inner-below t,
-  ty-inner.Post,
-) (ty-head-at t) ty-head.Post
+ty-head-same-length : (t : ℕ) → ty-head-lts.Need-same-length (ty-head-told t) (ty-head-at t) ty-head.Post
 ty-head-same-length t c =
     c .before .before .close .kept .0 ∙ c .before .before .before .before .before .before .bump .kept .1 .0
 
-ty-head-returns : (t : ℕ) → ty-head-lts.Need-returns (
-  bump-reads.Asked,
-  bump-reads.Learnt,
-  close-reads.Asked,
-  close-reads.Learnt,
-  ty-inner-below t,
-  ty-inner.Post,
-) (ty-head-at t) ty-head.Post
+ty-head-returns : (t : ℕ) → ty-head-lts.Need-returns (ty-head-told t) (ty-head-at t) ty-head.Post
 unfolding types.tyHead plan choose chosen
 ty-head-returns t c =
-    let falls = c .before .before .before .before .before .before .before .before .before .before .before .before .before .before .before .pre .0 in
     let pre0 = c .before .before .before .before .before .before .before .before .before .before .before .before .before .before .before .pre .1 .0 in
-    let pre1 = c .before .before .before .before .before .before .before .before .before .before .before .before .before .before .before .pre .1 .1 in
     let if1 = c .before .before .before .before .before .before .before .before .if1 .taken in
     let bump = c .before .before .before .before .before .before .bump .ensures in
     let close = c .before .before .close .ensures in
     in-steps pre0 (s-true _ _ (kind-is if1) (s-bump bump (s-close close s-end)))
 
-ty-head-bump-requires-2 : (t : ℕ) → ty-head-lts.Need-bump-requires-2 (
-  bump-reads.Asked,
-  bump-reads.Learnt,
-  close-reads.Asked,
-  close-reads.Learnt,
-  ty-inner-below t,
-  ty-inner.Post,
-) (ty-head-at t) ty-head.Post
+ty-head-bump-requires-2 : (t : ℕ) → ty-head-lts.Need-bump-requires-2 (ty-head-told t) (ty-head-at t) ty-head.Post
 ty-head-bump-requires-2 t c κs =
     let pre0 = c .before .before .before .before .before .before .before .before .before .pre .1 .0 in
     (pre0 .reads, pre0 .logs)
 
-ty-head-close-requires-2 : (t : ℕ) → ty-head-lts.Need-close-requires-2 (
-  bump-reads.Asked,
-  bump-reads.Learnt,
-  close-reads.Asked,
-  close-reads.Learnt,
-  ty-inner-below t,
-  ty-inner.Post,
-) (ty-head-at t) ty-head.Post
+ty-head-close-requires-2 : (t : ℕ) → ty-head-lts.Need-close-requires-2 (ty-head-told t) (ty-head-at t) ty-head.Post
 ty-head-close-requires-2 t c κs =
     let pre0 = c .before .before .before .before .before .before .before .before .before .before .before .before .before .pre .1 .0 in
     let pre1 = c .before .before .before .before .before .before .before .before .before .before .before .before .before .pre .1 .1 in
@@ -2482,56 +1232,26 @@ ty-head-close-requires-2 t c κs =
     let bump2-ok = ok-bumps bump2 pre0 in
     (bump2-ok .logs, pre1)
 
-ty-head-same-length-2 : (t : ℕ) → ty-head-lts.Need-same-length-2 (
-  bump-reads.Asked,
-  bump-reads.Learnt,
-  close-reads.Asked,
-  close-reads.Learnt,
-  ty-inner-below t,
-  ty-inner.Post,
-) (ty-head-at t) ty-head.Post
+ty-head-same-length-2 : (t : ℕ) → ty-head-lts.Need-same-length-2 (ty-head-told t) (ty-head-at t) ty-head.Post
 ty-head-same-length-2 t c =
     c .before .before .close2 .kept .0 ∙ c .before .before .before .before .before .before .bump2 .kept .1 .0
 
-ty-head-returns-2 : (t : ℕ) → ty-head-lts.Need-returns-2 (
-  bump-reads.Asked,
-  bump-reads.Learnt,
-  close-reads.Asked,
-  close-reads.Learnt,
-  ty-inner-below t,
-  ty-inner.Post,
-) (ty-head-at t) ty-head.Post
+ty-head-returns-2 : (t : ℕ) → ty-head-lts.Need-returns-2 (ty-head-told t) (ty-head-at t) ty-head.Post
 unfolding types.tyHead plan choose chosen
 ty-head-returns-2 t c =
-    let falls = c .before .before .before .before .before .before .before .before .before .before .before .before .before .before .before .before .pre .0 in
     let pre0 = c .before .before .before .before .before .before .before .before .before .before .before .before .before .before .before .before .pre .1 .0 in
-    let pre1 = c .before .before .before .before .before .before .before .before .before .before .before .before .before .before .before .before .pre .1 .1 in
     let if1 = c .before .before .before .before .before .before .before .before .before .if1 .left in
     let if2 = c .before .before .before .before .before .before .before .before .if2 .taken in
     let bump2 = c .before .before .before .before .before .before .bump2 .ensures in
     let close2 = c .before .before .close2 .ensures in
     in-steps pre0 (s-false _ _ (kind-not if1) (s-true _ _ (kind-is if2) (s-bump bump2 (s-close close2 s-end))))
 
-ty-head-bump-requires-3 : (t : ℕ) → ty-head-lts.Need-bump-requires-3 (
-  bump-reads.Asked,
-  bump-reads.Learnt,
-  close-reads.Asked,
-  close-reads.Learnt,
-  ty-inner-below t,
-  ty-inner.Post,
-) (ty-head-at t) ty-head.Post
+ty-head-bump-requires-3 : (t : ℕ) → ty-head-lts.Need-bump-requires-3 (ty-head-told t) (ty-head-at t) ty-head.Post
 ty-head-bump-requires-3 t c κs =
     let pre0 = c .before .before .before .before .before .before .before .before .before .before .pre .1 .0 in
     (pre0 .reads, pre0 .logs)
 
-ty-head-close-requires-3 : (t : ℕ) → ty-head-lts.Need-close-requires-3 (
-  bump-reads.Asked,
-  bump-reads.Learnt,
-  close-reads.Asked,
-  close-reads.Learnt,
-  ty-inner-below t,
-  ty-inner.Post,
-) (ty-head-at t) ty-head.Post
+ty-head-close-requires-3 : (t : ℕ) → ty-head-lts.Need-close-requires-3 (ty-head-told t) (ty-head-at t) ty-head.Post
 ty-head-close-requires-3 t c κs =
     let pre0 = c .before .before .before .before .before .before .before .before .before .before .before .before .before .before .pre .1 .0 in
     let pre1 = c .before .before .before .before .before .before .before .before .before .before .before .before .before .before .pre .1 .1 in
@@ -2539,30 +1259,14 @@ ty-head-close-requires-3 t c κs =
     let bump3-ok = ok-bumps bump3 pre0 in
     (bump3-ok .logs, pre1)
 
-ty-head-same-length-3 : (t : ℕ) → ty-head-lts.Need-same-length-3 (
-  bump-reads.Asked,
-  bump-reads.Learnt,
-  close-reads.Asked,
-  close-reads.Learnt,
-  ty-inner-below t,
-  ty-inner.Post,
-) (ty-head-at t) ty-head.Post
+ty-head-same-length-3 : (t : ℕ) → ty-head-lts.Need-same-length-3 (ty-head-told t) (ty-head-at t) ty-head.Post
 ty-head-same-length-3 t c =
     c .before .before .close3 .kept .0 ∙ c .before .before .before .before .before .before .bump3 .kept .1 .0
 
-ty-head-returns-3 : (t : ℕ) → ty-head-lts.Need-returns-3 (
-  bump-reads.Asked,
-  bump-reads.Learnt,
-  close-reads.Asked,
-  close-reads.Learnt,
-  ty-inner-below t,
-  ty-inner.Post,
-) (ty-head-at t) ty-head.Post
+ty-head-returns-3 : (t : ℕ) → ty-head-lts.Need-returns-3 (ty-head-told t) (ty-head-at t) ty-head.Post
 unfolding types.tyHead plan choose chosen
 ty-head-returns-3 t c =
-    let falls = c .before .before .before .before .before .before .before .before .before .before .before .before .before .before .before .before .before .pre .0 in
     let pre0 = c .before .before .before .before .before .before .before .before .before .before .before .before .before .before .before .before .before .pre .1 .0 in
-    let pre1 = c .before .before .before .before .before .before .before .before .before .before .before .before .before .before .before .before .before .pre .1 .1 in
     let if1 = c .before .before .before .before .before .before .before .before .before .before .if1 .left in
     let if2 = c .before .before .before .before .before .before .before .before .before .if2 .left in
     let if3 = c .before .before .before .before .before .before .before .before .if3 .taken in
@@ -2570,14 +1274,7 @@ ty-head-returns-3 t c =
     let close3 = c .before .before .close3 .ensures in
     in-steps pre0 (s-false _ _ (kind-not if1) (s-false _ _ (kind-not if2) (s-true _ _ (kind-is if3) (s-bump bump3 (s-close close3 s-end)))))
 
-ty-head-ty-inner-requires : (t : ℕ) → ty-head-lts.Need-ty-inner-requires (
-  bump-reads.Asked,
-  bump-reads.Learnt,
-  close-reads.Asked,
-  close-reads.Learnt,
-  ty-inner-below t,
-  ty-inner.Post,
-) (ty-head-at t) ty-head.Post
+ty-head-ty-inner-requires : (t : ℕ) → ty-head-lts.Need-ty-inner-requires (ty-head-told t) (ty-head-at t) ty-head.Post
 ty-head-ty-inner-requires t c κs =
     let falls = c .before .before .before .before .before .before .before .before .before .before .before .pre .0 in
     let pre0 = c .before .before .before .before .before .before .before .before .before .before .before .pre .1 .0 in
@@ -2587,79 +1284,30 @@ ty-head-ty-inner-requires t c κs =
     let if3 = c .before .before .if3 .left in
     (omega arith, (pre0, pre1))
 
-ty-head-same-length-4 : (t : ℕ) → ty-head-lts.Need-same-length-4 (
-  bump-reads.Asked,
-  bump-reads.Learnt,
-  close-reads.Asked,
-  close-reads.Learnt,
-  ty-inner-below t,
-  ty-inner.Post,
-) (ty-head-at t) ty-head.Post
+ty-head-same-length-4 : (t : ℕ) → ty-head-lts.Need-same-length-4 (ty-head-told t) (ty-head-at t) ty-head.Post
 ty-head-same-length-4 t c =
     c .before .before .before .before .ty-inner .kept .1 .1 .1 .1 .0
 
-ty-head-same-length-5 : (t : ℕ) → ty-head-lts.Need-same-length-5 (
-  bump-reads.Asked,
-  bump-reads.Learnt,
-  close-reads.Asked,
-  close-reads.Learnt,
-  ty-inner-below t,
-  ty-inner.Post,
-) (ty-head-at t) ty-head.Post
+ty-head-same-length-5 : (t : ℕ) → ty-head-lts.Need-same-length-5 (ty-head-told t) (ty-head-at t) ty-head.Post
 ty-head-same-length-5 t c =
     c .before .before .before .before .ty-inner .kept .1 .1 .1 .1 .1 .0
 
-ty-head-returns-4 : (t : ℕ) → ty-head-lts.Need-returns-4 (
-  bump-reads.Asked,
-  bump-reads.Learnt,
-  close-reads.Asked,
-  close-reads.Learnt,
-  ty-inner-below t,
-  ty-inner.Post,
-) (ty-head-at t) ty-head.Post
+ty-head-returns-4 : (t : ℕ) → ty-head-lts.Need-returns-4 (ty-head-told t) (ty-head-at t) ty-head.Post
 unfolding types.tyHead plan choose chosen
 ty-head-returns-4 t c =
-    let falls = c .before .before .before .before .before .before .before .before .before .before .before .before .before .before .before .before .pre .0 in
     let pre0 = c .before .before .before .before .before .before .before .before .before .before .before .before .before .before .before .before .pre .1 .0 in
-    let pre1 = c .before .before .before .before .before .before .before .before .before .before .before .before .before .before .before .before .pre .1 .1 in
     let if1 = c .before .before .before .before .before .before .before .before .before .if1 .left in
     let if2 = c .before .before .before .before .before .before .before .before .if2 .left in
     let if3 = c .before .before .before .before .before .before .before .if3 .left in
     let ty-inner = c .before .before .before .before .ty-inner .ensures in
     in-steps pre0 (s-false _ _ (kind-not if1) (s-false _ _ (kind-not if2) (s-false _ _ (kind-not if3) (s-by _ ty-inner s-end))))
 
-ty-inner-bump-requires : (t : ℕ) → ty-inner-lts.Need-bump-requires (
-  bump-reads.Asked,
-  bump-reads.Learnt,
-  ty-rows-below t,
-  ty-rows.Post,
-  close-reads.Asked,
-  close-reads.Learnt,
-  ty-round-below t,
-  ty-round.Post,
-  path-must-reads.Asked,
-  path-must-reads.Learnt,
-  state-reads.Asked,
-  state-reads.Learnt,
-) (ty-inner-at t) ty-inner.Post
+ty-inner-bump-requires : (t : ℕ) → ty-inner-lts.Need-bump-requires (ty-inner-told t) (ty-inner-at t) ty-inner.Post
 ty-inner-bump-requires t c κs =
     let pre0 = c .before .before .before .before .before .before .before .before .pre .1 .0 in
     (pre0 .reads, pre0 .logs)
 
-ty-inner-ty-rows-requires : (t : ℕ) → ty-inner-lts.Need-ty-rows-requires (
-  bump-reads.Asked,
-  bump-reads.Learnt,
-  ty-rows-below t,
-  ty-rows.Post,
-  close-reads.Asked,
-  close-reads.Learnt,
-  ty-round-below t,
-  ty-round.Post,
-  path-must-reads.Asked,
-  path-must-reads.Learnt,
-  state-reads.Asked,
-  state-reads.Learnt,
-) (ty-inner-at t) ty-inner.Post
+ty-inner-ty-rows-requires : (t : ℕ) → ty-inner-lts.Need-ty-rows-requires (ty-inner-told t) (ty-inner-at t) ty-inner.Post
 ty-inner-ty-rows-requires t c κs =
     let falls = c .before .before .before .before .before .before .before .before .before .before .before .before .before .pre .0 in
     let pre0 = c .before .before .before .before .before .before .before .before .before .before .before .before .before .pre .1 .0 in
@@ -2669,99 +1317,32 @@ ty-inner-ty-rows-requires t c κs =
     let bump-ok = ok-bumps bump pre0 in
     (omega arith, bump-ok)
 
-ty-inner-close-requires : (t : ℕ) → ty-inner-lts.Need-close-requires (
-  bump-reads.Asked,
-  bump-reads.Learnt,
-  ty-rows-below t,
-  ty-rows.Post,
-  close-reads.Asked,
-  close-reads.Learnt,
-  ty-round-below t,
-  ty-round.Post,
-  path-must-reads.Asked,
-  path-must-reads.Learnt,
-  state-reads.Asked,
-  state-reads.Learnt,
-) (ty-inner-at t) ty-inner.Post
+ty-inner-close-requires : (t : ℕ) → ty-inner-lts.Need-close-requires (ty-inner-told t) (ty-inner-at t) ty-inner.Post
 ty-inner-close-requires t c κs =
     let pre1 = c .before .before .before .before .before .before .before .before .before .before .before .before .before .before .before .before .before .before .before .pre .1 .1 in
     let ty-rows = c .before .before .before .before .before .ty-rows .ensures in
     let ty-rows-ok = ty-rows .ok in
     (ty-rows-ok .logs, pre1)
 
-ty-inner-same-length : (t : ℕ) → ty-inner-lts.Need-same-length (
-  bump-reads.Asked,
-  bump-reads.Learnt,
-  ty-rows-below t,
-  ty-rows.Post,
-  close-reads.Asked,
-  close-reads.Learnt,
-  ty-round-below t,
-  ty-round.Post,
-  path-must-reads.Asked,
-  path-must-reads.Learnt,
-  state-reads.Asked,
-  state-reads.Learnt,
-) (ty-inner-at t) ty-inner.Post
+ty-inner-same-length : (t : ℕ) → ty-inner-lts.Need-same-length (ty-inner-told t) (ty-inner-at t) ty-inner.Post
 ty-inner-same-length t c =
     c .before .before .close .kept .0 ∙ c .before .before .before .before .before .before .before .before .ty-rows .kept .1 .1 .1 .1 .0 ∙ c .before .before .before .before .before .before .before .before .before .before .before .before .before .bump .kept .1 .0
 
-ty-inner-same-length-2 : (t : ℕ) → ty-inner-lts.Need-same-length-2 (
-  bump-reads.Asked,
-  bump-reads.Learnt,
-  ty-rows-below t,
-  ty-rows.Post,
-  close-reads.Asked,
-  close-reads.Learnt,
-  ty-round-below t,
-  ty-round.Post,
-  path-must-reads.Asked,
-  path-must-reads.Learnt,
-  state-reads.Asked,
-  state-reads.Learnt,
-) (ty-inner-at t) ty-inner.Post
+ty-inner-same-length-2 : (t : ℕ) → ty-inner-lts.Need-same-length-2 (ty-inner-told t) (ty-inner-at t) ty-inner.Post
 ty-inner-same-length-2 t c =
     c .before .before .before .before .before .before .before .before .ty-rows .kept .1 .1 .1 .1 .1 .0
 
-ty-inner-returns : (t : ℕ) → ty-inner-lts.Need-returns (
-  bump-reads.Asked,
-  bump-reads.Learnt,
-  ty-rows-below t,
-  ty-rows.Post,
-  close-reads.Asked,
-  close-reads.Learnt,
-  ty-round-below t,
-  ty-round.Post,
-  path-must-reads.Asked,
-  path-must-reads.Learnt,
-  state-reads.Asked,
-  state-reads.Learnt,
-) (ty-inner-at t) ty-inner.Post
+ty-inner-returns : (t : ℕ) → ty-inner-lts.Need-returns (ty-inner-told t) (ty-inner-at t) ty-inner.Post
 unfolding types.tyInner util.endSep plan choose chosen
 ty-inner-returns t c =
-    let falls = c .before .before .before .before .before .before .before .before .before .before .before .before .before .before .before .before .before .before .before .before .before .before .pre .0 in
     let pre0 = c .before .before .before .before .before .before .before .before .before .before .before .before .before .before .before .before .before .before .before .before .before .before .pre .1 .0 in
-    let pre1 = c .before .before .before .before .before .before .before .before .before .before .before .before .before .before .before .before .before .before .before .before .before .before .pre .1 .1 in
     let if1 = c .before .before .before .before .before .before .before .before .before .before .before .before .before .before .before .if1 .taken in
     let bump = c .before .before .before .before .before .before .before .before .before .before .before .before .before .bump .ensures in
     let ty-rows = c .before .before .before .before .before .before .before .before .ty-rows .ensures in
     let close = c .before .before .close .ensures in
     in-steps pre0 (s-true _ _ (kind-is if1) (s-bump bump (s-run ty-rows (s-close close s-end))))
 
-ty-inner-ty-round-requires : (t : ℕ) → ty-inner-lts.Need-ty-round-requires (
-  bump-reads.Asked,
-  bump-reads.Learnt,
-  ty-rows-below t,
-  ty-rows.Post,
-  close-reads.Asked,
-  close-reads.Learnt,
-  ty-round-below t,
-  ty-round.Post,
-  path-must-reads.Asked,
-  path-must-reads.Learnt,
-  state-reads.Asked,
-  state-reads.Learnt,
-) (ty-inner-at t) ty-inner.Post
+ty-inner-ty-round-requires : (t : ℕ) → ty-inner-lts.Need-ty-round-requires (ty-inner-told t) (ty-inner-at t) ty-inner.Post
 ty-inner-ty-round-requires t c κs =
     let falls = c .before .before .before .before .before .before .before .before .before .before .pre .0 in
     let pre0 = c .before .before .before .before .before .before .before .before .before .before .pre .1 .0 in
@@ -2770,113 +1351,33 @@ ty-inner-ty-round-requires t c κs =
     let if2 = c .before .before .if2 .taken in
     (omega arith, (pre0, pre1))
 
-ty-inner-same-length-3 : (t : ℕ) → ty-inner-lts.Need-same-length-3 (
-  bump-reads.Asked,
-  bump-reads.Learnt,
-  ty-rows-below t,
-  ty-rows.Post,
-  close-reads.Asked,
-  close-reads.Learnt,
-  ty-round-below t,
-  ty-round.Post,
-  path-must-reads.Asked,
-  path-must-reads.Learnt,
-  state-reads.Asked,
-  state-reads.Learnt,
-) (ty-inner-at t) ty-inner.Post
+ty-inner-same-length-3 : (t : ℕ) → ty-inner-lts.Need-same-length-3 (ty-inner-told t) (ty-inner-at t) ty-inner.Post
 ty-inner-same-length-3 t c =
     c .before .before .before .before .ty-round .kept .1 .1 .1 .1 .0
 
-ty-inner-same-length-4 : (t : ℕ) → ty-inner-lts.Need-same-length-4 (
-  bump-reads.Asked,
-  bump-reads.Learnt,
-  ty-rows-below t,
-  ty-rows.Post,
-  close-reads.Asked,
-  close-reads.Learnt,
-  ty-round-below t,
-  ty-round.Post,
-  path-must-reads.Asked,
-  path-must-reads.Learnt,
-  state-reads.Asked,
-  state-reads.Learnt,
-) (ty-inner-at t) ty-inner.Post
+ty-inner-same-length-4 : (t : ℕ) → ty-inner-lts.Need-same-length-4 (ty-inner-told t) (ty-inner-at t) ty-inner.Post
 ty-inner-same-length-4 t c =
     c .before .before .before .before .ty-round .kept .1 .1 .1 .1 .1 .0
 
-ty-inner-returns-2 : (t : ℕ) → ty-inner-lts.Need-returns-2 (
-  bump-reads.Asked,
-  bump-reads.Learnt,
-  ty-rows-below t,
-  ty-rows.Post,
-  close-reads.Asked,
-  close-reads.Learnt,
-  ty-round-below t,
-  ty-round.Post,
-  path-must-reads.Asked,
-  path-must-reads.Learnt,
-  state-reads.Asked,
-  state-reads.Learnt,
-) (ty-inner-at t) ty-inner.Post
+ty-inner-returns-2 : (t : ℕ) → ty-inner-lts.Need-returns-2 (ty-inner-told t) (ty-inner-at t) ty-inner.Post
 unfolding types.tyInner util.endSep plan choose chosen
 ty-inner-returns-2 t c =
-    let falls = c .before .before .before .before .before .before .before .before .before .before .before .before .before .before .before .pre .0 in
     let pre0 = c .before .before .before .before .before .before .before .before .before .before .before .before .before .before .before .pre .1 .0 in
-    let pre1 = c .before .before .before .before .before .before .before .before .before .before .before .before .before .before .before .pre .1 .1 in
     let if1 = c .before .before .before .before .before .before .before .before .if1 .left in
     let if2 = c .before .before .before .before .before .before .before .if2 .taken in
     let ty-round = c .before .before .before .before .ty-round .ensures in
     in-steps pre0 (s-false _ _ (kind-not if1) (s-true _ _ (kind-is if2) (s-by _ ty-round s-end)))
 
-ty-inner-path-must-requires : (t : ℕ) → ty-inner-lts.Need-path-must-requires (
-  bump-reads.Asked,
-  bump-reads.Learnt,
-  ty-rows-below t,
-  ty-rows.Post,
-  close-reads.Asked,
-  close-reads.Learnt,
-  ty-round-below t,
-  ty-round.Post,
-  path-must-reads.Asked,
-  path-must-reads.Learnt,
-  state-reads.Asked,
-  state-reads.Learnt,
-) (ty-inner-at t) ty-inner.Post
+ty-inner-path-must-requires : (t : ℕ) → ty-inner-lts.Need-path-must-requires (ty-inner-told t) (ty-inner-at t) ty-inner.Post
 ty-inner-path-must-requires t c κs =
     let pre0 = c .before .before .before .before .before .before .before .before .before .before .before .pre .1 .0 in
     pre0
 
-ty-inner-state-requires : (t : ℕ) → ty-inner-lts.Need-state-requires (
-  bump-reads.Asked,
-  bump-reads.Learnt,
-  ty-rows-below t,
-  ty-rows.Post,
-  close-reads.Asked,
-  close-reads.Learnt,
-  ty-round-below t,
-  ty-round.Post,
-  path-must-reads.Asked,
-  path-must-reads.Learnt,
-  state-reads.Asked,
-  state-reads.Learnt,
-) (ty-inner-at t) ty-inner.Post
+ty-inner-state-requires : (t : ℕ) → ty-inner-lts.Need-state-requires (ty-inner-told t) (ty-inner-at t) ty-inner.Post
 ty-inner-state-requires t c κs =
     tt
 
-ty-inner-close-requires-2 : (t : ℕ) → ty-inner-lts.Need-close-requires-2 (
-  bump-reads.Asked,
-  bump-reads.Learnt,
-  ty-rows-below t,
-  ty-rows.Post,
-  close-reads.Asked,
-  close-reads.Learnt,
-  ty-round-below t,
-  ty-round.Post,
-  path-must-reads.Asked,
-  path-must-reads.Learnt,
-  state-reads.Asked,
-  state-reads.Learnt,
-) (ty-inner-at t) ty-inner.Post
+ty-inner-close-requires-2 : (t : ℕ) → ty-inner-lts.Need-close-requires-2 (ty-inner-told t) (ty-inner-at t) ty-inner.Post
 ty-inner-close-requires-2 t c κs =
     let pre1 = c .before .before .before .before .before .before .before .before .before .before .before .before .before .before .before .before .before .before .pre .1 .1 in
     let path-must = c .before .before .before .before .before .before .path-must .ensures in
@@ -2885,59 +1386,18 @@ ty-inner-close-requires-2 t c κs =
     let state-ok = ok-state state path-must-ok in
     (state-ok .logs, pre1)
 
-ty-inner-same-length-5 : (t : ℕ) → ty-inner-lts.Need-same-length-5 (
-  bump-reads.Asked,
-  bump-reads.Learnt,
-  ty-rows-below t,
-  ty-rows.Post,
-  close-reads.Asked,
-  close-reads.Learnt,
-  ty-round-below t,
-  ty-round.Post,
-  path-must-reads.Asked,
-  path-must-reads.Learnt,
-  state-reads.Asked,
-  state-reads.Learnt,
-) (ty-inner-at t) ty-inner.Post
+ty-inner-same-length-5 : (t : ℕ) → ty-inner-lts.Need-same-length-5 (ty-inner-told t) (ty-inner-at t) ty-inner.Post
 ty-inner-same-length-5 t c =
     c .before .before .close2 .kept .0 ∙ c .before .before .before .before .before .before .before .before .before .path-must .kept .1 .1 .1 .1 .0
 
-ty-inner-same-length-6 : (t : ℕ) → ty-inner-lts.Need-same-length-6 (
-  bump-reads.Asked,
-  bump-reads.Learnt,
-  ty-rows-below t,
-  ty-rows.Post,
-  close-reads.Asked,
-  close-reads.Learnt,
-  ty-round-below t,
-  ty-round.Post,
-  path-must-reads.Asked,
-  path-must-reads.Learnt,
-  state-reads.Asked,
-  state-reads.Learnt,
-) (ty-inner-at t) ty-inner.Post
+ty-inner-same-length-6 : (t : ℕ) → ty-inner-lts.Need-same-length-6 (ty-inner-told t) (ty-inner-at t) ty-inner.Post
 ty-inner-same-length-6 t c =
     c .before .before .before .before .before .before .before .before .before .path-must .kept .1 .1 .1 .1 .1 .0
 
-ty-inner-returns-3 : (t : ℕ) → ty-inner-lts.Need-returns-3 (
-  bump-reads.Asked,
-  bump-reads.Learnt,
-  ty-rows-below t,
-  ty-rows.Post,
-  close-reads.Asked,
-  close-reads.Learnt,
-  ty-round-below t,
-  ty-round.Post,
-  path-must-reads.Asked,
-  path-must-reads.Learnt,
-  state-reads.Asked,
-  state-reads.Learnt,
-) (ty-inner-at t) ty-inner.Post
+ty-inner-returns-3 : (t : ℕ) → ty-inner-lts.Need-returns-3 (ty-inner-told t) (ty-inner-at t) ty-inner.Post
 unfolding types.tyInner util.endSep plan choose chosen
 ty-inner-returns-3 t c =
-    let falls = c .before .before .before .before .before .before .before .before .before .before .before .before .before .before .before .before .before .before .before .before .before .pre .0 in
     let pre0 = c .before .before .before .before .before .before .before .before .before .before .before .before .before .before .before .before .before .before .before .before .before .pre .1 .0 in
-    let pre1 = c .before .before .before .before .before .before .before .before .before .before .before .before .before .before .before .before .before .before .before .before .before .pre .1 .1 in
     let if1 = c .before .before .before .before .before .before .before .before .before .before .before .before .before .before .if1 .left in
     let if2 = c .before .before .before .before .before .before .before .before .before .before .before .before .before .if2 .left in
     let if3 = c .before .before .before .before .before .before .before .before .before .before .before .before .if3 .taken in
@@ -2946,288 +1406,120 @@ ty-inner-returns-3 t c =
     let close2 = c .before .before .close2 .ensures in
     in-steps pre0 (s-false _ _ (kind-not if1) (s-false _ _ (kind-not if2) (s-true _ _ (kind-is if3) (s-by _ (settled state (runs-in path-must)) (s-close close2 s-end)))))
 
-ty-inner-returns-4 : (t : ℕ) → ty-inner-lts.Need-returns-4 (
-  bump-reads.Asked,
-  bump-reads.Learnt,
-  ty-rows-below t,
-  ty-rows.Post,
-  close-reads.Asked,
-  close-reads.Learnt,
-  ty-round-below t,
-  ty-round.Post,
-  path-must-reads.Asked,
-  path-must-reads.Learnt,
-  state-reads.Asked,
-  state-reads.Learnt,
-) (ty-inner-at t) ty-inner.Post
+ty-inner-returns-4 : (t : ℕ) → ty-inner-lts.Need-returns-4 (ty-inner-told t) (ty-inner-at t) ty-inner.Post
 unfolding types.tyInner util.endSep plan choose chosen
 ty-inner-returns-4 t c =
-    let falls = c .before .before .before .before .before .before .before .before .before .pre .0 in
     let pre0 = c .before .before .before .before .before .before .before .before .before .pre .1 .0 in
-    let pre1 = c .before .before .before .before .before .before .before .before .before .pre .1 .1 in
     let if1 = c .before .before .if1 .left in
     let if2 = c .before .if2 .left in
     let if3 = c .if3 .left in
     in-steps pre0 (s-false _ _ (kind-not if1) (s-false _ _ (kind-not if2) (s-false _ _ (kind-not if3) s-end)))
 
-ty-must-ty-prec-requires : (t : ℕ) → ty-must-lts.Need-ty-prec-requires (
-  ty-prec-below t,
-  ty-prec.Post,
-  report-reads.Asked,
-  report-reads.Learnt,
-) (ty-must-at t) ty-must.Post
+ty-must-ty-prec-requires : (t : ℕ) → ty-must-lts.Need-ty-prec-requires (ty-must-told t) (ty-must-at t) ty-must.Post
 ty-must-ty-prec-requires t c κs =
     let falls = c .before .before .before .before .before .before .before .before .pre .0 in
     let pre0 = c .before .before .before .before .before .before .before .before .pre .1 in
     (omega arith, pre0)
 
-ty-must-enum-known-got : (t : ℕ) → ty-must-lts.Need-enum-known-got (
-  ty-prec-below t,
-  ty-prec.Post,
-  report-reads.Asked,
-  report-reads.Learnt,
-) (ty-must-at t) ty-must.Post
+ty-must-enum-known-got : (t : ℕ) → ty-must-lts.Need-enum-known-got (ty-must-told t) (ty-must-at t) ty-must.Post
 ty-must-enum-known-got t c =
     let falls = c .before .before .before .before .before .before .before .before .before .before .before .before .before .before .pre .0 in
     let pre0 = c .before .before .before .before .before .before .before .before .before .before .before .before .before .before .pre .1 in
     search needs
 
-ty-must-enum-known-got-2 : (t : ℕ) → ty-must-lts.Need-enum-known-got-2 (
-  ty-prec-below t,
-  ty-prec.Post,
-  report-reads.Asked,
-  report-reads.Learnt,
-) (ty-must-at t) ty-must.Post
+ty-must-enum-known-got-2 : (t : ℕ) → ty-must-lts.Need-enum-known-got-2 (ty-must-told t) (ty-must-at t) ty-must.Post
 ty-must-enum-known-got-2 t c =
     let falls = c .before .before .before .before .before .before .before .before .before .before .before .before .before .before .pre .0 in
     let pre0 = c .before .before .before .before .before .before .before .before .before .before .before .before .before .before .pre .1 in
     search needs
 
-ty-must-report-requires : (t : ℕ) → ty-must-lts.Need-report-requires (
-  ty-prec-below t,
-  ty-prec.Post,
-  report-reads.Asked,
-  report-reads.Learnt,
-) (ty-must-at t) ty-must.Post
+ty-must-report-requires : (t : ℕ) → ty-must-lts.Need-report-requires (ty-must-told t) (ty-must-at t) ty-must.Post
 ty-must-report-requires t c κs =
     let falls = c .before .before .before .before .before .before .before .before .before .before .before .before .before .before .before .before .before .pre .0 in
     let ty-prec = rw (c .before .before .got2 .given .1) at (c .before .before .before .before .before .before .before .before .ty-prec .ensures) in
     let ty-prec-ok = ty-prec .ok in
     (ty-prec-ok .holds, (let few = ty-prec-ok .reads .few in let inside = ty-prec-ok .reads .inside in omega arith), omega arith)
 
-ty-must-same-length : (t : ℕ) → ty-must-lts.Need-same-length (
-  ty-prec-below t,
-  ty-prec.Post,
-  report-reads.Asked,
-  report-reads.Learnt,
-) (ty-must-at t) ty-must.Post
+ty-must-same-length : (t : ℕ) → ty-must-lts.Need-same-length (ty-must-told t) (ty-must-at t) ty-must.Post
 ty-must-same-length t c =
     c .before .before .before .before .before .before .before .ty-prec .kept .1 .1 .1 .1 .0
 
-ty-must-same-length-2 : (t : ℕ) → ty-must-lts.Need-same-length-2 (
-  ty-prec-below t,
-  ty-prec.Post,
-  report-reads.Asked,
-  report-reads.Learnt,
-) (ty-must-at t) ty-must.Post
+ty-must-same-length-2 : (t : ℕ) → ty-must-lts.Need-same-length-2 (ty-must-told t) (ty-must-at t) ty-must.Post
 ty-must-same-length-2 t c =
     c .before .before .before .before .before .before .before .ty-prec .kept .1 .1 .1 .1 .1 .0
 
-ty-must-returns : (t : ℕ) → ty-must-lts.Need-returns (
-  ty-prec-below t,
-  ty-prec.Post,
-  report-reads.Asked,
-  report-reads.Learnt,
-) (ty-must-at t) ty-must.Post
+ty-must-returns : (t : ℕ) → ty-must-lts.Need-returns (ty-must-told t) (ty-must-at t) ty-must.Post
 unfolding types.tyMust plan choose chosen
 ty-must-returns t c =
-    let falls = c .before .before .before .before .before .before .before .before .before .before .before .before .before .before .before .before .pre .0 in
     let pre0 = c .before .before .before .before .before .before .before .before .before .before .before .before .before .before .before .before .pre .1 in
     let ty-prec = rw (c .before .got .given .1) at (c .before .before .before .before .before .before .before .ty-prec .ensures) in
     by-steps pre0 (λ b. s-run (runs-in ty-prec) s-end)
 
-ty-must-same-length-3 : (t : ℕ) → ty-must-lts.Need-same-length-3 (
-  ty-prec-below t,
-  ty-prec.Post,
-  report-reads.Asked,
-  report-reads.Learnt,
-) (ty-must-at t) ty-must.Post
+ty-must-same-length-3 : (t : ℕ) → ty-must-lts.Need-same-length-3 (ty-must-told t) (ty-must-at t) ty-must.Post
 ty-must-same-length-3 t c =
     c .before .before .before .before .before .before .before .before .before .before .before .ty-prec .kept .1 .1 .1 .1 .0
 
-ty-must-same-length-4 : (t : ℕ) → ty-must-lts.Need-same-length-4 (
-  ty-prec-below t,
-  ty-prec.Post,
-  report-reads.Asked,
-  report-reads.Learnt,
-) (ty-must-at t) ty-must.Post
+ty-must-same-length-4 : (t : ℕ) → ty-must-lts.Need-same-length-4 (ty-must-told t) (ty-must-at t) ty-must.Post
 ty-must-same-length-4 t c =
     c .before .before .report .kept .0 ∙ c .before .before .before .before .before .before .before .before .before .before .before .ty-prec .kept .1 .1 .1 .1 .1 .0
 
-ty-must-returns-2 : (t : ℕ) → ty-must-lts.Need-returns-2 (
-  ty-prec-below t,
-  ty-prec.Post,
-  report-reads.Asked,
-  report-reads.Learnt,
-) (ty-must-at t) ty-must.Post
+ty-must-returns-2 : (t : ℕ) → ty-must-lts.Need-returns-2 (ty-must-told t) (ty-must-at t) ty-must.Post
 unfolding types.tyMust plan choose chosen
 ty-must-returns-2 t c =
-    let falls = c .before .before .before .before .before .before .before .before .before .before .before .before .before .before .before .before .before .before .before .before .pre .0 in
     let pre0 = c .before .before .before .before .before .before .before .before .before .before .before .before .before .before .before .before .before .before .before .before .pre .1 in
     let ty-prec = rw (c .before .before .before .before .before .got2 .given .1) at (c .before .before .before .before .before .before .before .before .before .before .before .ty-prec .ensures) in
     let report = c .before .before .report .ensures in
     by-steps pre0 (λ b. s-run (runs-in ty-prec) (s-report report s-end))
 
-ty-prec-peek-requires : (t : ℕ) → ty-prec-lts.Need-peek-requires (
-  peek-reads.Asked,
-  peek-reads.Learnt,
-  refuse-reads.Asked,
-  refuse-reads.Learnt,
-  mark-reads.Asked,
-  mark-reads.Learnt,
-  ty-head-below t,
-  ty-head.Post,
-  ty-tail-below t,
-  ty-tail.Post,
-) (ty-prec-at t) ty-prec.Post
+ty-prec-peek-requires : (t : ℕ) → ty-prec-lts.Need-peek-requires (ty-prec-told t) (ty-prec-at t) ty-prec.Post
 ty-prec-peek-requires t c κs =
     let pre0 = c .before .before .before .before .before .before .pre .1 in
     pre0 .reads
 
-ty-prec-enum-known-k : (t : ℕ) → ty-prec-lts.Need-enum-known-k (
-  peek-reads.Asked,
-  peek-reads.Learnt,
-  refuse-reads.Asked,
-  refuse-reads.Learnt,
-  mark-reads.Asked,
-  mark-reads.Learnt,
-  ty-head-below t,
-  ty-head.Post,
-  ty-tail-below t,
-  ty-tail.Post,
-) (ty-prec-at t) ty-prec.Post
+ty-prec-enum-known-k : (t : ℕ) → ty-prec-lts.Need-enum-known-k (ty-prec-told t) (ty-prec-at t) ty-prec.Post
 ty-prec-enum-known-k t c =
     let falls = c .before .before .before .before .before .before .before .before .pre .0 in
     let pre0 = c .before .before .before .before .before .before .before .before .pre .1 in
     search needs
 
-ty-prec-enum-told : (t : ℕ) → ty-prec-lts.Need-enum-told (
-  peek-reads.Asked,
-  peek-reads.Learnt,
-  refuse-reads.Asked,
-  refuse-reads.Learnt,
-  mark-reads.Asked,
-  mark-reads.Learnt,
-  ty-head-below t,
-  ty-head.Post,
-  ty-tail-below t,
-  ty-tail.Post,
-) (ty-prec-at t) ty-prec.Post
+ty-prec-enum-told : (t : ℕ) → ty-prec-lts.Need-enum-told (ty-prec-told t) (ty-prec-at t) ty-prec.Post
 ty-prec-enum-told t c =
     let falls = c .before .before .before .before .before .before .before .before .pre .0 in
     let pre0 = c .before .before .before .before .before .before .before .before .pre .1 in
     search needs
 
-ty-prec-returns : (t : ℕ) → ty-prec-lts.Need-returns (
-  peek-reads.Asked,
-  peek-reads.Learnt,
-  refuse-reads.Asked,
-  refuse-reads.Learnt,
-  mark-reads.Asked,
-  mark-reads.Learnt,
-  ty-head-below t,
-  ty-head.Post,
-  ty-tail-below t,
-  ty-tail.Post,
-) (ty-prec-at t) ty-prec.Post
+ty-prec-returns : (t : ℕ) → ty-prec-lts.Need-returns (ty-prec-told t) (ty-prec-at t) ty-prec.Post
 unfolding root.body types.tyScope plan choose chosen
 ty-prec-returns t c =
-    let falls = c .before .before .before .before .before .before .before .before .before .pre .0 in
     let pre0 = c .before .before .before .before .before .before .before .before .before .pre .1 in
     let peek = rw (c .enum-told .given .1) at (c .before .before .peek .ensures) in
     by-steps pre0 (λ b. s-rule (s-look peek s-end))
 
-ty-prec-refuse-requires : (t : ℕ) → ty-prec-lts.Need-refuse-requires (
-  peek-reads.Asked,
-  peek-reads.Learnt,
-  refuse-reads.Asked,
-  refuse-reads.Learnt,
-  mark-reads.Asked,
-  mark-reads.Learnt,
-  ty-head-below t,
-  ty-head.Post,
-  ty-tail-below t,
-  ty-tail.Post,
-) (ty-prec-at t) ty-prec.Post
+ty-prec-refuse-requires : (t : ℕ) → ty-prec-lts.Need-refuse-requires (ty-prec-told t) (ty-prec-at t) ty-prec.Post
 ty-prec-refuse-requires t c κs =
     tt
 
-ty-prec-returns-2 : (t : ℕ) → ty-prec-lts.Need-returns-2 (
-  peek-reads.Asked,
-  peek-reads.Learnt,
-  refuse-reads.Asked,
-  refuse-reads.Learnt,
-  mark-reads.Asked,
-  mark-reads.Learnt,
-  ty-head-below t,
-  ty-head.Post,
-  ty-tail-below t,
-  ty-tail.Post,
-) (ty-prec-at t) ty-prec.Post
+ty-prec-returns-2 : (t : ℕ) → ty-prec-lts.Need-returns-2 (ty-prec-told t) (ty-prec-at t) ty-prec.Post
 unfolding root.body types.tyScope plan choose chosen
 ty-prec-returns-2 t c =
-    let falls = c .before .before .before .before .before .before .before .before .before .before .before .before .pre .0 in
     let pre0 = c .before .before .before .before .before .before .before .before .before .before .before .before .pre .1 in
     let peek = rw (c .before .before .before .k .given .1) at (c .before .before .before .before .before .peek .ensures) in
     let if1 = c .before .if1 .taken in
     let refuse = c .refuse .ensures in
     by-steps pre0 (λ b. s-rule (s-look peek (s-deep if1 refuse s-end)))
 
-ty-prec-sub-ty-head : (t : ℕ) → ty-prec-lts.Need-sub-ty-head (
-  peek-reads.Asked,
-  peek-reads.Learnt,
-  refuse-reads.Asked,
-  refuse-reads.Learnt,
-  mark-reads.Asked,
-  mark-reads.Learnt,
-  ty-head-below t,
-  ty-head.Post,
-  ty-tail-below t,
-  ty-tail.Post,
-) (ty-prec-at t) ty-prec.Post
+ty-prec-sub-ty-head : (t : ℕ) → ty-prec-lts.Need-sub-ty-head (ty-prec-told t) (ty-prec-at t) ty-prec.Post
 ty-prec-sub-ty-head t c =
     let falls = c .before .before .before .before .before .before .before .before .before .before .before .before .before .pre .0 in
     let pre0 = c .before .before .before .before .before .before .before .before .before .before .before .before .before .pre .1 in
     let if1 = c .before .before .if1 .left in
     search needs
 
-ty-prec-mark-requires : (t : ℕ) → ty-prec-lts.Need-mark-requires (
-  peek-reads.Asked,
-  peek-reads.Learnt,
-  refuse-reads.Asked,
-  refuse-reads.Learnt,
-  mark-reads.Asked,
-  mark-reads.Learnt,
-  ty-head-below t,
-  ty-head.Post,
-  ty-tail-below t,
-  ty-tail.Post,
-) (ty-prec-at t) ty-prec.Post
+ty-prec-mark-requires : (t : ℕ) → ty-prec-lts.Need-mark-requires (ty-prec-told t) (ty-prec-at t) ty-prec.Post
 ty-prec-mark-requires t c κs =
     tt
 
-ty-prec-ty-head-requires : (t : ℕ) → ty-prec-lts.Need-ty-head-requires (
-  peek-reads.Asked,
-  peek-reads.Learnt,
-  refuse-reads.Asked,
-  refuse-reads.Learnt,
-  mark-reads.Asked,
-  mark-reads.Learnt,
-  ty-head-below t,
-  ty-head.Post,
-  ty-tail-below t,
-  ty-tail.Post,
-) (ty-prec-at t) ty-prec.Post
+ty-prec-ty-head-requires : (t : ℕ) → ty-prec-lts.Need-ty-head-requires (ty-prec-told t) (ty-prec-at t) ty-prec.Post
 ty-prec-ty-head-requires t c κs =
     let falls = c .before .before .before .before .before .before .before .before .before .before .before .before .before .before .pre .0 in
     let pre0 = c .before .before .before .before .before .before .before .before .before .before .before .before .before .before .pre .1 in
@@ -3236,54 +1528,21 @@ ty-prec-ty-head-requires t c κs =
     let mark-ok = ok-marks mark pre0 in
     (omega arith, (mark-ok, small-len pre0))
 
-ty-prec-enum-known-head : (t : ℕ) → ty-prec-lts.Need-enum-known-head (
-  peek-reads.Asked,
-  peek-reads.Learnt,
-  refuse-reads.Asked,
-  refuse-reads.Learnt,
-  mark-reads.Asked,
-  mark-reads.Learnt,
-  ty-head-below t,
-  ty-head.Post,
-  ty-tail-below t,
-  ty-tail.Post,
-) (ty-prec-at t) ty-prec.Post
+ty-prec-enum-known-head : (t : ℕ) → ty-prec-lts.Need-enum-known-head (ty-prec-told t) (ty-prec-at t) ty-prec.Post
 ty-prec-enum-known-head t c =
     let falls = c .before .before .before .before .before .before .before .before .before .before .before .before .before .before .before .before .before .before .before .before .pre .0 in
     let pre0 = c .before .before .before .before .before .before .before .before .before .before .before .before .before .before .before .before .before .before .before .before .pre .1 in
     let if1 = c .before .before .before .before .before .before .before .before .before .if1 .left in
     search needs
 
-ty-prec-enum-known-head-2 : (t : ℕ) → ty-prec-lts.Need-enum-known-head-2 (
-  peek-reads.Asked,
-  peek-reads.Learnt,
-  refuse-reads.Asked,
-  refuse-reads.Learnt,
-  mark-reads.Asked,
-  mark-reads.Learnt,
-  ty-head-below t,
-  ty-head.Post,
-  ty-tail-below t,
-  ty-tail.Post,
-) (ty-prec-at t) ty-prec.Post
+ty-prec-enum-known-head-2 : (t : ℕ) → ty-prec-lts.Need-enum-known-head-2 (ty-prec-told t) (ty-prec-at t) ty-prec.Post
 ty-prec-enum-known-head-2 t c =
     let falls = c .before .before .before .before .before .before .before .before .before .before .before .before .before .before .before .before .before .before .before .before .pre .0 in
     let pre0 = c .before .before .before .before .before .before .before .before .before .before .before .before .before .before .before .before .before .before .before .before .pre .1 in
     let if1 = c .before .before .before .before .before .before .before .before .before .if1 .left in
     search needs
 
-ty-prec-ty-tail-requires : (t : ℕ) → ty-prec-lts.Need-ty-tail-requires (
-  peek-reads.Asked,
-  peek-reads.Learnt,
-  refuse-reads.Asked,
-  refuse-reads.Learnt,
-  mark-reads.Asked,
-  mark-reads.Learnt,
-  ty-head-below t,
-  ty-head.Post,
-  ty-tail-below t,
-  ty-tail.Post,
-) (ty-prec-at t) ty-prec.Post
+ty-prec-ty-tail-requires : (t : ℕ) → ty-prec-lts.Need-ty-tail-requires (ty-prec-told t) (ty-prec-at t) ty-prec.Post
 ty-prec-ty-tail-requires t c κs =
     let falls = c .before .before .before .before .before .before .before .before .before .before .before .before .before .before .before .before .before .before .before .before .before .before .before .before .pre .0 in
     let pre0 = c .before .before .before .before .before .before .before .before .before .before .before .before .before .before .before .before .before .before .before .before .before .before .before .before .pre .1 in
@@ -3292,51 +1551,17 @@ ty-prec-ty-tail-requires t c κs =
     let ty-head-ok = ty-head .ok in
     (omega arith, (ty-head-ok, small-len pre0))
 
-ty-prec-same-length : (t : ℕ) → ty-prec-lts.Need-same-length (
-  peek-reads.Asked,
-  peek-reads.Learnt,
-  refuse-reads.Asked,
-  refuse-reads.Learnt,
-  mark-reads.Asked,
-  mark-reads.Learnt,
-  ty-head-below t,
-  ty-head.Post,
-  ty-tail-below t,
-  ty-tail.Post,
-) (ty-prec-at t) ty-prec.Post
+ty-prec-same-length : (t : ℕ) → ty-prec-lts.Need-same-length (ty-prec-told t) (ty-prec-at t) ty-prec.Post
 ty-prec-same-length t c =
     c .before .before .before .before .before .before .before .ty-head .kept .1 .1 .1 .1 .0
 
-ty-prec-same-length-2 : (t : ℕ) → ty-prec-lts.Need-same-length-2 (
-  peek-reads.Asked,
-  peek-reads.Learnt,
-  refuse-reads.Asked,
-  refuse-reads.Learnt,
-  mark-reads.Asked,
-  mark-reads.Learnt,
-  ty-head-below t,
-  ty-head.Post,
-  ty-tail-below t,
-  ty-tail.Post,
-) (ty-prec-at t) ty-prec.Post
+ty-prec-same-length-2 : (t : ℕ) → ty-prec-lts.Need-same-length-2 (ty-prec-told t) (ty-prec-at t) ty-prec.Post
 ty-prec-same-length-2 t c =
     c .before .before .before .before .before .before .before .ty-head .kept .1 .1 .1 .1 .1 .0
 
-ty-prec-returns-3 : (t : ℕ) → ty-prec-lts.Need-returns-3 (
-  peek-reads.Asked,
-  peek-reads.Learnt,
-  refuse-reads.Asked,
-  refuse-reads.Learnt,
-  mark-reads.Asked,
-  mark-reads.Learnt,
-  ty-head-below t,
-  ty-head.Post,
-  ty-tail-below t,
-  ty-tail.Post,
-) (ty-prec-at t) ty-prec.Post
+ty-prec-returns-3 : (t : ℕ) → ty-prec-lts.Need-returns-3 (ty-prec-told t) (ty-prec-at t) ty-prec.Post
 unfolding root.body types.tyScope plan choose chosen
 ty-prec-returns-3 t c =
-    let falls = c .before .before .before .before .before .before .before .before .before .before .before .before .before .before .before .before .before .before .before .before .before .before .pre .0 in
     let pre0 = c .before .before .before .before .before .before .before .before .before .before .before .before .before .before .before .before .before .before .before .before .before .before .pre .1 in
     let peek = rw (c .before .before .before .before .before .before .before .before .before .before .before .before .before .k .given .1) at (c .before .before .before .before .before .before .before .before .before .before .before .before .before .before .before .peek .ensures) in
     let if1 = c .before .before .before .before .before .before .before .before .before .before .before .if1 .left in
@@ -3344,51 +1569,17 @@ ty-prec-returns-3 t c =
     let ty-head = rw (c .before .head .given .1) at (c .before .before .before .before .before .before .before .ty-head .ensures) in
     by-steps pre0 (λ b. s-rule (s-look peek (s-mark if1 mark (s-by _ ty-head s-end))))
 
-ty-prec-same-length-3 : (t : ℕ) → ty-prec-lts.Need-same-length-3 (
-  peek-reads.Asked,
-  peek-reads.Learnt,
-  refuse-reads.Asked,
-  refuse-reads.Learnt,
-  mark-reads.Asked,
-  mark-reads.Learnt,
-  ty-head-below t,
-  ty-head.Post,
-  ty-tail-below t,
-  ty-tail.Post,
-) (ty-prec-at t) ty-prec.Post
+ty-prec-same-length-3 : (t : ℕ) → ty-prec-lts.Need-same-length-3 (ty-prec-told t) (ty-prec-at t) ty-prec.Post
 ty-prec-same-length-3 t c =
     c .before .before .before .before .ty-tail .kept .1 .1 .1 .1 .0 ∙ c .before .before .before .before .before .before .before .before .before .before .before .before .before .before .ty-head .kept .1 .1 .1 .1 .0
 
-ty-prec-same-length-4 : (t : ℕ) → ty-prec-lts.Need-same-length-4 (
-  peek-reads.Asked,
-  peek-reads.Learnt,
-  refuse-reads.Asked,
-  refuse-reads.Learnt,
-  mark-reads.Asked,
-  mark-reads.Learnt,
-  ty-head-below t,
-  ty-head.Post,
-  ty-tail-below t,
-  ty-tail.Post,
-) (ty-prec-at t) ty-prec.Post
+ty-prec-same-length-4 : (t : ℕ) → ty-prec-lts.Need-same-length-4 (ty-prec-told t) (ty-prec-at t) ty-prec.Post
 ty-prec-same-length-4 t c =
     c .before .before .before .before .ty-tail .kept .1 .1 .1 .1 .1 .0 ∙ c .before .before .before .before .before .before .before .before .before .before .before .before .before .before .ty-head .kept .1 .1 .1 .1 .1 .0
 
-ty-prec-returns-4 : (t : ℕ) → ty-prec-lts.Need-returns-4 (
-  peek-reads.Asked,
-  peek-reads.Learnt,
-  refuse-reads.Asked,
-  refuse-reads.Learnt,
-  mark-reads.Asked,
-  mark-reads.Learnt,
-  ty-head-below t,
-  ty-head.Post,
-  ty-tail-below t,
-  ty-tail.Post,
-) (ty-prec-at t) ty-prec.Post
+ty-prec-returns-4 : (t : ℕ) → ty-prec-lts.Need-returns-4 (ty-prec-told t) (ty-prec-at t) ty-prec.Post
 unfolding root.body types.tyScope plan choose chosen
 ty-prec-returns-4 t c =
-    let falls = c .before .before .before .before .before .before .before .before .before .before .before .before .before .before .before .before .before .before .before .before .before .before .before .before .before .before .before .before .before .pre .0 in
     let pre0 = c .before .before .before .before .before .before .before .before .before .before .before .before .before .before .before .before .before .before .before .before .before .before .before .before .before .before .before .before .before .pre .1 in
     let peek = rw (c .before .before .before .before .before .before .before .before .before .before .before .before .before .before .before .before .before .before .before .before .k .given .1) at (c .before .before .before .before .before .before .before .before .before .before .before .before .before .before .before .before .before .before .before .before .before .before .peek .ensures) in
     let if1 = c .before .before .before .before .before .before .before .before .before .before .before .before .before .before .before .before .before .before .if1 .left in
@@ -3397,86 +1588,31 @@ ty-prec-returns-4 t c =
     let ty-tail = c .before .before .before .before .ty-tail .ensures in
     by-steps pre0 (λ b. s-rule (s-look peek (s-mark if1 mark (s-by _ ty-head (s-run ty-tail s-end)))))
 
-ty-round-ty-seq-requires : (t : ℕ) → ty-round-lts.Need-ty-seq-requires (
-  ty-seq-below t,
-  ty-seq.Post,
-  path-must-reads.Asked,
-  path-must-reads.Learnt,
-  state-reads.Asked,
-  state-reads.Learnt,
-  close-reads.Asked,
-  close-reads.Learnt,
-  bump-reads.Asked,
-  bump-reads.Learnt,
-) (ty-round-at t) ty-round.Post
+ty-round-ty-seq-requires : (t : ℕ) → ty-round-lts.Need-ty-seq-requires (ty-round-told t) (ty-round-at t) ty-round.Post
 ty-round-ty-seq-requires t c κs =
     let falls = c .before .before .before .before .before .before .before .before .pre .0 in
     let pre0 = c .before .before .before .before .before .before .before .before .pre .1 .0 in
     let pre1 = c .before .before .before .before .before .before .before .before .pre .1 .1 in
     (omega arith, pre0)
 
-ty-round-enum-known-seq : (t : ℕ) → ty-round-lts.Need-enum-known-seq (
-  ty-seq-below t,
-  ty-seq.Post,
-  path-must-reads.Asked,
-  path-must-reads.Learnt,
-  state-reads.Asked,
-  state-reads.Learnt,
-  close-reads.Asked,
-  close-reads.Learnt,
-  bump-reads.Asked,
-  bump-reads.Learnt,
-) (ty-round-at t) ty-round.Post
+ty-round-enum-known-seq : (t : ℕ) → ty-round-lts.Need-enum-known-seq (ty-round-told t) (ty-round-at t) ty-round.Post
 ty-round-enum-known-seq t c =
     let falls = c .before .before .before .before .before .before .before .before .before .before .before .before .before .before .pre .0 in
     let pre0 = c .before .before .before .before .before .before .before .before .before .before .before .before .before .before .pre .1 .0 in
     let pre1 = c .before .before .before .before .before .before .before .before .before .before .before .before .before .before .pre .1 .1 in
     search needs
 
-ty-round-path-must-requires : (t : ℕ) → ty-round-lts.Need-path-must-requires (
-  ty-seq-below t,
-  ty-seq.Post,
-  path-must-reads.Asked,
-  path-must-reads.Learnt,
-  state-reads.Asked,
-  state-reads.Learnt,
-  close-reads.Asked,
-  close-reads.Learnt,
-  bump-reads.Asked,
-  bump-reads.Learnt,
-) (ty-round-at t) ty-round.Post
+ty-round-path-must-requires : (t : ℕ) → ty-round-lts.Need-path-must-requires (ty-round-told t) (ty-round-at t) ty-round.Post
 ty-round-path-must-requires t c κs =
     let ty-seq = rw (c .before .before .before .seq .given .1) at (c .before .before .before .before .before .before .before .before .before .ty-seq .ensures) in
     let ty-seq-ok = ty-seq .ok in
     ty-seq-ok
 
-ty-round-state-requires : (t : ℕ) → ty-round-lts.Need-state-requires (
-  ty-seq-below t,
-  ty-seq.Post,
-  path-must-reads.Asked,
-  path-must-reads.Learnt,
-  state-reads.Asked,
-  state-reads.Learnt,
-  close-reads.Asked,
-  close-reads.Learnt,
-  bump-reads.Asked,
-  bump-reads.Learnt,
-) (ty-round-at t) ty-round.Post
+ty-round-state-requires : (t : ℕ) → ty-round-lts.Need-state-requires (ty-round-told t) (ty-round-at t) ty-round.Post
 ty-round-state-requires t c κs =
     tt
 
-ty-round-close-requires : (t : ℕ) → ty-round-lts.Need-close-requires (
-  ty-seq-below t,
-  ty-seq.Post,
-  path-must-reads.Asked,
-  path-must-reads.Learnt,
-  state-reads.Asked,
-  state-reads.Learnt,
-  close-reads.Asked,
-  close-reads.Learnt,
-  bump-reads.Asked,
-  bump-reads.Learnt,
-) (ty-round-at t) ty-round.Post
+ty-round-close-requires : (t : ℕ) → ty-round-lts.Need-close-requires (ty-round-told t) (ty-round-at t) ty-round.Post
 ty-round-close-requires t c κs =
     let pre1 = c .before .before .before .before .before .before .before .before .before .before .before .before .before .before .before .before .before .before .before .before .before .before .before .before .before .pre .1 .1 in
     let path-must = c .before .before .before .before .before .before .path-must .ensures in
@@ -3485,53 +1621,20 @@ ty-round-close-requires t c κs =
     let state-ok = ok-state state path-must-ok in
     (state-ok .logs, pre1)
 
-ty-round-enum-known-seq-2 : (t : ℕ) → ty-round-lts.Need-enum-known-seq-2 (
-  ty-seq-below t,
-  ty-seq.Post,
-  path-must-reads.Asked,
-  path-must-reads.Learnt,
-  state-reads.Asked,
-  state-reads.Learnt,
-  close-reads.Asked,
-  close-reads.Learnt,
-  bump-reads.Asked,
-  bump-reads.Learnt,
-) (ty-round-at t) ty-round.Post
+ty-round-enum-known-seq-2 : (t : ℕ) → ty-round-lts.Need-enum-known-seq-2 (ty-round-told t) (ty-round-at t) ty-round.Post
 ty-round-enum-known-seq-2 t c =
     let falls = c .before .before .before .before .before .before .before .before .before .before .before .before .before .before .pre .0 in
     let pre0 = c .before .before .before .before .before .before .before .before .before .before .before .before .before .before .pre .1 .0 in
     let pre1 = c .before .before .before .before .before .before .before .before .before .before .before .before .before .before .pre .1 .1 in
     search needs
 
-ty-round-bump-requires : (t : ℕ) → ty-round-lts.Need-bump-requires (
-  ty-seq-below t,
-  ty-seq.Post,
-  path-must-reads.Asked,
-  path-must-reads.Learnt,
-  state-reads.Asked,
-  state-reads.Learnt,
-  close-reads.Asked,
-  close-reads.Learnt,
-  bump-reads.Asked,
-  bump-reads.Learnt,
-) (ty-round-at t) ty-round.Post
+ty-round-bump-requires : (t : ℕ) → ty-round-lts.Need-bump-requires (ty-round-told t) (ty-round-at t) ty-round.Post
 ty-round-bump-requires t c κs =
     let ty-seq = rw (c .before .before .seq2 .given .1) at (c .before .before .before .before .before .before .before .before .ty-seq .ensures) in
     let ty-seq-ok = ty-seq .ok in
     (ty-seq-ok .reads, ty-seq-ok .logs)
 
-ty-round-close-requires-2 : (t : ℕ) → ty-round-lts.Need-close-requires-2 (
-  ty-seq-below t,
-  ty-seq.Post,
-  path-must-reads.Asked,
-  path-must-reads.Learnt,
-  state-reads.Asked,
-  state-reads.Learnt,
-  close-reads.Asked,
-  close-reads.Learnt,
-  bump-reads.Asked,
-  bump-reads.Learnt,
-) (ty-round-at t) ty-round.Post
+ty-round-close-requires-2 : (t : ℕ) → ty-round-lts.Need-close-requires-2 (ty-round-told t) (ty-round-at t) ty-round.Post
 ty-round-close-requires-2 t c κs =
     let pre1 = c .before .before .before .before .before .before .before .before .before .before .before .before .before .before .before .before .before .before .before .before .before .pre .1 .1 in
     let ty-seq = rw (c .before .before .before .before .before .before .seq2 .given .1) at (c .before .before .before .before .before .before .before .before .before .before .before .before .ty-seq .ensures) in
@@ -3540,188 +1643,79 @@ ty-round-close-requires-2 t c κs =
     let bump-ok = ok-bumps bump ty-seq-ok in
     (bump-ok .logs, pre1)
 
-ty-round-same-length : (t : ℕ) → ty-round-lts.Need-same-length (
-  ty-seq-below t,
-  ty-seq.Post,
-  path-must-reads.Asked,
-  path-must-reads.Learnt,
-  state-reads.Asked,
-  state-reads.Learnt,
-  close-reads.Asked,
-  close-reads.Learnt,
-  bump-reads.Asked,
-  bump-reads.Learnt,
-) (ty-round-at t) ty-round.Post
+ty-round-same-length : (t : ℕ) → ty-round-lts.Need-same-length (ty-round-told t) (ty-round-at t) ty-round.Post
 ty-round-same-length t c =
     c .before .before .close .kept .0 ∙ c .before .before .before .before .before .before .before .before .before .path-must .kept .1 .1 .1 .1 .0 ∙ c .before .before .before .before .before .before .before .before .before .before .before .before .before .before .before .before .before .before .before .ty-seq .kept .1 .1 .1 .1 .0
 
-ty-round-same-length-2 : (t : ℕ) → ty-round-lts.Need-same-length-2 (
-  ty-seq-below t,
-  ty-seq.Post,
-  path-must-reads.Asked,
-  path-must-reads.Learnt,
-  state-reads.Asked,
-  state-reads.Learnt,
-  close-reads.Asked,
-  close-reads.Learnt,
-  bump-reads.Asked,
-  bump-reads.Learnt,
-) (ty-round-at t) ty-round.Post
+ty-round-same-length-2 : (t : ℕ) → ty-round-lts.Need-same-length-2 (ty-round-told t) (ty-round-at t) ty-round.Post
 ty-round-same-length-2 t c =
     c .before .before .before .before .before .before .before .before .before .path-must .kept .1 .1 .1 .1 .1 .0 ∙ c .before .before .before .before .before .before .before .before .before .before .before .before .before .before .before .before .before .before .before .ty-seq .kept .1 .1 .1 .1 .1 .0
 
-ty-round-returns : (t : ℕ) → ty-round-lts.Need-returns (
-  ty-seq-below t,
-  ty-seq.Post,
-  path-must-reads.Asked,
-  path-must-reads.Learnt,
-  state-reads.Asked,
-  state-reads.Learnt,
-  close-reads.Asked,
-  close-reads.Learnt,
-  bump-reads.Asked,
-  bump-reads.Learnt,
-) (ty-round-at t) ty-round.Post
+ty-round-returns : (t : ℕ) → ty-round-lts.Need-returns (ty-round-told t) (ty-round-at t) ty-round.Post
 unfolding types.tyRound plan choose chosen
 ty-round-returns t c =
-    let falls = c .before .before .before .before .before .before .before .before .before .before .before .before .before .before .before .before .before .before .before .before .before .before .before .before .before .before .before .before .pre .0 in
     let pre0 = c .before .before .before .before .before .before .before .before .before .before .before .before .before .before .before .before .before .before .before .before .before .before .before .before .before .before .before .before .pre .1 .0 in
-    let pre1 = c .before .before .before .before .before .before .before .before .before .before .before .before .before .before .before .before .before .before .before .before .before .before .before .before .before .before .before .before .pre .1 .1 in
     let ty-seq = rw (c .before .before .before .before .before .before .before .before .before .before .before .before .before .seq .given .1) at (c .before .before .before .before .before .before .before .before .before .before .before .before .before .before .before .before .before .before .before .ty-seq .ensures) in
     let path-must = c .before .before .before .before .before .before .before .before .before .path-must .ensures in
     let state = c .before .before .before .before .state .ensures in
     let close = c .before .before .close .ensures in
     in-steps pre0 (s-by _ (runs-in ty-seq) (s-by _ (settled state (runs-in path-must)) (s-close close s-end)))
 
-ty-round-same-length-3 : (t : ℕ) → ty-round-lts.Need-same-length-3 (
-  ty-seq-below t,
-  ty-seq.Post,
-  path-must-reads.Asked,
-  path-must-reads.Learnt,
-  state-reads.Asked,
-  state-reads.Learnt,
-  close-reads.Asked,
-  close-reads.Learnt,
-  bump-reads.Asked,
-  bump-reads.Learnt,
-) (ty-round-at t) ty-round.Post
+ty-round-same-length-3 : (t : ℕ) → ty-round-lts.Need-same-length-3 (ty-round-told t) (ty-round-at t) ty-round.Post
 ty-round-same-length-3 t c =
     c .before .before .close2 .kept .0 ∙ c .before .before .before .before .before .before .bump .kept .1 .0 ∙ c .before .before .before .before .before .before .before .before .before .before .before .before .before .before .before .ty-seq .kept .1 .1 .1 .1 .0
 
-ty-round-same-length-4 : (t : ℕ) → ty-round-lts.Need-same-length-4 (
-  ty-seq-below t,
-  ty-seq.Post,
-  path-must-reads.Asked,
-  path-must-reads.Learnt,
-  state-reads.Asked,
-  state-reads.Learnt,
-  close-reads.Asked,
-  close-reads.Learnt,
-  bump-reads.Asked,
-  bump-reads.Learnt,
-) (ty-round-at t) ty-round.Post
+ty-round-same-length-4 : (t : ℕ) → ty-round-lts.Need-same-length-4 (ty-round-told t) (ty-round-at t) ty-round.Post
 ty-round-same-length-4 t c =
     c .before .before .before .before .before .before .before .before .before .before .before .before .before .before .before .ty-seq .kept .1 .1 .1 .1 .1 .0
 
-ty-round-returns-2 : (t : ℕ) → ty-round-lts.Need-returns-2 (
-  ty-seq-below t,
-  ty-seq.Post,
-  path-must-reads.Asked,
-  path-must-reads.Learnt,
-  state-reads.Asked,
-  state-reads.Learnt,
-  close-reads.Asked,
-  close-reads.Learnt,
-  bump-reads.Asked,
-  bump-reads.Learnt,
-) (ty-round-at t) ty-round.Post
+ty-round-returns-2 : (t : ℕ) → ty-round-lts.Need-returns-2 (ty-round-told t) (ty-round-at t) ty-round.Post
 unfolding types.tyRound plan choose chosen
 ty-round-returns-2 t c =
-    let falls = c .before .before .before .before .before .before .before .before .before .before .before .before .before .before .before .before .before .before .before .before .before .before .before .before .pre .0 in
     let pre0 = c .before .before .before .before .before .before .before .before .before .before .before .before .before .before .before .before .before .before .before .before .before .before .before .before .pre .1 .0 in
-    let pre1 = c .before .before .before .before .before .before .before .before .before .before .before .before .before .before .before .before .before .before .before .before .before .before .before .before .pre .1 .1 in
     let ty-seq = rw (c .before .before .before .before .before .before .before .before .before .seq2 .given .1) at (c .before .before .before .before .before .before .before .before .before .before .before .before .before .before .before .ty-seq .ensures) in
     let bump = c .before .before .before .before .before .before .bump .ensures in
     let close2 = c .before .before .close2 .ensures in
     in-steps pre0 (s-by _ (runs-in ty-seq) (s-bump bump (s-close close2 s-end)))
 
-ty-row-lab-requires : (t : ℕ) → ty-row-lts.Need-lab-requires (
-  lab-reads.Asked,
-  lab-reads.Learnt,
-  bump-ascription-reads.Asked,
-  bump-ascription-reads.Learnt,
-  ty-must-below t,
-  ty-must.Post,
-) (ty-row-at t) ty-row.Post
+ty-row-lab-requires : (t : ℕ) → ty-row-lts.Need-lab-requires (ty-row-told t) (ty-row-at t) ty-row.Post
 ty-row-lab-requires t c κs =
     let pre0 = c .before .before .before .before .before .before .before .before .pre .1 in
-    pre0
+    (pre0 .reads, pre0 .logs, pre0 .holds)
 
-ty-row-bump-ascription-requires : (t : ℕ) → ty-row-lts.Need-bump-ascription-requires (
-  lab-reads.Asked,
-  lab-reads.Learnt,
-  bump-ascription-reads.Asked,
-  bump-ascription-reads.Learnt,
-  ty-must-below t,
-  ty-must.Post,
-) (ty-row-at t) ty-row.Post
+ty-row-bump-ascription-requires : (t : ℕ) → ty-row-lts.Need-bump-ascription-requires (ty-row-told t) (ty-row-at t) ty-row.Post
 ty-row-bump-ascription-requires t c κs =
-    let lab = c .before .before .before .before .before .before .lab .ensures in
-    let lab-ok = lab .ok in
-    lab-ok
+    let pre0 = c .before .before .before .before .before .before .before .before .before .before .before .before .before .before .pre .1 in
+    let lab = c .before .before .before .before .before .lab .ensures in
+    let lab-ok = ok-eats lab pre0 in
+    (lab-ok .reads, lab-ok .logs)
 
-ty-row-ty-must-requires : (t : ℕ) → ty-row-lts.Need-ty-must-requires (
-  lab-reads.Asked,
-  lab-reads.Learnt,
-  bump-ascription-reads.Asked,
-  bump-ascription-reads.Learnt,
-  ty-must-below t,
-  ty-must.Post,
-) (ty-row-at t) ty-row.Post
+ty-row-ty-must-requires : (t : ℕ) → ty-row-lts.Need-ty-must-requires (ty-row-told t) (ty-row-at t) ty-row.Post
 ty-row-ty-must-requires t c κs =
-    let falls = c .before .before .before .before .before .before .before .before .before .before .before .before .before .before .before .before .before .before .before .before .before .before .pre .0 in
-    let bump-ascription = c .before .before .before .before .before .before .bump-ascription .ensures in
-    let bump-ascription-ok = bump-ascription .ok in
+    let falls = c .before .before .before .before .before .before .before .before .before .before .before .before .before .before .before .before .before .before .before .pre .0 in
+    let pre0 = c .before .before .before .before .before .before .before .before .before .before .before .before .before .before .before .before .before .before .before .pre .1 in
+    let lab = c .before .before .before .before .before .before .before .before .before .before .lab .ensures in
+    let lab-ok = ok-eats lab pre0 in
+    let bump-ascription = c .before .before .before .before .bump-ascription .ensures in
+    let bump-ascription-ok = ok-takes bump-ascription lab-ok in
     (omega arith, bump-ascription-ok)
 
-ty-row-same-length : (t : ℕ) → ty-row-lts.Need-same-length (
-  lab-reads.Asked,
-  lab-reads.Learnt,
-  bump-ascription-reads.Asked,
-  bump-ascription-reads.Learnt,
-  ty-must-below t,
-  ty-must.Post,
-) (ty-row-at t) ty-row.Post
+ty-row-same-length : (t : ℕ) → ty-row-lts.Need-same-length (ty-row-told t) (ty-row-at t) ty-row.Post
 ty-row-same-length t c =
-    c .before .before .before .before .ty-must .kept .1 .1 .1 .1 .0 ∙ c .before .before .before .before .before .before .before .before .before .before .before .bump-ascription .kept .1 .1 .1 .1 .0 ∙ c .before .before .before .before .before .before .before .before .before .before .before .before .before .before .before .before .before .before .lab .kept .1 .1 .1 .1 .0
+    c .before .before .before .before .ty-must .kept .1 .1 .1 .1 .0 ∙ c .before .before .before .before .before .before .before .before .before .bump-ascription .kept .1 .0 ∙ c .before .before .before .before .before .before .before .before .before .before .before .before .before .before .before .lab .kept .1 .0
 
-ty-row-same-length-2 : (t : ℕ) → ty-row-lts.Need-same-length-2 (
-  lab-reads.Asked,
-  lab-reads.Learnt,
-  bump-ascription-reads.Asked,
-  bump-ascription-reads.Learnt,
-  ty-must-below t,
-  ty-must.Post,
-) (ty-row-at t) ty-row.Post
+ty-row-same-length-2 : (t : ℕ) → ty-row-lts.Need-same-length-2 (ty-row-told t) (ty-row-at t) ty-row.Post
 ty-row-same-length-2 t c =
-    c .before .before .before .before .ty-must .kept .1 .1 .1 .1 .1 .0 ∙ c .before .before .before .before .before .before .before .before .before .before .before .bump-ascription .kept .1 .1 .1 .1 .1 .0 ∙ c .before .before .before .before .before .before .before .before .before .before .before .before .before .before .before .before .before .before .lab .kept .1 .1 .1 .1 .1 .0
+    c .before .before .before .before .ty-must .kept .1 .1 .1 .1 .1 .0 ∙ c .before .before .before .before .before .before .before .before .before .before .before .before .before .before .before .lab .kept .1 .1 .0
 
-ty-row-returns : (t : ℕ) → ty-row-lts.Need-returns (
-  lab-reads.Asked,
-  lab-reads.Learnt,
-  bump-ascription-reads.Asked,
-  bump-ascription-reads.Learnt,
-  ty-must-below t,
-  ty-must.Post,
-) (ty-row-at t) ty-row.Post
+ty-row-returns : (t : ℕ) → ty-row-lts.Need-returns (ty-row-told t) (ty-row-at t) ty-row.Post
 unfolding types.tyRow plan choose chosen
 ty-row-returns t c =
-    let falls = c .before .before .before .before .before .before .before .before .before .before .before .before .before .before .before .before .before .before .before .before .before .before .before .before .before .before .before .pre .0 in
-    let pre0 = c .before .before .before .before .before .before .before .before .before .before .before .before .before .before .before .before .before .before .before .before .before .before .before .before .before .before .before .pre .1 in
-    let lab = c .before .before .before .before .before .before .before .before .before .before .before .before .before .before .before .before .before .before .lab .ensures in
-    let bump-ascription = c .before .before .before .before .before .before .before .before .before .before .before .bump-ascription .ensures in
+    let pre0 = c .before .before .before .before .before .before .before .before .before .before .before .before .before .before .before .before .before .before .before .before .before .before .before .before .pre .1 in
+    let lab = c .before .before .before .before .before .before .before .before .before .before .before .before .before .before .before .lab .ensures in
+    let bump-ascription = c .before .before .before .before .before .before .before .before .before .bump-ascription .ensures in
     let ty-must = c .before .before .before .before .ty-must .ensures in
-    by-steps pre0 (λ b. s-by _ (runs-always lab) (s-by _ (runs-always bump-ascription) (s-by _ (runs-in ty-must) s-end)))
+    by-steps pre0 (λ b. s-eats _ _ _ lab (s-takes _ _ _ bump-ascription (s-by _ (runs-in ty-must) s-end)))
 
 abbrev ty-rows-Inv-loop : ty-rows-lts.InvT-loop
 ty-rows-Inv-loop text toks env table scratch₀ finds₀ left b s1₀ scratch finds s1 =
@@ -3732,10 +1726,7 @@ ty-rows-μ-loop text toks env table scratch₀ finds₀ left b s1₀ scratch fin
 
 ty-rows-loop-holds :
     (t : ℕ) →
-    ty-rows-lts.Need-loop-holds
-    (row-turn-below t, row-turn.Post)
-    (ty-rows-at t)
-    ty-rows.Post
+    ty-rows-lts.Need-loop-holds (ty-rows-told t) (ty-rows-at t) ty-rows.Post
     ty-rows-Inv-loop
     ty-rows-μ-loop
 ty-rows-loop-holds t c =
@@ -3743,19 +1734,13 @@ ty-rows-loop-holds t c =
     let pre0 = c .before .before .before .before .before .before .pre .1 in
     (loop-starts pre0, refl, refl)
 
-ty-rows-row-turn-requires : (t : ℕ) → ty-rows-lts.Need-row-turn-requires (
-  row-turn-below t,
-  row-turn.Post,
-) (ty-rows-at t) ty-rows.Post ty-rows-Inv-loop ty-rows-μ-loop
+ty-rows-row-turn-requires : (t : ℕ) → ty-rows-lts.Need-row-turn-requires (ty-rows-told t) (ty-rows-at t) ty-rows.Post ty-rows-Inv-loop ty-rows-μ-loop
 ty-rows-row-turn-requires t c κs =
     let falls = c .before .before .before .before .before .before .before .before .before .pre .0 in
     let inv = c .before .before .loop .inv .0 .ok in
     (omega arith, inv)
 
-ty-rows-enum-known-turn : (t : ℕ) → ty-rows-lts.Need-enum-known-turn (
-  row-turn-below t,
-  row-turn.Post,
-) (ty-rows-at t) ty-rows.Post ty-rows-Inv-loop ty-rows-μ-loop
+ty-rows-enum-known-turn : (t : ℕ) → ty-rows-lts.Need-enum-known-turn (ty-rows-told t) (ty-rows-at t) ty-rows.Post ty-rows-Inv-loop ty-rows-μ-loop
 ty-rows-enum-known-turn t c =
     let falls = c .before .before .before .before .before .before .before .before .before .before .before .before .before .before .before .pre .0 in
     let pre0 = c .before .before .before .before .before .before .before .before .before .before .before .before .before .before .before .pre .1 in
@@ -3763,10 +1748,7 @@ ty-rows-enum-known-turn t c =
 
 ty-rows-loop-less :
     (t : ℕ) →
-    ty-rows-lts.Need-loop-less
-    (row-turn-below t, row-turn.Post)
-    (ty-rows-at t)
-    ty-rows.Post
+    ty-rows-lts.Need-loop-less (ty-rows-told t) (ty-rows-at t) ty-rows.Post
     ty-rows-Inv-loop
     ty-rows-μ-loop
 ty-rows-loop-less t c =
@@ -3775,10 +1757,7 @@ ty-rows-loop-less t c =
 
 ty-rows-loop-again :
     (t : ℕ) →
-    ty-rows-lts.Need-loop-again
-    (row-turn-below t, row-turn.Post)
-    (ty-rows-at t)
-    ty-rows.Post
+    ty-rows-lts.Need-loop-again (ty-rows-told t) (ty-rows-at t) ty-rows.Post
     ty-rows-Inv-loop
     ty-rows-μ-loop
 ty-rows-loop-again t c =
@@ -3786,10 +1765,7 @@ ty-rows-loop-again t c =
     let row-turn = rw (c .before .turn .given .1) at (c .before .before .before .before .before .before .before .row-turn .ensures) in
     (loop-goes (end-turn-advances true _ _ _ _ _ _) inv (runs-in row-turn), c .before .before .before .before .before .before .before .row-turn .kept .1 .1 .1 .1 .0 ∙ c .before .before .before .before .before .before .before .before .before .before .loop .inv .1, c .before .before .before .before .before .before .before .row-turn .kept .1 .1 .1 .1 .1 .0 ∙ c .before .before .before .before .before .before .before .before .before .before .loop .inv .2)
 
-ty-rows-enum-known-turn-2 : (t : ℕ) → ty-rows-lts.Need-enum-known-turn-2 (
-  row-turn-below t,
-  row-turn.Post,
-) (ty-rows-at t) ty-rows.Post ty-rows-Inv-loop ty-rows-μ-loop
+ty-rows-enum-known-turn-2 : (t : ℕ) → ty-rows-lts.Need-enum-known-turn-2 (ty-rows-told t) (ty-rows-at t) ty-rows.Post ty-rows-Inv-loop ty-rows-μ-loop
 ty-rows-enum-known-turn-2 t c =
     let falls = c .before .before .before .before .before .before .before .before .before .before .before .before .before .before .before .pre .0 in
     let pre0 = c .before .before .before .before .before .before .before .before .before .before .before .before .before .before .before .pre .1 in
@@ -3797,10 +1773,7 @@ ty-rows-enum-known-turn-2 t c =
 
 ty-rows-same-length :
     (t : ℕ) →
-    ty-rows-lts.Need-same-length
-    (row-turn-below t, row-turn.Post)
-    (ty-rows-at t)
-    ty-rows.Post
+    ty-rows-lts.Need-same-length (ty-rows-told t) (ty-rows-at t) ty-rows.Post
     ty-rows-Inv-loop
     ty-rows-μ-loop
 ty-rows-same-length t c =
@@ -3808,10 +1781,7 @@ ty-rows-same-length t c =
 
 ty-rows-same-length-2 :
     (t : ℕ) →
-    ty-rows-lts.Need-same-length-2
-    (row-turn-below t, row-turn.Post)
-    (ty-rows-at t)
-    ty-rows.Post
+    ty-rows-lts.Need-same-length-2 (ty-rows-told t) (ty-rows-at t) ty-rows.Post
     ty-rows-Inv-loop
     ty-rows-μ-loop
 ty-rows-same-length-2 t c =
@@ -3819,10 +1789,7 @@ ty-rows-same-length-2 t c =
 
 ty-rows-returns :
     (t : ℕ) →
-    ty-rows-lts.Need-returns
-    (row-turn-below t, row-turn.Post)
-    (ty-rows-at t)
-    ty-rows.Post
+    ty-rows-lts.Need-returns (ty-rows-told t) (ty-rows-at t) ty-rows.Post
     ty-rows-Inv-loop
     ty-rows-μ-loop
 ty-rows-returns t c =
@@ -3830,116 +1797,37 @@ ty-rows-returns t c =
     let row-turn = rw (c .before .turn2 .given .1) at (c .before .before .before .before .before .before .before .row-turn .ensures) in
     loop-ends (end-turn-advances true _ _ _ _ _ _) inv (runs-in row-turn)
 
-ty-seq-refuse-requires : (t : ℕ) → ty-seq-lts.Need-refuse-requires (
-  refuse-reads.Asked,
-  refuse-reads.Learnt,
-  mark-reads.Asked,
-  mark-reads.Learnt,
-  bump-reads.Asked,
-  bump-reads.Learnt,
-  ty-arg-below t,
-  ty-arg.Post,
-  ty-args-below t,
-  ty-args.Post,
-  close-reads.Asked,
-  close-reads.Learnt,
-) (ty-seq-at t) ty-seq.Post
+ty-seq-refuse-requires : (t : ℕ) → ty-seq-lts.Need-refuse-requires (ty-seq-told t) (ty-seq-at t) ty-seq.Post
 ty-seq-refuse-requires t c κs =
     tt
 
-ty-seq-returns : (t : ℕ) → ty-seq-lts.Need-returns (
-  refuse-reads.Asked,
-  refuse-reads.Learnt,
-  mark-reads.Asked,
-  mark-reads.Learnt,
-  bump-reads.Asked,
-  bump-reads.Learnt,
-  ty-arg-below t,
-  ty-arg.Post,
-  ty-args-below t,
-  ty-args.Post,
-  close-reads.Asked,
-  close-reads.Learnt,
-) (ty-seq-at t) ty-seq.Post
+ty-seq-returns : (t : ℕ) → ty-seq-lts.Need-returns (ty-seq-told t) (ty-seq-at t) ty-seq.Post
 unfolding types.tySeq util.endSep plan choose chosen
 ty-seq-returns t c =
-    let falls = c .before .before .before .before .before .before .before .before .pre .0 in
     let pre0 = c .before .before .before .before .before .before .before .before .pre .1 in
     let if1 = c .before .if1 .taken in
     let refuse = c .refuse .ensures in
     by-steps pre0 (λ b. s-deep if1 refuse s-end)
 
-ty-seq-mark-requires : (t : ℕ) → ty-seq-lts.Need-mark-requires (
-  refuse-reads.Asked,
-  refuse-reads.Learnt,
-  mark-reads.Asked,
-  mark-reads.Learnt,
-  bump-reads.Asked,
-  bump-reads.Learnt,
-  ty-arg-below t,
-  ty-arg.Post,
-  ty-args-below t,
-  ty-args.Post,
-  close-reads.Asked,
-  close-reads.Learnt,
-) (ty-seq-at t) ty-seq.Post
+ty-seq-mark-requires : (t : ℕ) → ty-seq-lts.Need-mark-requires (ty-seq-told t) (ty-seq-at t) ty-seq.Post
 ty-seq-mark-requires t c κs =
     tt
 
-ty-seq-bump-requires : (t : ℕ) → ty-seq-lts.Need-bump-requires (
-  refuse-reads.Asked,
-  refuse-reads.Learnt,
-  mark-reads.Asked,
-  mark-reads.Learnt,
-  bump-reads.Asked,
-  bump-reads.Learnt,
-  ty-arg-below t,
-  ty-arg.Post,
-  ty-args-below t,
-  ty-args.Post,
-  close-reads.Asked,
-  close-reads.Learnt,
-) (ty-seq-at t) ty-seq.Post
+ty-seq-bump-requires : (t : ℕ) → ty-seq-lts.Need-bump-requires (ty-seq-told t) (ty-seq-at t) ty-seq.Post
 ty-seq-bump-requires t c κs =
     let pre0 = c .before .before .before .before .before .before .before .before .before .pre .1 in
     let mark = c .before .mark .ensures in
     let mark-ok = ok-marks mark pre0 in
     (mark-ok .reads, mark-ok .logs)
 
-ty-seq-sub-ty-arg : (t : ℕ) → ty-seq-lts.Need-sub-ty-arg (
-  refuse-reads.Asked,
-  refuse-reads.Learnt,
-  mark-reads.Asked,
-  mark-reads.Learnt,
-  bump-reads.Asked,
-  bump-reads.Learnt,
-  ty-arg-below t,
-  ty-arg.Post,
-  ty-args-below t,
-  ty-args.Post,
-  close-reads.Asked,
-  close-reads.Learnt,
-) (ty-seq-at t) ty-seq.Post
+ty-seq-sub-ty-arg : (t : ℕ) → ty-seq-lts.Need-sub-ty-arg (ty-seq-told t) (ty-seq-at t) ty-seq.Post
 ty-seq-sub-ty-arg t c =
     let falls = c .before .before .before .before .before .before .before .before .before .before .before .before .before .before .pre .0 in
     let pre0 = c .before .before .before .before .before .before .before .before .before .before .before .before .before .before .pre .1 in
     let if1 = c .before .before .before .before .before .before .before .if1 .left in
     search needs
 
-ty-seq-ty-arg-requires : (t : ℕ) → ty-seq-lts.Need-ty-arg-requires (
-  refuse-reads.Asked,
-  refuse-reads.Learnt,
-  mark-reads.Asked,
-  mark-reads.Learnt,
-  bump-reads.Asked,
-  bump-reads.Learnt,
-  ty-arg-below t,
-  ty-arg.Post,
-  ty-args-below t,
-  ty-args.Post,
-  close-reads.Asked,
-  close-reads.Learnt,
-) (ty-seq-at t) ty-seq.Post
+ty-seq-ty-arg-requires : (t : ℕ) → ty-seq-lts.Need-ty-arg-requires (ty-seq-told t) (ty-seq-at t) ty-seq.Post
 ty-seq-ty-arg-requires t c κs =
     let falls = c .before .before .before .before .before .before .before .before .before .before .before .before .before .before .pre .0 in
     let pre0 = c .before .before .before .before .before .before .before .before .before .before .before .before .before .before .pre .1 in
@@ -3950,60 +1838,21 @@ ty-seq-ty-arg-requires t c κs =
     let bump-ok = ok-bumps bump mark-ok in
     (omega arith, bump-ok)
 
-ty-seq-enum-known-arg : (t : ℕ) → ty-seq-lts.Need-enum-known-arg (
-  refuse-reads.Asked,
-  refuse-reads.Learnt,
-  mark-reads.Asked,
-  mark-reads.Learnt,
-  bump-reads.Asked,
-  bump-reads.Learnt,
-  ty-arg-below t,
-  ty-arg.Post,
-  ty-args-below t,
-  ty-args.Post,
-  close-reads.Asked,
-  close-reads.Learnt,
-) (ty-seq-at t) ty-seq.Post
+ty-seq-enum-known-arg : (t : ℕ) → ty-seq-lts.Need-enum-known-arg (ty-seq-told t) (ty-seq-at t) ty-seq.Post
 ty-seq-enum-known-arg t c =
     let falls = c .before .before .before .before .before .before .before .before .before .before .before .before .before .before .before .before .before .before .before .before .pre .0 in
     let pre0 = c .before .before .before .before .before .before .before .before .before .before .before .before .before .before .before .before .before .before .before .before .pre .1 in
     let if1 = c .before .before .before .before .before .before .before .before .before .before .before .before .before .if1 .left in
     search needs
 
-ty-seq-sub-ty-args : (t : ℕ) → ty-seq-lts.Need-sub-ty-args (
-  refuse-reads.Asked,
-  refuse-reads.Learnt,
-  mark-reads.Asked,
-  mark-reads.Learnt,
-  bump-reads.Asked,
-  bump-reads.Learnt,
-  ty-arg-below t,
-  ty-arg.Post,
-  ty-args-below t,
-  ty-args.Post,
-  close-reads.Asked,
-  close-reads.Learnt,
-) (ty-seq-at t) ty-seq.Post
+ty-seq-sub-ty-args : (t : ℕ) → ty-seq-lts.Need-sub-ty-args (ty-seq-told t) (ty-seq-at t) ty-seq.Post
 ty-seq-sub-ty-args t c =
     let falls = c .before .before .before .before .before .before .before .before .before .before .before .before .before .before .before .before .before .before .before .before .before .before .before .before .pre .0 in
     let pre0 = c .before .before .before .before .before .before .before .before .before .before .before .before .before .before .before .before .before .before .before .before .before .before .before .before .pre .1 in
     let if1 = c .before .before .before .before .before .before .before .before .before .before .before .before .before .before .before .before .before .if1 .left in
     search needs
 
-ty-seq-ty-args-requires : (t : ℕ) → ty-seq-lts.Need-ty-args-requires (
-  refuse-reads.Asked,
-  refuse-reads.Learnt,
-  mark-reads.Asked,
-  mark-reads.Learnt,
-  bump-reads.Asked,
-  bump-reads.Learnt,
-  ty-arg-below t,
-  ty-arg.Post,
-  ty-args-below t,
-  ty-args.Post,
-  close-reads.Asked,
-  close-reads.Learnt,
-) (ty-seq-at t) ty-seq.Post
+ty-seq-ty-args-requires : (t : ℕ) → ty-seq-lts.Need-ty-args-requires (ty-seq-told t) (ty-seq-at t) ty-seq.Post
 ty-seq-ty-args-requires t c κs =
     let falls = c .before .before .before .before .before .before .before .before .before .before .before .before .before .before .before .before .before .before .before .before .before .before .before .before .pre .0 in
     let if1 = c .before .before .before .before .before .before .before .before .before .before .before .before .before .before .before .before .before .if1 .left in
@@ -4011,20 +1860,7 @@ ty-seq-ty-args-requires t c κs =
     let ty-arg-ok = ty-arg .ok in
     (omega arith, ty-arg-ok)
 
-ty-seq-close-requires : (t : ℕ) → ty-seq-lts.Need-close-requires (
-  refuse-reads.Asked,
-  refuse-reads.Learnt,
-  mark-reads.Asked,
-  mark-reads.Learnt,
-  bump-reads.Asked,
-  bump-reads.Learnt,
-  ty-arg-below t,
-  ty-arg.Post,
-  ty-args-below t,
-  ty-args.Post,
-  close-reads.Asked,
-  close-reads.Learnt,
-) (ty-seq-at t) ty-seq.Post
+ty-seq-close-requires : (t : ℕ) → ty-seq-lts.Need-close-requires (ty-seq-told t) (ty-seq-at t) ty-seq.Post
 ty-seq-close-requires t c κs =
     let pre0 = c .before .before .before .before .before .before .before .before .before .before .before .before .before .before .before .before .before .before .before .before .before .before .before .before .before .before .before .before .before .before .pre .1 in
     let mark = c .before .before .before .before .before .before .before .before .before .before .before .before .before .before .before .before .before .before .before .before .before .before .mark .ensures in
@@ -4033,77 +1869,24 @@ ty-seq-close-requires t c κs =
     let ty-args-ok = ty-args .ok in
     (ty-args-ok .logs, small-len mark-ok)
 
-ty-seq-enum-known-arg-2 : (t : ℕ) → ty-seq-lts.Need-enum-known-arg-2 (
-  refuse-reads.Asked,
-  refuse-reads.Learnt,
-  mark-reads.Asked,
-  mark-reads.Learnt,
-  bump-reads.Asked,
-  bump-reads.Learnt,
-  ty-arg-below t,
-  ty-arg.Post,
-  ty-args-below t,
-  ty-args.Post,
-  close-reads.Asked,
-  close-reads.Learnt,
-) (ty-seq-at t) ty-seq.Post
+ty-seq-enum-known-arg-2 : (t : ℕ) → ty-seq-lts.Need-enum-known-arg-2 (ty-seq-told t) (ty-seq-at t) ty-seq.Post
 ty-seq-enum-known-arg-2 t c =
     let falls = c .before .before .before .before .before .before .before .before .before .before .before .before .before .before .before .before .before .before .before .before .pre .0 in
     let pre0 = c .before .before .before .before .before .before .before .before .before .before .before .before .before .before .before .before .before .before .before .before .pre .1 in
     let if1 = c .before .before .before .before .before .before .before .before .before .before .before .before .before .if1 .left in
     search needs
 
-ty-seq-same-length : (t : ℕ) → ty-seq-lts.Need-same-length (
-  refuse-reads.Asked,
-  refuse-reads.Learnt,
-  mark-reads.Asked,
-  mark-reads.Learnt,
-  bump-reads.Asked,
-  bump-reads.Learnt,
-  ty-arg-below t,
-  ty-arg.Post,
-  ty-args-below t,
-  ty-args.Post,
-  close-reads.Asked,
-  close-reads.Learnt,
-) (ty-seq-at t) ty-seq.Post
+ty-seq-same-length : (t : ℕ) → ty-seq-lts.Need-same-length (ty-seq-told t) (ty-seq-at t) ty-seq.Post
 ty-seq-same-length t c =
     c .before .before .close .kept .0 ∙ c .before .before .before .before .before .before .before .before .ty-args .kept .1 .1 .1 .1 .0 ∙ c .before .before .before .before .before .before .before .before .before .before .before .before .before .before .before .before .before .before .ty-arg .kept .1 .1 .1 .1 .0 ∙ c .before .before .before .before .before .before .before .before .before .before .before .before .before .before .before .before .before .before .before .before .before .before .before .bump .kept .1 .0
 
-ty-seq-same-length-2 : (t : ℕ) → ty-seq-lts.Need-same-length-2 (
-  refuse-reads.Asked,
-  refuse-reads.Learnt,
-  mark-reads.Asked,
-  mark-reads.Learnt,
-  bump-reads.Asked,
-  bump-reads.Learnt,
-  ty-arg-below t,
-  ty-arg.Post,
-  ty-args-below t,
-  ty-args.Post,
-  close-reads.Asked,
-  close-reads.Learnt,
-) (ty-seq-at t) ty-seq.Post
+ty-seq-same-length-2 : (t : ℕ) → ty-seq-lts.Need-same-length-2 (ty-seq-told t) (ty-seq-at t) ty-seq.Post
 ty-seq-same-length-2 t c =
     c .before .before .before .before .before .before .before .before .ty-args .kept .1 .1 .1 .1 .1 .0 ∙ c .before .before .before .before .before .before .before .before .before .before .before .before .before .before .before .before .before .before .ty-arg .kept .1 .1 .1 .1 .1 .0
 
-ty-seq-returns-2 : (t : ℕ) → ty-seq-lts.Need-returns-2 (
-  refuse-reads.Asked,
-  refuse-reads.Learnt,
-  mark-reads.Asked,
-  mark-reads.Learnt,
-  bump-reads.Asked,
-  bump-reads.Learnt,
-  ty-arg-below t,
-  ty-arg.Post,
-  ty-args-below t,
-  ty-args.Post,
-  close-reads.Asked,
-  close-reads.Learnt,
-) (ty-seq-at t) ty-seq.Post
+ty-seq-returns-2 : (t : ℕ) → ty-seq-lts.Need-returns-2 (ty-seq-told t) (ty-seq-at t) ty-seq.Post
 unfolding types.tySeq util.endSep plan choose chosen
 ty-seq-returns-2 t c =
-    let falls = c .before .before .before .before .before .before .before .before .before .before .before .before .before .before .before .before .before .before .before .before .before .before .before .before .before .before .before .before .before .before .before .before .before .pre .0 in
     let pre0 = c .before .before .before .before .before .before .before .before .before .before .before .before .before .before .before .before .before .before .before .before .before .before .before .before .before .before .before .before .before .before .before .before .before .pre .1 in
     let if1 = c .before .before .before .before .before .before .before .before .before .before .before .before .before .before .before .before .before .before .before .before .before .before .before .before .before .before .if1 .left in
     let mark = c .before .before .before .before .before .before .before .before .before .before .before .before .before .before .before .before .before .before .before .before .before .before .before .before .before .mark .ensures in
@@ -4113,57 +1896,17 @@ ty-seq-returns-2 t c =
     let close = c .before .before .close .ensures in
     by-steps pre0 (λ b. s-mark if1 mark (s-bump bump (s-by _ (runs-in ty-arg) (s-run ty-args (s-close close s-end)))))
 
-ty-seq-same-length-3 : (t : ℕ) → ty-seq-lts.Need-same-length-3 (
-  refuse-reads.Asked,
-  refuse-reads.Learnt,
-  mark-reads.Asked,
-  mark-reads.Learnt,
-  bump-reads.Asked,
-  bump-reads.Learnt,
-  ty-arg-below t,
-  ty-arg.Post,
-  ty-args-below t,
-  ty-args.Post,
-  close-reads.Asked,
-  close-reads.Learnt,
-) (ty-seq-at t) ty-seq.Post
+ty-seq-same-length-3 : (t : ℕ) → ty-seq-lts.Need-same-length-3 (ty-seq-told t) (ty-seq-at t) ty-seq.Post
 ty-seq-same-length-3 t c =
     c .before .before .before .before .before .before .before .ty-arg .kept .1 .1 .1 .1 .0 ∙ c .before .before .before .before .before .before .before .before .before .before .before .before .bump .kept .1 .0
 
-ty-seq-same-length-4 : (t : ℕ) → ty-seq-lts.Need-same-length-4 (
-  refuse-reads.Asked,
-  refuse-reads.Learnt,
-  mark-reads.Asked,
-  mark-reads.Learnt,
-  bump-reads.Asked,
-  bump-reads.Learnt,
-  ty-arg-below t,
-  ty-arg.Post,
-  ty-args-below t,
-  ty-args.Post,
-  close-reads.Asked,
-  close-reads.Learnt,
-) (ty-seq-at t) ty-seq.Post
+ty-seq-same-length-4 : (t : ℕ) → ty-seq-lts.Need-same-length-4 (ty-seq-told t) (ty-seq-at t) ty-seq.Post
 ty-seq-same-length-4 t c =
     c .before .before .before .before .before .before .before .ty-arg .kept .1 .1 .1 .1 .1 .0
 
-ty-seq-returns-3 : (t : ℕ) → ty-seq-lts.Need-returns-3 (
-  refuse-reads.Asked,
-  refuse-reads.Learnt,
-  mark-reads.Asked,
-  mark-reads.Learnt,
-  bump-reads.Asked,
-  bump-reads.Learnt,
-  ty-arg-below t,
-  ty-arg.Post,
-  ty-args-below t,
-  ty-args.Post,
-  close-reads.Asked,
-  close-reads.Learnt,
-) (ty-seq-at t) ty-seq.Post
+ty-seq-returns-3 : (t : ℕ) → ty-seq-lts.Need-returns-3 (ty-seq-told t) (ty-seq-at t) ty-seq.Post
 unfolding types.tySeq util.endSep plan choose chosen
 ty-seq-returns-3 t c =
-    let falls = c .before .before .before .before .before .before .before .before .before .before .before .before .before .before .before .before .before .before .before .before .before .before .pre .0 in
     let pre0 = c .before .before .before .before .before .before .before .before .before .before .before .before .before .before .before .before .before .before .before .before .before .before .pre .1 in
     let if1 = c .before .before .before .before .before .before .before .before .before .before .before .before .before .before .before .if1 .left in
     let mark = c .before .before .before .before .before .before .before .before .before .before .before .before .before .before .mark .ensures in
@@ -4171,100 +1914,42 @@ ty-seq-returns-3 t c =
     let ty-arg = rw (c .before .arg2 .given .1) at (c .before .before .before .before .before .before .before .ty-arg .ensures) in
     by-steps pre0 (λ b. s-mark if1 mark (s-bump bump (s-by _ (runs-in ty-arg) s-end)))
 
-ty-step-peek-requires : (t : ℕ) → ty-step-lts.Need-peek-requires (
-  peek-reads.Asked,
-  peek-reads.Learnt,
-  ty-arrow-below t,
-  ty-arrow.Post,
-  ty-tuple-below t,
-  ty-tuple.Post,
-  ty-con-reads.Asked,
-  ty-con-reads.Learnt,
-) (ty-step-at t) ty-step.Post
+ty-step-peek-requires : (t : ℕ) → ty-step-lts.Need-peek-requires (ty-step-told t) (ty-step-at t) ty-step.Post
 ty-step-peek-requires t c κs =
     let pre0 = c .before .before .before .before .before .before .pre .1 .0 in
     pre0 .reads
 
-ty-step-enum-known-k : (t : ℕ) → ty-step-lts.Need-enum-known-k (
-  peek-reads.Asked,
-  peek-reads.Learnt,
-  ty-arrow-below t,
-  ty-arrow.Post,
-  ty-tuple-below t,
-  ty-tuple.Post,
-  ty-con-reads.Asked,
-  ty-con-reads.Learnt,
-) (ty-step-at t) ty-step.Post
+ty-step-enum-known-k : (t : ℕ) → ty-step-lts.Need-enum-known-k (ty-step-told t) (ty-step-at t) ty-step.Post
 ty-step-enum-known-k t c =
     let falls = c .before .before .before .before .before .before .before .before .pre .0 in
     let pre0 = c .before .before .before .before .before .before .before .before .pre .1 .0 in
     let pre1 = c .before .before .before .before .before .before .before .before .pre .1 .1 in
     search needs
 
-ty-step-enum-told : (t : ℕ) → ty-step-lts.Need-enum-told (
-  peek-reads.Asked,
-  peek-reads.Learnt,
-  ty-arrow-below t,
-  ty-arrow.Post,
-  ty-tuple-below t,
-  ty-tuple.Post,
-  ty-con-reads.Asked,
-  ty-con-reads.Learnt,
-) (ty-step-at t) ty-step.Post
+ty-step-enum-told : (t : ℕ) → ty-step-lts.Need-enum-told (ty-step-told t) (ty-step-at t) ty-step.Post
 ty-step-enum-told t c =
     let falls = c .before .before .before .before .before .before .before .before .pre .0 in
     let pre0 = c .before .before .before .before .before .before .before .before .pre .1 .0 in
     let pre1 = c .before .before .before .before .before .before .before .before .pre .1 .1 in
     search needs
 
-ty-step-returns : (t : ℕ) → ty-step-lts.Need-returns (
-  peek-reads.Asked,
-  peek-reads.Learnt,
-  ty-arrow-below t,
-  ty-arrow.Post,
-  ty-tuple-below t,
-  ty-tuple.Post,
-  ty-con-reads.Asked,
-  ty-con-reads.Learnt,
-) (ty-step-at t) ty-step.Post
+ty-step-returns : (t : ℕ) → ty-step-lts.Need-returns (ty-step-told t) (ty-step-at t) ty-step.Post
 unfolding types.tyStep plan choose chosen
 ty-step-returns t c =
-    let falls = c .before .before .before .before .before .before .before .before .before .pre .0 in
     let pre0 = c .before .before .before .before .before .before .before .before .before .pre .1 .0 in
-    let pre1 = c .before .before .before .before .before .before .before .before .before .pre .1 .1 in
     let peek = rw (c .enum-told .given .1) at (c .before .before .peek .ensures) in
     in-steps pre0 (s-look peek s-end)
 
-ty-step-returns-2 : (t : ℕ) → ty-step-lts.Need-returns-2 (
-  peek-reads.Asked,
-  peek-reads.Learnt,
-  ty-arrow-below t,
-  ty-arrow.Post,
-  ty-tuple-below t,
-  ty-tuple.Post,
-  ty-con-reads.Asked,
-  ty-con-reads.Learnt,
-) (ty-step-at t) ty-step.Post
+ty-step-returns-2 : (t : ℕ) → ty-step-lts.Need-returns-2 (ty-step-told t) (ty-step-at t) ty-step.Post
 unfolding types.tyStep plan choose chosen
 ty-step-returns-2 t c =
-    let falls = c .before .before .before .before .before .before .before .before .before .before .before .before .pre .0 in
     let pre0 = c .before .before .before .before .before .before .before .before .before .before .before .before .pre .1 .0 in
-    let pre1 = c .before .before .before .before .before .before .before .before .before .before .before .before .pre .1 .1 in
     let peek = rw (c .before .before .before .k .given .1) at (c .before .before .before .before .before .peek .ensures) in
     let if1 = c .before .if1 .taken in
     let if2 = c .if2 .taken in
     in-steps pre0 (s-look peek (s-true _ _ (kind-is if1) (s-true _ _ (lt-ltb _ _ if2) s-end)))
 
-ty-step-ty-arrow-requires : (t : ℕ) → ty-step-lts.Need-ty-arrow-requires (
-  peek-reads.Asked,
-  peek-reads.Learnt,
-  ty-arrow-below t,
-  ty-arrow.Post,
-  ty-tuple-below t,
-  ty-tuple.Post,
-  ty-con-reads.Asked,
-  ty-con-reads.Learnt,
-) (ty-step-at t) ty-step.Post
+ty-step-ty-arrow-requires : (t : ℕ) → ty-step-lts.Need-ty-arrow-requires (ty-step-told t) (ty-step-at t) ty-step.Post
 ty-step-ty-arrow-requires t c κs =
     let falls = c .before .before .before .before .before .before .before .before .before .before .before .before .before .before .pre .0 in
     let pre0 = c .before .before .before .before .before .before .before .before .before .before .before .before .before .before .pre .1 .0 in
@@ -4273,84 +1958,35 @@ ty-step-ty-arrow-requires t c κs =
     let if2 = c .before .before .if2 .left in
     (omega arith, (pre0, pre1))
 
-ty-step-same-length : (t : ℕ) → ty-step-lts.Need-same-length (
-  peek-reads.Asked,
-  peek-reads.Learnt,
-  ty-arrow-below t,
-  ty-arrow.Post,
-  ty-tuple-below t,
-  ty-tuple.Post,
-  ty-con-reads.Asked,
-  ty-con-reads.Learnt,
-) (ty-step-at t) ty-step.Post
+ty-step-same-length : (t : ℕ) → ty-step-lts.Need-same-length (ty-step-told t) (ty-step-at t) ty-step.Post
 ty-step-same-length t c =
     c .before .before .before .before .ty-arrow .kept .1 .1 .1 .1 .0
 
-ty-step-same-length-2 : (t : ℕ) → ty-step-lts.Need-same-length-2 (
-  peek-reads.Asked,
-  peek-reads.Learnt,
-  ty-arrow-below t,
-  ty-arrow.Post,
-  ty-tuple-below t,
-  ty-tuple.Post,
-  ty-con-reads.Asked,
-  ty-con-reads.Learnt,
-) (ty-step-at t) ty-step.Post
+ty-step-same-length-2 : (t : ℕ) → ty-step-lts.Need-same-length-2 (ty-step-told t) (ty-step-at t) ty-step.Post
 ty-step-same-length-2 t c =
     c .before .before .before .before .ty-arrow .kept .1 .1 .1 .1 .1 .0
 
-ty-step-returns-3 : (t : ℕ) → ty-step-lts.Need-returns-3 (
-  peek-reads.Asked,
-  peek-reads.Learnt,
-  ty-arrow-below t,
-  ty-arrow.Post,
-  ty-tuple-below t,
-  ty-tuple.Post,
-  ty-con-reads.Asked,
-  ty-con-reads.Learnt,
-) (ty-step-at t) ty-step.Post
+ty-step-returns-3 : (t : ℕ) → ty-step-lts.Need-returns-3 (ty-step-told t) (ty-step-at t) ty-step.Post
 unfolding types.tyStep plan choose chosen
 ty-step-returns-3 t c =
-    let falls = c .before .before .before .before .before .before .before .before .before .before .before .before .before .before .before .before .before .before .before .pre .0 in
     let pre0 = c .before .before .before .before .before .before .before .before .before .before .before .before .before .before .before .before .before .before .before .pre .1 .0 in
-    let pre1 = c .before .before .before .before .before .before .before .before .before .before .before .before .before .before .before .before .before .before .before .pre .1 .1 in
     let peek = rw (c .before .before .before .before .before .before .before .before .before .before .k .given .1) at (c .before .before .before .before .before .before .before .before .before .before .before .before .peek .ensures) in
     let if1 = c .before .before .before .before .before .before .before .before .if1 .taken in
     let if2 = c .before .before .before .before .before .before .before .if2 .left in
     let ty-arrow = c .before .before .before .before .ty-arrow .ensures in
     in-steps pre0 (s-look peek (s-true _ _ (kind-is if1) (s-false _ _ (le-ltb _ _ if2) (s-by _ ty-arrow s-end))))
 
-ty-step-returns-4 : (t : ℕ) → ty-step-lts.Need-returns-4 (
-  peek-reads.Asked,
-  peek-reads.Learnt,
-  ty-arrow-below t,
-  ty-arrow.Post,
-  ty-tuple-below t,
-  ty-tuple.Post,
-  ty-con-reads.Asked,
-  ty-con-reads.Learnt,
-) (ty-step-at t) ty-step.Post
+ty-step-returns-4 : (t : ℕ) → ty-step-lts.Need-returns-4 (ty-step-told t) (ty-step-at t) ty-step.Post
 unfolding types.tyStep plan choose chosen
 ty-step-returns-4 t c =
-    let falls = c .before .before .before .before .before .before .before .before .before .before .before .before .before .pre .0 in
     let pre0 = c .before .before .before .before .before .before .before .before .before .before .before .before .before .pre .1 .0 in
-    let pre1 = c .before .before .before .before .before .before .before .before .before .before .before .before .before .pre .1 .1 in
     let peek = rw (c .before .before .before .before .k .given .1) at (c .before .before .before .before .before .before .peek .ensures) in
     let if1 = c .before .before .if1 .left in
     let if3 = c .before .if3 .taken in
     let if4 = c .if4 .taken in
     in-steps pre0 (s-look peek (s-false _ _ (kind-not if1) (s-true _ _ (kind-is if3) (s-true _ _ (lt-ltb _ _ if4) s-end))))
 
-ty-step-ty-tuple-requires : (t : ℕ) → ty-step-lts.Need-ty-tuple-requires (
-  peek-reads.Asked,
-  peek-reads.Learnt,
-  ty-arrow-below t,
-  ty-arrow.Post,
-  ty-tuple-below t,
-  ty-tuple.Post,
-  ty-con-reads.Asked,
-  ty-con-reads.Learnt,
-) (ty-step-at t) ty-step.Post
+ty-step-ty-tuple-requires : (t : ℕ) → ty-step-lts.Need-ty-tuple-requires (ty-step-told t) (ty-step-at t) ty-step.Post
 ty-step-ty-tuple-requires t c κs =
     let falls = c .before .before .before .before .before .before .before .before .before .before .before .before .before .before .before .pre .0 in
     let pre0 = c .before .before .before .before .before .before .before .before .before .before .before .before .before .before .before .pre .1 .0 in
@@ -4360,47 +1996,18 @@ ty-step-ty-tuple-requires t c κs =
     let if4 = c .before .before .if4 .left in
     (omega arith, (pre0, pre1))
 
-ty-step-same-length-3 : (t : ℕ) → ty-step-lts.Need-same-length-3 (
-  peek-reads.Asked,
-  peek-reads.Learnt,
-  ty-arrow-below t,
-  ty-arrow.Post,
-  ty-tuple-below t,
-  ty-tuple.Post,
-  ty-con-reads.Asked,
-  ty-con-reads.Learnt,
-) (ty-step-at t) ty-step.Post
+ty-step-same-length-3 : (t : ℕ) → ty-step-lts.Need-same-length-3 (ty-step-told t) (ty-step-at t) ty-step.Post
 ty-step-same-length-3 t c =
     c .before .before .before .before .ty-tuple .kept .1 .1 .1 .1 .0
 
-ty-step-same-length-4 : (t : ℕ) → ty-step-lts.Need-same-length-4 (
-  peek-reads.Asked,
-  peek-reads.Learnt,
-  ty-arrow-below t,
-  ty-arrow.Post,
-  ty-tuple-below t,
-  ty-tuple.Post,
-  ty-con-reads.Asked,
-  ty-con-reads.Learnt,
-) (ty-step-at t) ty-step.Post
+ty-step-same-length-4 : (t : ℕ) → ty-step-lts.Need-same-length-4 (ty-step-told t) (ty-step-at t) ty-step.Post
 ty-step-same-length-4 t c =
     c .before .before .before .before .ty-tuple .kept .1 .1 .1 .1 .1 .0
 
-ty-step-returns-5 : (t : ℕ) → ty-step-lts.Need-returns-5 (
-  peek-reads.Asked,
-  peek-reads.Learnt,
-  ty-arrow-below t,
-  ty-arrow.Post,
-  ty-tuple-below t,
-  ty-tuple.Post,
-  ty-con-reads.Asked,
-  ty-con-reads.Learnt,
-) (ty-step-at t) ty-step.Post
+ty-step-returns-5 : (t : ℕ) → ty-step-lts.Need-returns-5 (ty-step-told t) (ty-step-at t) ty-step.Post
 unfolding types.tyStep plan choose chosen
 ty-step-returns-5 t c =
-    let falls = c .before .before .before .before .before .before .before .before .before .before .before .before .before .before .before .before .before .before .before .before .pre .0 in
     let pre0 = c .before .before .before .before .before .before .before .before .before .before .before .before .before .before .before .before .before .before .before .before .pre .1 .0 in
-    let pre1 = c .before .before .before .before .before .before .before .before .before .before .before .before .before .before .before .before .before .before .before .before .pre .1 .1 in
     let peek = rw (c .before .before .before .before .before .before .before .before .before .before .before .k .given .1) at (c .before .before .before .before .before .before .before .before .before .before .before .before .before .peek .ensures) in
     let if1 = c .before .before .before .before .before .before .before .before .before .if1 .left in
     let if3 = c .before .before .before .before .before .before .before .before .if3 .taken in
@@ -4408,62 +2015,24 @@ ty-step-returns-5 t c =
     let ty-tuple = c .before .before .before .before .ty-tuple .ensures in
     in-steps pre0 (s-look peek (s-false _ _ (kind-not if1) (s-true _ _ (kind-is if3) (s-false _ _ (le-ltb _ _ if4) (s-by _ ty-tuple s-end)))))
 
-ty-step-ty-con-requires : (t : ℕ) → ty-step-lts.Need-ty-con-requires (
-  peek-reads.Asked,
-  peek-reads.Learnt,
-  ty-arrow-below t,
-  ty-arrow.Post,
-  ty-tuple-below t,
-  ty-tuple.Post,
-  ty-con-reads.Asked,
-  ty-con-reads.Learnt,
-) (ty-step-at t) ty-step.Post
+ty-step-ty-con-requires : (t : ℕ) → ty-step-lts.Need-ty-con-requires (ty-step-told t) (ty-step-at t) ty-step.Post
 ty-step-ty-con-requires t c κs =
     let pre0 = c .before .before .before .before .before .before .before .before .before .before .before .before .before .before .before .pre .1 .0 in
     let pre1 = c .before .before .before .before .before .before .before .before .before .before .before .before .before .before .before .pre .1 .1 in
     (pre0, pre1)
 
-ty-step-same-length-5 : (t : ℕ) → ty-step-lts.Need-same-length-5 (
-  peek-reads.Asked,
-  peek-reads.Learnt,
-  ty-arrow-below t,
-  ty-arrow.Post,
-  ty-tuple-below t,
-  ty-tuple.Post,
-  ty-con-reads.Asked,
-  ty-con-reads.Learnt,
-) (ty-step-at t) ty-step.Post
+ty-step-same-length-5 : (t : ℕ) → ty-step-lts.Need-same-length-5 (ty-step-told t) (ty-step-at t) ty-step.Post
 ty-step-same-length-5 t c =
     c .before .before .before .before .ty-con .kept .1 .1 .1 .1 .0
 
-ty-step-same-length-6 : (t : ℕ) → ty-step-lts.Need-same-length-6 (
-  peek-reads.Asked,
-  peek-reads.Learnt,
-  ty-arrow-below t,
-  ty-arrow.Post,
-  ty-tuple-below t,
-  ty-tuple.Post,
-  ty-con-reads.Asked,
-  ty-con-reads.Learnt,
-) (ty-step-at t) ty-step.Post
+ty-step-same-length-6 : (t : ℕ) → ty-step-lts.Need-same-length-6 (ty-step-told t) (ty-step-at t) ty-step.Post
 ty-step-same-length-6 t c =
     c .before .before .before .before .ty-con .kept .1 .1 .1 .1 .1 .0
 
-ty-step-returns-6 : (t : ℕ) → ty-step-lts.Need-returns-6 (
-  peek-reads.Asked,
-  peek-reads.Learnt,
-  ty-arrow-below t,
-  ty-arrow.Post,
-  ty-tuple-below t,
-  ty-tuple.Post,
-  ty-con-reads.Asked,
-  ty-con-reads.Learnt,
-) (ty-step-at t) ty-step.Post
+ty-step-returns-6 : (t : ℕ) → ty-step-lts.Need-returns-6 (ty-step-told t) (ty-step-at t) ty-step.Post
 unfolding types.tyStep plan choose chosen
 ty-step-returns-6 t c =
-    let falls = c .before .before .before .before .before .before .before .before .before .before .before .before .before .before .before .before .before .before .before .before .pre .0 in
     let pre0 = c .before .before .before .before .before .before .before .before .before .before .before .before .before .before .before .before .before .before .before .before .pre .1 .0 in
-    let pre1 = c .before .before .before .before .before .before .before .before .before .before .before .before .before .before .before .before .before .before .before .before .pre .1 .1 in
     let peek = rw (c .before .before .before .before .before .before .before .before .before .before .before .k .given .1) at (c .before .before .before .before .before .before .before .before .before .before .before .before .before .peek .ensures) in
     let if1 = c .before .before .before .before .before .before .before .before .before .if1 .left in
     let if3 = c .before .before .before .before .before .before .before .before .if3 .left in
@@ -4471,21 +2040,10 @@ ty-step-returns-6 t c =
     let ty-con = c .before .before .before .before .ty-con .ensures in
     in-steps pre0 (s-look peek (s-false _ _ (kind-not if1) (s-false _ _ (kind-not if3) (s-true _ _ (kind-is if5) (s-by _ ty-con s-end)))))
 
-ty-step-returns-7 : (t : ℕ) → ty-step-lts.Need-returns-7 (
-  peek-reads.Asked,
-  peek-reads.Learnt,
-  ty-arrow-below t,
-  ty-arrow.Post,
-  ty-tuple-below t,
-  ty-tuple.Post,
-  ty-con-reads.Asked,
-  ty-con-reads.Learnt,
-) (ty-step-at t) ty-step.Post
+ty-step-returns-7 : (t : ℕ) → ty-step-lts.Need-returns-7 (ty-step-told t) (ty-step-at t) ty-step.Post
 unfolding types.tyStep plan choose chosen
 ty-step-returns-7 t c =
-    let falls = c .before .before .before .before .before .before .before .before .before .before .before .before .before .pre .0 in
     let pre0 = c .before .before .before .before .before .before .before .before .before .before .before .before .before .pre .1 .0 in
-    let pre1 = c .before .before .before .before .before .before .before .before .before .before .before .before .before .pre .1 .1 in
     let peek = rw (c .before .before .before .before .k .given .1) at (c .before .before .before .before .before .before .peek .ensures) in
     let if1 = c .before .before .if1 .left in
     let if3 = c .before .if3 .left in
@@ -4501,10 +2059,7 @@ ty-tail-μ-loop text toks env table scratch₀ finds₀ left min b s1₀ scratch
 
 ty-tail-loop-holds :
     (t : ℕ) →
-    ty-tail-lts.Need-loop-holds
-    (ty-step-below t, ty-step.Post)
-    (ty-tail-at t)
-    ty-tail.Post
+    ty-tail-lts.Need-loop-holds (ty-tail-told t) (ty-tail-at t) ty-tail.Post
     ty-tail-Inv-loop
     ty-tail-μ-loop
 ty-tail-loop-holds t c =
@@ -4513,20 +2068,14 @@ ty-tail-loop-holds t c =
     let pre1 = c .before .before .before .before .before .before .pre .1 .1 in
     (loop-starts pre0, refl, refl)
 
-ty-tail-ty-step-requires : (t : ℕ) → ty-tail-lts.Need-ty-step-requires (
-  ty-step-below t,
-  ty-step.Post,
-) (ty-tail-at t) ty-tail.Post ty-tail-Inv-loop ty-tail-μ-loop
+ty-tail-ty-step-requires : (t : ℕ) → ty-tail-lts.Need-ty-step-requires (ty-tail-told t) (ty-tail-at t) ty-tail.Post ty-tail-Inv-loop ty-tail-μ-loop
 ty-tail-ty-step-requires t c κs =
     let falls = c .before .before .before .before .before .before .before .before .before .pre .0 in
     let pre1 = c .before .before .before .before .before .before .before .before .before .pre .1 .1 in
     let inv = c .before .before .loop .inv .0 .ok in
     (omega arith, (inv, pre1))
 
-ty-tail-enum-known-step : (t : ℕ) → ty-tail-lts.Need-enum-known-step (
-  ty-step-below t,
-  ty-step.Post,
-) (ty-tail-at t) ty-tail.Post ty-tail-Inv-loop ty-tail-μ-loop
+ty-tail-enum-known-step : (t : ℕ) → ty-tail-lts.Need-enum-known-step (ty-tail-told t) (ty-tail-at t) ty-tail.Post ty-tail-Inv-loop ty-tail-μ-loop
 ty-tail-enum-known-step t c =
     let falls = c .before .before .before .before .before .before .before .before .before .before .before .before .before .before .before .pre .0 in
     let pre0 = c .before .before .before .before .before .before .before .before .before .before .before .before .before .before .before .pre .1 .0 in
@@ -4535,10 +2084,7 @@ ty-tail-enum-known-step t c =
 
 ty-tail-loop-less :
     (t : ℕ) →
-    ty-tail-lts.Need-loop-less
-    (ty-step-below t, ty-step.Post)
-    (ty-tail-at t)
-    ty-tail.Post
+    ty-tail-lts.Need-loop-less (ty-tail-told t) (ty-tail-at t) ty-tail.Post
     ty-tail-Inv-loop
     ty-tail-μ-loop
 ty-tail-loop-less t c =
@@ -4547,10 +2093,7 @@ ty-tail-loop-less t c =
 
 ty-tail-loop-again :
     (t : ℕ) →
-    ty-tail-lts.Need-loop-again
-    (ty-step-below t, ty-step.Post)
-    (ty-tail-at t)
-    ty-tail.Post
+    ty-tail-lts.Need-loop-again (ty-tail-told t) (ty-tail-at t) ty-tail.Post
     ty-tail-Inv-loop
     ty-tail-μ-loop
 ty-tail-loop-again t c =
@@ -4558,10 +2101,7 @@ ty-tail-loop-again t c =
     let ty-step = rw (c .before .step .given .1) at (c .before .before .before .before .before .before .before .ty-step .ensures) in
     (loop-goes (ty-step-advances _ _ _) inv ty-step, c .before .before .before .before .before .before .before .ty-step .kept .1 .1 .1 .1 .0 ∙ c .before .before .before .before .before .before .before .before .before .before .loop .inv .1, c .before .before .before .before .before .before .before .ty-step .kept .1 .1 .1 .1 .1 .0 ∙ c .before .before .before .before .before .before .before .before .before .before .loop .inv .2)
 
-ty-tail-enum-known-step-2 : (t : ℕ) → ty-tail-lts.Need-enum-known-step-2 (
-  ty-step-below t,
-  ty-step.Post,
-) (ty-tail-at t) ty-tail.Post ty-tail-Inv-loop ty-tail-μ-loop
+ty-tail-enum-known-step-2 : (t : ℕ) → ty-tail-lts.Need-enum-known-step-2 (ty-tail-told t) (ty-tail-at t) ty-tail.Post ty-tail-Inv-loop ty-tail-μ-loop
 ty-tail-enum-known-step-2 t c =
     let falls = c .before .before .before .before .before .before .before .before .before .before .before .before .before .before .before .pre .0 in
     let pre0 = c .before .before .before .before .before .before .before .before .before .before .before .before .before .before .before .pre .1 .0 in
@@ -4570,10 +2110,7 @@ ty-tail-enum-known-step-2 t c =
 
 ty-tail-same-length :
     (t : ℕ) →
-    ty-tail-lts.Need-same-length
-    (ty-step-below t, ty-step.Post)
-    (ty-tail-at t)
-    ty-tail.Post
+    ty-tail-lts.Need-same-length (ty-tail-told t) (ty-tail-at t) ty-tail.Post
     ty-tail-Inv-loop
     ty-tail-μ-loop
 ty-tail-same-length t c =
@@ -4581,10 +2118,7 @@ ty-tail-same-length t c =
 
 ty-tail-same-length-2 :
     (t : ℕ) →
-    ty-tail-lts.Need-same-length-2
-    (ty-step-below t, ty-step.Post)
-    (ty-tail-at t)
-    ty-tail.Post
+    ty-tail-lts.Need-same-length-2 (ty-tail-told t) (ty-tail-at t) ty-tail.Post
     ty-tail-Inv-loop
     ty-tail-μ-loop
 ty-tail-same-length-2 t c =
@@ -4592,10 +2126,7 @@ ty-tail-same-length-2 t c =
 
 ty-tail-returns :
     (t : ℕ) →
-    ty-tail-lts.Need-returns
-    (ty-step-below t, ty-step.Post)
-    (ty-tail-at t)
-    ty-tail.Post
+    ty-tail-lts.Need-returns (ty-tail-told t) (ty-tail-at t) ty-tail.Post
     ty-tail-Inv-loop
     ty-tail-μ-loop
 ty-tail-returns t c =
@@ -4603,48 +2134,19 @@ ty-tail-returns t c =
     let ty-step = rw (c .before .step2 .given .1) at (c .before .before .before .before .before .before .before .ty-step .ensures) in
     loop-ends (ty-step-advances _ _ _) inv ty-step
 
-ty-tuple-refuse-requires : (t : ℕ) → ty-tuple-lts.Need-refuse-requires (
-  refuse-reads.Asked,
-  refuse-reads.Learnt,
-  mark-reads.Asked,
-  mark-reads.Learnt,
-  star-tail-below t,
-  star-tail.Post,
-  close-reads.Asked,
-  close-reads.Learnt,
-) (ty-tuple-at t) ty-tuple.Post
+ty-tuple-refuse-requires : (t : ℕ) → ty-tuple-lts.Need-refuse-requires (ty-tuple-told t) (ty-tuple-at t) ty-tuple.Post
 ty-tuple-refuse-requires t c κs =
     tt
 
-ty-tuple-returns : (t : ℕ) → ty-tuple-lts.Need-returns (
-  refuse-reads.Asked,
-  refuse-reads.Learnt,
-  mark-reads.Asked,
-  mark-reads.Learnt,
-  star-tail-below t,
-  star-tail.Post,
-  close-reads.Asked,
-  close-reads.Learnt,
-) (ty-tuple-at t) ty-tuple.Post
+ty-tuple-returns : (t : ℕ) → ty-tuple-lts.Need-returns (ty-tuple-told t) (ty-tuple-at t) ty-tuple.Post
 unfolding types.tyTuple plan choose chosen
 ty-tuple-returns t c =
-    let falls = c .before .before .before .before .before .before .before .before .pre .0 in
     let pre0 = c .before .before .before .before .before .before .before .before .pre .1 .0 in
-    let pre1 = c .before .before .before .before .before .before .before .before .pre .1 .1 in
     let if1 = c .before .if1 .taken in
     let refuse = c .refuse .ensures in
     in-steps pre0 (s-deep if1 refuse s-end)
 
-ty-tuple-sub-star-tail : (t : ℕ) → ty-tuple-lts.Need-sub-star-tail (
-  refuse-reads.Asked,
-  refuse-reads.Learnt,
-  mark-reads.Asked,
-  mark-reads.Learnt,
-  star-tail-below t,
-  star-tail.Post,
-  close-reads.Asked,
-  close-reads.Learnt,
-) (ty-tuple-at t) ty-tuple.Post
+ty-tuple-sub-star-tail : (t : ℕ) → ty-tuple-lts.Need-sub-star-tail (ty-tuple-told t) (ty-tuple-at t) ty-tuple.Post
 ty-tuple-sub-star-tail t c =
     let falls = c .before .before .before .before .before .before .before .before .before .pre .0 in
     let pre0 = c .before .before .before .before .before .before .before .before .before .pre .1 .0 in
@@ -4652,29 +2154,11 @@ ty-tuple-sub-star-tail t c =
     let if1 = c .before .before .if1 .left in
     search needs
 
-ty-tuple-mark-requires : (t : ℕ) → ty-tuple-lts.Need-mark-requires (
-  refuse-reads.Asked,
-  refuse-reads.Learnt,
-  mark-reads.Asked,
-  mark-reads.Learnt,
-  star-tail-below t,
-  star-tail.Post,
-  close-reads.Asked,
-  close-reads.Learnt,
-) (ty-tuple-at t) ty-tuple.Post
+ty-tuple-mark-requires : (t : ℕ) → ty-tuple-lts.Need-mark-requires (ty-tuple-told t) (ty-tuple-at t) ty-tuple.Post
 ty-tuple-mark-requires t c κs =
     tt
 
-ty-tuple-star-tail-requires : (t : ℕ) → ty-tuple-lts.Need-star-tail-requires (
-  refuse-reads.Asked,
-  refuse-reads.Learnt,
-  mark-reads.Asked,
-  mark-reads.Learnt,
-  star-tail-below t,
-  star-tail.Post,
-  close-reads.Asked,
-  close-reads.Learnt,
-) (ty-tuple-at t) ty-tuple.Post
+ty-tuple-star-tail-requires : (t : ℕ) → ty-tuple-lts.Need-star-tail-requires (ty-tuple-told t) (ty-tuple-at t) ty-tuple.Post
 ty-tuple-star-tail-requires t c κs =
     let falls = c .before .before .before .before .before .before .before .before .before .before .pre .0 in
     let pre0 = c .before .before .before .before .before .before .before .before .before .before .pre .1 .0 in
@@ -4684,63 +2168,25 @@ ty-tuple-star-tail-requires t c κs =
     let mark-ok = ok-marks mark pre0 in
     (omega arith, mark-ok)
 
-ty-tuple-close-requires : (t : ℕ) → ty-tuple-lts.Need-close-requires (
-  refuse-reads.Asked,
-  refuse-reads.Learnt,
-  mark-reads.Asked,
-  mark-reads.Learnt,
-  star-tail-below t,
-  star-tail.Post,
-  close-reads.Asked,
-  close-reads.Learnt,
-) (ty-tuple-at t) ty-tuple.Post
+ty-tuple-close-requires : (t : ℕ) → ty-tuple-lts.Need-close-requires (ty-tuple-told t) (ty-tuple-at t) ty-tuple.Post
 ty-tuple-close-requires t c κs =
     let pre1 = c .before .before .before .before .before .before .before .before .before .before .before .before .before .before .before .before .pre .1 .1 in
     let star-tail = c .before .before .before .before .before .star-tail .ensures in
     let star-tail-ok = star-tail .ok in
     (star-tail-ok .logs, pre1)
 
-ty-tuple-same-length : (t : ℕ) → ty-tuple-lts.Need-same-length (
-  refuse-reads.Asked,
-  refuse-reads.Learnt,
-  mark-reads.Asked,
-  mark-reads.Learnt,
-  star-tail-below t,
-  star-tail.Post,
-  close-reads.Asked,
-  close-reads.Learnt,
-) (ty-tuple-at t) ty-tuple.Post
+ty-tuple-same-length : (t : ℕ) → ty-tuple-lts.Need-same-length (ty-tuple-told t) (ty-tuple-at t) ty-tuple.Post
 ty-tuple-same-length t c =
     c .before .before .close .kept .0 ∙ c .before .before .before .before .before .before .before .before .star-tail .kept .1 .1 .1 .1 .0
 
-ty-tuple-same-length-2 : (t : ℕ) → ty-tuple-lts.Need-same-length-2 (
-  refuse-reads.Asked,
-  refuse-reads.Learnt,
-  mark-reads.Asked,
-  mark-reads.Learnt,
-  star-tail-below t,
-  star-tail.Post,
-  close-reads.Asked,
-  close-reads.Learnt,
-) (ty-tuple-at t) ty-tuple.Post
+ty-tuple-same-length-2 : (t : ℕ) → ty-tuple-lts.Need-same-length-2 (ty-tuple-told t) (ty-tuple-at t) ty-tuple.Post
 ty-tuple-same-length-2 t c =
     c .before .before .before .before .before .before .before .before .star-tail .kept .1 .1 .1 .1 .1 .0
 
-ty-tuple-returns-2 : (t : ℕ) → ty-tuple-lts.Need-returns-2 (
-  refuse-reads.Asked,
-  refuse-reads.Learnt,
-  mark-reads.Asked,
-  mark-reads.Learnt,
-  star-tail-below t,
-  star-tail.Post,
-  close-reads.Asked,
-  close-reads.Learnt,
-) (ty-tuple-at t) ty-tuple.Post
+ty-tuple-returns-2 : (t : ℕ) → ty-tuple-lts.Need-returns-2 (ty-tuple-told t) (ty-tuple-at t) ty-tuple.Post
 unfolding types.tyTuple plan choose chosen
 ty-tuple-returns-2 t c =
-    let falls = c .before .before .before .before .before .before .before .before .before .before .before .before .before .before .before .before .before .before .before .pre .0 in
     let pre0 = c .before .before .before .before .before .before .before .before .before .before .before .before .before .before .before .before .before .before .before .pre .1 .0 in
-    let pre1 = c .before .before .before .before .before .before .before .before .before .before .before .before .before .before .before .before .before .before .before .pre .1 .1 in
     let if1 = c .before .before .before .before .before .before .before .before .before .before .before .before .if1 .left in
     let mark = c .before .before .before .before .before .before .before .before .before .mark .ensures in
     let star-tail = c .before .before .before .before .before .before .before .before .star-tail .ensures in
@@ -4772,20 +2218,7 @@ pub +arg-item+arg-turn+row-item+row-turn+star-factor+star-tail+star-turn+ty-arg+
     μ-ty-step
     μ-ty-tail
     μ-ty-tuple
-    (λ t. arg-item-lts.spec (
-      refuse-reads.Asked,
-      refuse-reads.Learnt,
-      mark-reads.Asked,
-      mark-reads.Learnt,
-      ty-must-below t,
-      ty-must.Post,
-      at-reads.Asked,
-      at-reads.Learnt,
-      bump-reads.Asked,
-      bump-reads.Learnt,
-      close-reads.Asked,
-      close-reads.Learnt,
-    )
+    (λ t. arg-item-lts.spec (arg-item-told t)
     (arg-item-at t)
     arg-item.Post
     (arg-item-refuse-requires t)
@@ -4803,18 +2236,7 @@ pub +arg-item+arg-turn+row-item+row-turn+star-factor+star-tail+star-turn+ty-arg+
     (arg-item-same-length-3 t)
     (arg-item-same-length-4 t)
     (arg-item-returns-3 t))
-    (λ t. arg-turn-lts.spec (
-      at-reads.Asked,
-      at-reads.Learnt,
-      bump-reads.Asked,
-      bump-reads.Learnt,
-      arg-item-below t,
-      arg-item.Post,
-      eat-reads.Asked,
-      eat-reads.Learnt,
-      state-reads.Asked,
-      state-reads.Learnt,
-    )
+    (λ t. arg-turn-lts.spec (arg-turn-told t)
     (arg-turn-at t)
     arg-turn.Post
     (arg-turn-at-requires t)
@@ -4832,20 +2254,7 @@ pub +arg-item+arg-turn+row-item+row-turn+star-factor+star-tail+star-turn+ty-arg+
     (arg-turn-same-length-4 t)
     (arg-turn-same-length-5 t)
     (arg-turn-returns-3 t))
-    (λ t. row-item-lts.spec (
-      refuse-reads.Asked,
-      refuse-reads.Learnt,
-      mark-reads.Asked,
-      mark-reads.Learnt,
-      ty-row-below t,
-      ty-row.Post,
-      at-reads.Asked,
-      at-reads.Learnt,
-      bump-reads.Asked,
-      bump-reads.Learnt,
-      close-reads.Asked,
-      close-reads.Learnt,
-    )
+    (λ t. row-item-lts.spec (row-item-told t)
     (row-item-at t)
     row-item.Post
     (row-item-refuse-requires t)
@@ -4863,18 +2272,7 @@ pub +arg-item+arg-turn+row-item+row-turn+star-factor+star-tail+star-turn+ty-arg+
     (row-item-same-length-3 t)
     (row-item-same-length-4 t)
     (row-item-returns-3 t))
-    (λ t. row-turn-lts.spec (
-      at-reads.Asked,
-      at-reads.Learnt,
-      bump-reads.Asked,
-      bump-reads.Learnt,
-      row-item-below t,
-      row-item.Post,
-      eat-reads.Asked,
-      eat-reads.Learnt,
-      state-reads.Asked,
-      state-reads.Learnt,
-    )
+    (λ t. row-turn-lts.spec (row-turn-told t)
     (row-turn-at t)
     row-turn.Post
     (row-turn-at-requires t)
@@ -4892,18 +2290,7 @@ pub +arg-item+arg-turn+row-item+row-turn+star-factor+star-tail+star-turn+ty-arg+
     (row-turn-same-length-4 t)
     (row-turn-same-length-5 t)
     (row-turn-returns-3 t))
-    (λ t. star-factor-lts.spec (
-      refuse-reads.Asked,
-      refuse-reads.Learnt,
-      mark-reads.Asked,
-      mark-reads.Learnt,
-      bump-reads.Asked,
-      bump-reads.Learnt,
-      ty-must-below t,
-      ty-must.Post,
-      close-reads.Asked,
-      close-reads.Learnt,
-    )
+    (λ t. star-factor-lts.spec (star-factor-told t)
     (star-factor-at t)
     star-factor.Post
     (star-factor-refuse-requires t)
@@ -4916,8 +2303,7 @@ pub +arg-item+arg-turn+row-item+row-turn+star-factor+star-tail+star-turn+ty-arg+
     (star-factor-same-length t)
     (star-factor-same-length-2 t)
     (star-factor-returns-2 t))
-    (λ t. star-tail-lts.spec
-    (star-turn-below t, star-turn.Post)
+    (λ t. star-tail-lts.spec (star-tail-told t)
     (star-tail-at t)
     star-tail.Post
     star-tail-Inv-loop
@@ -4931,12 +2317,7 @@ pub +arg-item+arg-turn+row-item+row-turn+star-factor+star-tail+star-turn+ty-arg+
     (star-tail-same-length t)
     (star-tail-same-length-2 t)
     (star-tail-returns t))
-    (λ t. star-turn-lts.spec (
-      at-reads.Asked,
-      at-reads.Learnt,
-      star-factor-below t,
-      star-factor.Post,
-    )
+    (λ t. star-turn-lts.spec (star-turn-told t)
     (star-turn-at t)
     star-turn.Post
     (star-turn-at-requires t)
@@ -4945,22 +2326,7 @@ pub +arg-item+arg-turn+row-item+row-turn+star-factor+star-tail+star-turn+ty-arg+
     (star-turn-same-length-2 t)
     (star-turn-returns t)
     (star-turn-returns-2 t))
-    (λ t. ty-arg-lts.spec (
-      refuse-reads.Asked,
-      refuse-reads.Learnt,
-      mark-reads.Asked,
-      mark-reads.Learnt,
-      ty-must-below t,
-      ty-must.Post,
-      at-reads.Asked,
-      at-reads.Learnt,
-      eat-reads.Asked,
-      eat-reads.Learnt,
-      state-reads.Asked,
-      state-reads.Learnt,
-      close-reads.Asked,
-      close-reads.Learnt,
-    )
+    (λ t. ty-arg-lts.spec (ty-arg-told t)
     (ty-arg-at t)
     ty-arg.Post
     (ty-arg-refuse-requires t)
@@ -4978,8 +2344,7 @@ pub +arg-item+arg-turn+row-item+row-turn+star-factor+star-tail+star-turn+ty-arg+
     (ty-arg-same-length-3 t)
     (ty-arg-same-length-4 t)
     (ty-arg-returns-3 t))
-    (λ t. ty-args-lts.spec
-    (arg-turn-below t, arg-turn.Post)
+    (λ t. ty-args-lts.spec (ty-args-told t)
     (ty-args-at t)
     ty-args.Post
     ty-args-Inv-loop
@@ -4993,18 +2358,7 @@ pub +arg-item+arg-turn+row-item+row-turn+star-factor+star-tail+star-turn+ty-arg+
     (ty-args-same-length t)
     (ty-args-same-length-2 t)
     (ty-args-returns t))
-    (λ t. ty-arrow-lts.spec (
-      refuse-reads.Asked,
-      refuse-reads.Learnt,
-      mark-reads.Asked,
-      mark-reads.Learnt,
-      bump-reads.Asked,
-      bump-reads.Learnt,
-      ty-must-below t,
-      ty-must.Post,
-      close-reads.Asked,
-      close-reads.Learnt,
-    )
+    (λ t. ty-arrow-lts.spec (ty-arrow-told t)
     (ty-arrow-at t)
     ty-arrow.Post
     (ty-arrow-refuse-requires t)
@@ -5017,14 +2371,7 @@ pub +arg-item+arg-turn+row-item+row-turn+star-factor+star-tail+star-turn+ty-arg+
     (ty-arrow-same-length t)
     (ty-arrow-same-length-2 t)
     (ty-arrow-returns-2 t))
-    (λ t. ty-head-lts.spec (
-      bump-reads.Asked,
-      bump-reads.Learnt,
-      close-reads.Asked,
-      close-reads.Learnt,
-      ty-inner-below t,
-      ty-inner.Post,
-    )
+    (λ t. ty-head-lts.spec (ty-head-told t)
     (ty-head-at t)
     ty-head.Post
     (ty-head-bump-requires t)
@@ -5043,20 +2390,7 @@ pub +arg-item+arg-turn+row-item+row-turn+star-factor+star-tail+star-turn+ty-arg+
     (ty-head-same-length-4 t)
     (ty-head-same-length-5 t)
     (ty-head-returns-4 t))
-    (λ t. ty-inner-lts.spec (
-      bump-reads.Asked,
-      bump-reads.Learnt,
-      ty-rows-below t,
-      ty-rows.Post,
-      close-reads.Asked,
-      close-reads.Learnt,
-      ty-round-below t,
-      ty-round.Post,
-      path-must-reads.Asked,
-      path-must-reads.Learnt,
-      state-reads.Asked,
-      state-reads.Learnt,
-    )
+    (λ t. ty-inner-lts.spec (ty-inner-told t)
     (ty-inner-at t)
     ty-inner.Post
     (ty-inner-bump-requires t)
@@ -5076,12 +2410,7 @@ pub +arg-item+arg-turn+row-item+row-turn+star-factor+star-tail+star-turn+ty-arg+
     (ty-inner-same-length-6 t)
     (ty-inner-returns-3 t)
     (ty-inner-returns-4 t))
-    (λ t. ty-must-lts.spec (
-      ty-prec-below t,
-      ty-prec.Post,
-      report-reads.Asked,
-      report-reads.Learnt,
-    )
+    (λ t. ty-must-lts.spec (ty-must-told t)
     (ty-must-at t)
     ty-must.Post
     (ty-must-ty-prec-requires t)
@@ -5094,18 +2423,7 @@ pub +arg-item+arg-turn+row-item+row-turn+star-factor+star-tail+star-turn+ty-arg+
     (ty-must-same-length-3 t)
     (ty-must-same-length-4 t)
     (ty-must-returns-2 t))
-    (λ t. ty-prec-lts.spec (
-      peek-reads.Asked,
-      peek-reads.Learnt,
-      refuse-reads.Asked,
-      refuse-reads.Learnt,
-      mark-reads.Asked,
-      mark-reads.Learnt,
-      ty-head-below t,
-      ty-head.Post,
-      ty-tail-below t,
-      ty-tail.Post,
-    )
+    (λ t. ty-prec-lts.spec (ty-prec-told t)
     (ty-prec-at t)
     ty-prec.Post
     (ty-prec-peek-requires t)
@@ -5126,18 +2444,7 @@ pub +arg-item+arg-turn+row-item+row-turn+star-factor+star-tail+star-turn+ty-arg+
     (ty-prec-same-length-3 t)
     (ty-prec-same-length-4 t)
     (ty-prec-returns-4 t))
-    (λ t. ty-round-lts.spec (
-      ty-seq-below t,
-      ty-seq.Post,
-      path-must-reads.Asked,
-      path-must-reads.Learnt,
-      state-reads.Asked,
-      state-reads.Learnt,
-      close-reads.Asked,
-      close-reads.Learnt,
-      bump-reads.Asked,
-      bump-reads.Learnt,
-    )
+    (λ t. ty-round-lts.spec (ty-round-told t)
     (ty-round-at t)
     ty-round.Post
     (ty-round-ty-seq-requires t)
@@ -5154,14 +2461,7 @@ pub +arg-item+arg-turn+row-item+row-turn+star-factor+star-tail+star-turn+ty-arg+
     (ty-round-same-length-3 t)
     (ty-round-same-length-4 t)
     (ty-round-returns-2 t))
-    (λ t. ty-row-lts.spec (
-      lab-reads.Asked,
-      lab-reads.Learnt,
-      bump-ascription-reads.Asked,
-      bump-ascription-reads.Learnt,
-      ty-must-below t,
-      ty-must.Post,
-    )
+    (λ t. ty-row-lts.spec (ty-row-told t)
     (ty-row-at t)
     ty-row.Post
     (ty-row-lab-requires t)
@@ -5170,8 +2470,7 @@ pub +arg-item+arg-turn+row-item+row-turn+star-factor+star-tail+star-turn+ty-arg+
     (ty-row-same-length t)
     (ty-row-same-length-2 t)
     (ty-row-returns t))
-    (λ t. ty-rows-lts.spec
-    (row-turn-below t, row-turn.Post)
+    (λ t. ty-rows-lts.spec (ty-rows-told t)
     (ty-rows-at t)
     ty-rows.Post
     ty-rows-Inv-loop
@@ -5185,20 +2484,7 @@ pub +arg-item+arg-turn+row-item+row-turn+star-factor+star-tail+star-turn+ty-arg+
     (ty-rows-same-length t)
     (ty-rows-same-length-2 t)
     (ty-rows-returns t))
-    (λ t. ty-seq-lts.spec (
-      refuse-reads.Asked,
-      refuse-reads.Learnt,
-      mark-reads.Asked,
-      mark-reads.Learnt,
-      bump-reads.Asked,
-      bump-reads.Learnt,
-      ty-arg-below t,
-      ty-arg.Post,
-      ty-args-below t,
-      ty-args.Post,
-      close-reads.Asked,
-      close-reads.Learnt,
-    )
+    (λ t. ty-seq-lts.spec (ty-seq-told t)
     (ty-seq-at t)
     ty-seq.Post
     (ty-seq-refuse-requires t)
@@ -5218,16 +2504,7 @@ pub +arg-item+arg-turn+row-item+row-turn+star-factor+star-tail+star-turn+ty-arg+
     (ty-seq-same-length-3 t)
     (ty-seq-same-length-4 t)
     (ty-seq-returns-3 t))
-    (λ t. ty-step-lts.spec (
-      peek-reads.Asked,
-      peek-reads.Learnt,
-      ty-arrow-below t,
-      ty-arrow.Post,
-      ty-tuple-below t,
-      ty-tuple.Post,
-      ty-con-reads.Asked,
-      ty-con-reads.Learnt,
-    )
+    (λ t. ty-step-lts.spec (ty-step-told t)
     (ty-step-at t)
     ty-step.Post
     (ty-step-peek-requires t)
@@ -5249,8 +2526,7 @@ pub +arg-item+arg-turn+row-item+row-turn+star-factor+star-tail+star-turn+ty-arg+
     (ty-step-same-length-6 t)
     (ty-step-returns-6 t)
     (ty-step-returns-7 t))
-    (λ t. ty-tail-lts.spec
-    (ty-step-below t, ty-step.Post)
+    (λ t. ty-tail-lts.spec (ty-tail-told t)
     (ty-tail-at t)
     ty-tail.Post
     ty-tail-Inv-loop
@@ -5264,16 +2540,7 @@ pub +arg-item+arg-turn+row-item+row-turn+star-factor+star-tail+star-turn+ty-arg+
     (ty-tail-same-length t)
     (ty-tail-same-length-2 t)
     (ty-tail-returns t))
-    λ t. ty-tuple-lts.spec (
-      refuse-reads.Asked,
-      refuse-reads.Learnt,
-      mark-reads.Asked,
-      mark-reads.Learnt,
-      star-tail-below t,
-      star-tail.Post,
-      close-reads.Asked,
-      close-reads.Learnt,
-    )
+    λ t. ty-tuple-lts.spec (ty-tuple-told t)
     (ty-tuple-at t)
     ty-tuple.Post
     (ty-tuple-refuse-requires t)

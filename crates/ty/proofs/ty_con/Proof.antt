@@ -1,8 +1,8 @@
 -- by tools/prove
-use Rattle.grammar.specs.Ty as types
 use Rattle.parser.specs.Runs.{runs-in, ok-marks, ok-state}
 use Rattle.parser.specs.Plans.{plan, choose, chosen, in-steps, s-close, s-mark, s-deep, s-by, settled, s-end}
 use mathlib.Core.Path.{_≡_, refl, _∙_}
+use Rattle.grammar.specs.Ty as types
 use lib.ListN.{length}
 use borrow.Author.Needs.{needs}
 use Rattle.ty.proofs.ty_con.Statement.{statement}
@@ -23,7 +23,6 @@ returns : tie.Need-returns
 unfolding types.tyCon plan choose chosen
 returns c =
     let pre0 = c .before .before .before .before .before .before .before .before .pre .0 in
-    let pre1 = c .before .before .before .before .before .before .before .before .pre .1 in
     let if1 = c .before .if1 .taken in
     let refuse = c .refuse .ensures in
     in-steps pre0 (s-deep if1 refuse s-end)
@@ -71,7 +70,6 @@ returns-2 : tie.Need-returns-2
 unfolding types.tyCon plan choose chosen
 returns-2 c =
     let pre0 = c .before .before .before .before .before .before .before .before .before .before .before .before .before .before .before .before .before .before .before .before .pre .0 in
-    let pre1 = c .before .before .before .before .before .before .before .before .before .before .before .before .before .before .before .before .before .before .before .before .pre .1 in
     let if1 = c .before .before .before .before .before .before .before .before .before .before .before .before .before .if1 .left in
     let mark = c .before .before .before .before .before .before .before .before .before .before .mark .ensures in
     let path-must = c .before .before .before .before .before .before .before .before .before .path-must .ensures in

@@ -1,7 +1,7 @@
 -- by tools/prove
-use Rattle.grammar.specs.Ty as types
 use Rattle.parser.specs.Runs.{ok-marks, small-len}
 use Rattle.parser.specs.Plans.{plan, choose, chosen, by-steps, s-mark, s-deep, s-by, s-end}
+use Rattle.grammar.specs.Ty as types
 use lib.ListN.{length}
 use borrow.Author.Needs.{needs}
 use Rattle.ty.proofs.ty_var_seq.Statement.{statement}

@@ -1,7 +1,7 @@
 -- by tools/prove
-use Rattle.grammar.specs.Ty as types
 use Rattle.parser.specs.Runs.{kind-is, kind-not}
 use Rattle.parser.specs.Plans.{plan, choose, chosen, in-steps, s-look, s-true, s-false, s-by, s-end}
+use Rattle.grammar.specs.Ty as types
 use lib.ListN.{length}
 use borrow.Author.Needs.{needs}
 use Rattle.ty.proofs.ty_vars.Statement.{statement}
@@ -33,7 +33,6 @@ returns : tie.Need-returns
 unfolding types.tyVars plan choose chosen
 returns c =
     let pre0 = c .before .before .before .before .before .before .before .before .before .pre .0 in
-    let pre1 = c .before .before .before .before .before .before .before .before .before .pre .1 in
     let peek = rw (c .enum-told .given .1) at (c .before .before .peek .ensures) in
     in-steps pre0 (s-look peek s-end)
 
@@ -55,7 +54,6 @@ returns-2 : tie.Need-returns-2
 unfolding types.tyVars plan choose chosen
 returns-2 c =
     let pre0 = c .before .before .before .before .before .before .before .before .before .before .before .before .before .before .before .before .before .before .pre .0 in
-    let pre1 = c .before .before .before .before .before .before .before .before .before .before .before .before .before .before .before .before .before .before .pre .1 in
     let peek = rw (c .before .before .before .before .before .before .before .before .before .k .given .1) at (c .before .before .before .before .before .before .before .before .before .before .before .peek .ensures) in
     let if1 = c .before .before .before .before .before .before .before .if1 .taken in
     let var-one = c .before .before .before .before .var-one .ensures in
@@ -79,7 +77,6 @@ returns-3 : tie.Need-returns-3
 unfolding types.tyVars plan choose chosen
 returns-3 c =
     let pre0 = c .before .before .before .before .before .before .before .before .before .before .before .before .before .before .before .before .before .before .before .pre .0 in
-    let pre1 = c .before .before .before .before .before .before .before .before .before .before .before .before .before .before .before .before .before .before .before .pre .1 in
     let peek = rw (c .before .before .before .before .before .before .before .before .before .before .k .given .1) at (c .before .before .before .before .before .before .before .before .before .before .before .before .peek .ensures) in
     let if1 = c .before .before .before .before .before .before .before .before .if1 .left in
     let if2 = c .before .before .before .before .before .before .before .if2 .taken in
@@ -90,7 +87,6 @@ returns-4 : tie.Need-returns-4
 unfolding types.tyVars plan choose chosen
 returns-4 c =
     let pre0 = c .before .before .before .before .before .before .before .before .before .before .before .before .pre .0 in
-    let pre1 = c .before .before .before .before .before .before .before .before .before .before .before .before .pre .1 in
     let peek = rw (c .before .before .before .k .given .1) at (c .before .before .before .before .before .peek .ensures) in
     let if1 = c .before .if1 .left in
     let if2 = c .if2 .left in

@@ -1,13 +1,13 @@
 -- by tools/prove
-use Rattle.grammar.specs.Util as util
-use Rattle.grammar.specs.SyntaxKind as SK
 use Rattle.laws.specs.Progress.{end-turn-advances}
 use Rattle.parser.specs.View.{mem}
 use Rattle.parser.specs.Runs.{runs-in, Loops, turns, loop-starts, loop-goes, loop-falls, loop-ends}
-use borrow.Author.Needs.{needs}
 use mathlib.Core.Path.{_≡_, refl, _∙_}
-use lib.ListN.{length}
 use mathlib.Core.Bool.{true}
+use Rattle.grammar.specs.Util as util
+use Rattle.grammar.specs.SyntaxKind as SK
+use borrow.Author.Needs.{needs}
+use lib.ListN.{length}
 use Rattle.ty.proofs.var_args.Statement.{statement}
 use Rattle.ty.proofs.var_args.Tie as tie
 use Rattle.ty.proofs.var_args.Reads as reads

@@ -1,9 +1,9 @@
 -- by tools/prove
-use Rattle.grammar.specs.Util as util
-use Rattle.parser.specs.Runs.{runs-always, kind-at, kind-off, ok-bumps, ok-marks, ok-state, small-len}
-use Rattle.parser.specs.Plans.{plan, choose, chosen, by-steps, s-kind, s-true, s-false, s-bump, s-close, s-mark, s-deep, s-by, settled, s-end}
+use Rattle.parser.specs.Runs.{kind-at, kind-off, ok-bumps, ok-marks, ok-eats, ok-state, small-len}
+use Rattle.parser.specs.Plans.{plan, choose, chosen, by-steps, s-kind, s-true, s-false, s-bump, s-close, s-mark, s-deep, s-eats, eats-settled, s-end}
 use native.Mathlib.Omega.{arith}
 use mathlib.Core.Path.{_≡_, refl, _∙_}
+use Rattle.grammar.specs.Util as util
 use lib.ListN.{length}
 use borrow.Author.Needs.{needs}
 use Rattle.ty.proofs.var_item.Statement.{statement}
@@ -40,7 +40,7 @@ eat-requires c κs =
     let if1 = c .before .before .before .if1 .left in
     let mark = c .before .before .mark .ensures in
     let mark-ok = ok-marks mark pre0 in
-    (mark-ok, omega arith)
+    (mark-ok .reads, mark-ok .logs, mark-ok .holds, omega arith)
 
 state-requires : tie.Need-state-requires
 state-requires c κs =
@@ -48,16 +48,22 @@ state-requires c κs =
 
 at-requires : tie.Need-at-requires
 at-requires c κs =
+    let pre0 = c .before .before .before .before .before .before .before .before .before .before .before .before .before .before .before .before .pre in
+    let mark = c .before .before .before .before .before .before .before .before .mark .ensures in
+    let mark-ok = ok-marks mark pre0 in
     let eat = c .before .before .before .before .before .eat .ensures in
-    let eat-ok = eat .ok in
+    let eat-ok = ok-eats eat mark-ok in
     let state = c .state .ensures in
     let state-ok = ok-state state eat-ok in
     state-ok .reads
 
 bump-requires : tie.Need-bump-requires
 bump-requires c κs =
+    let pre0 = c .before .before .before .before .before .before .before .before .before .before .before .before .before .before .before .before .before .before .before .pre in
+    let mark = c .before .before .before .before .before .before .before .before .before .before .before .mark .ensures in
+    let mark-ok = ok-marks mark pre0 in
     let eat = c .before .before .before .before .before .before .before .before .eat .ensures in
-    let eat-ok = eat .ok in
+    let eat-ok = ok-eats eat mark-ok in
     let state = c .before .before .before .state .ensures in
     let state-ok = ok-state state eat-ok in
     (state-ok .reads, state-ok .logs)
@@ -68,7 +74,7 @@ close-requires c κs =
     let mark = c .before .before .before .before .before .before .before .before .before .before .before .before .before .before .before .mark .ensures in
     let mark-ok = ok-marks mark pre0 in
     let eat = c .before .before .before .before .before .before .before .before .before .before .before .before .eat .ensures in
-    let eat-ok = eat .ok in
+    let eat-ok = ok-eats eat mark-ok in
     let state = c .before .before .before .before .before .before .before .state .ensures in
     let state-ok = ok-state state eat-ok in
     let bump = c .before .before .before .bump .ensures in
@@ -81,18 +87,18 @@ close-requires-2 c κs =
     let mark = c .before .before .before .before .before .before .before .before .before .before .before .mark .ensures in
     let mark-ok = ok-marks mark pre0 in
     let eat = c .before .before .before .before .before .before .before .before .eat .ensures in
-    let eat-ok = eat .ok in
+    let eat-ok = ok-eats eat mark-ok in
     let state = c .before .before .before .state .ensures in
     let state-ok = ok-state state eat-ok in
     (state-ok .logs, small-len mark-ok)
 
 same-length : tie.Need-same-length
 same-length c =
-    c .before .before .close .kept .0 ∙ c .before .before .before .before .before .before .bump .kept .1 .0 ∙ c .before .before .before .before .before .before .before .before .before .before .before .before .before .before .before .eat .kept .1 .1 .1 .1 .0
+    c .before .before .close .kept .0 ∙ c .before .before .before .before .before .before .bump .kept .1 .0 ∙ c .before .before .before .before .before .before .before .before .before .before .before .before .before .before .before .eat .kept .1 .0
 
 same-length-2 : tie.Need-same-length-2
 same-length-2 c =
-    c .before .before .before .before .before .before .before .before .before .before .before .before .before .before .before .eat .kept .1 .1 .1 .1 .1 .0
+    c .before .before .before .before .before .before .before .before .before .before .before .before .before .before .before .eat .kept .1 .1 .0
 
 returns-2 : tie.Need-returns-2
 unfolding util.endItem plan choose chosen
@@ -106,15 +112,15 @@ returns-2 c =
     let if2 = c .before .before .before .before .before .before .before .before .if2 .taken in
     let bump = c .before .before .before .before .before .before .bump .ensures in
     let close = c .before .before .close .ensures in
-    by-steps pre0 (λ b. s-mark if1 mark (s-by _ (settled state (runs-always eat)) (s-kind (s-true _ _ (kind-at _ _ _ _ at if2) (s-bump bump (s-close close s-end))))))
+    by-steps pre0 (λ b. s-mark if1 mark (s-eats _ _ _ (eats-settled state eat) (s-kind (s-true _ _ (kind-at _ _ _ _ at if2) (s-bump bump (s-close close s-end))))))
 
 same-length-3 : tie.Need-same-length-3
 same-length-3 c =
-    c .before .before .close2 .kept .0 ∙ c .before .before .before .before .before .before .before .before .before .before .before .eat .kept .1 .1 .1 .1 .0
+    c .before .before .close2 .kept .0 ∙ c .before .before .before .before .before .before .before .before .before .before .before .eat .kept .1 .0
 
 same-length-4 : tie.Need-same-length-4
 same-length-4 c =
-    c .before .before .before .before .before .before .before .before .before .before .before .eat .kept .1 .1 .1 .1 .1 .0
+    c .before .before .before .before .before .before .before .before .before .before .before .eat .kept .1 .1 .0
 
 returns-3 : tie.Need-returns-3
 unfolding util.endItem plan choose chosen
@@ -127,7 +133,7 @@ returns-3 c =
     let at = c .before .before .before .before .before .at .ensures in
     let if2 = c .before .before .before .before .if2 .left in
     let close2 = c .before .before .close2 .ensures in
-    by-steps pre0 (λ b. s-mark if1 mark (s-by _ (settled state (runs-always eat)) (s-kind (s-false _ _ (kind-off _ _ _ _ at if2) (s-close close2 s-end)))))
+    by-steps pre0 (λ b. s-mark if1 mark (s-eats _ _ _ (eats-settled state eat) (s-kind (s-false _ _ (kind-off _ _ _ _ at if2) (s-close close2 s-end)))))
 
 pub var-item-spec : {M : Type 1} → statement M
 var-item-spec =

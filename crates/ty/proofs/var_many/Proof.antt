@@ -1,9 +1,9 @@
 -- by tools/prove
-use Rattle.grammar.specs.Util as util
-use Rattle.grammar.specs.Ty as types
 use Rattle.parser.specs.Runs.{kind-at, kind-off, ok-bumps}
 use Rattle.parser.specs.Plans.{plan, choose, chosen, in-steps, s-kind, s-true, s-false, s-bump, s-close, s-run, s-end}
 use mathlib.Core.Path.{_≡_, refl, _∙_}
+use Rattle.grammar.specs.Util as util
+use Rattle.grammar.specs.Ty as types
 use lib.ListN.{length}
 use borrow.Author.Needs.{needs}
 use Rattle.ty.proofs.var_many.Statement.{statement}
@@ -52,7 +52,6 @@ returns : tie.Need-returns
 unfolding types.tyVarMany util.endSep plan choose chosen
 returns c =
     let pre0 = c .before .before .before .before .before .before .before .before .before .before .before .before .before .before .before .before .before .before .before .before .before .before .before .pre .0 in
-    let pre1 = c .before .before .before .before .before .before .before .before .before .before .before .before .before .before .before .before .before .before .before .before .before .before .before .pre .1 in
     let at-n = c .before .before .before .before .before .before .before .before .before .before .before .before .before .before .before .before .at-n .ensures in
     let if1 = c .before .before .before .before .before .before .before .before .before .before .before .before .before .before .before .if1 .taken in
     let bump = c .before .before .before .before .before .before .before .before .before .before .before .before .before .bump .ensures in
@@ -64,7 +63,6 @@ returns-2 : tie.Need-returns-2
 unfolding types.tyVarMany util.endSep plan choose chosen
 returns-2 c =
     let pre0 = c .before .before .before .before .before .before .before .before .pre .0 in
-    let pre1 = c .before .before .before .before .before .before .before .before .pre .1 in
     let at-n = c .before .at-n .ensures in
     let if1 = c .if1 .left in
     in-steps pre0 (s-kind (s-false _ _ (kind-off _ _ _ _ at-n if1) s-end))

@@ -1,8 +1,8 @@
 -- by tools/prove
-use Rattle.grammar.specs.Ty as types
-use Rattle.parser.specs.Runs.{asks, ok-bumps, ok-adds, ok-marks, ok-refused}
+use Rattle.parser.specs.Runs.{ok-bumps, ok-adds, ok-marks, ok-refused, small-len}
 use Rattle.parser.specs.Plans.{plan, choose, chosen, in-steps, s-bump, s-close, s-mark, s-deep, s-end}
 use mathlib.Core.Path.{_≡_, refl, _∙_}
+use Rattle.grammar.specs.Ty as types
 use lib.ListN.{length}
 use borrow.Author.Needs.{needs}
 use Rattle.ty.proofs.var_one.Statement.{statement}
@@ -34,7 +34,6 @@ returns : tie.Need-returns
 unfolding types.tyVarOne plan choose chosen
 returns c =
     let pre0 = c .before .before .before .before .before .before .before .before .before .before .before .before .pre .0 in
-    let pre1 = c .before .before .before .before .before .before .before .before .before .before .before .before .pre .1 in
     let if1 = c .before .before .before .before .before .if1 .taken in
     let refuse = c .before .before .before .before .refuse .ensures in
     let close = c .before .before .close .ensures in
@@ -54,13 +53,11 @@ bump-requires c κs =
 close-requires-2 : tie.Need-close-requires-2
 close-requires-2 c κs =
     let pre0 = c .before .before .before .before .before .before .before .before .before .before .before .before .before .pre .0 in
-    let pre1 = c .before .before .before .before .before .before .before .before .before .before .before .before .before .pre .1 in
-    let if1 = c .before .before .before .before .before .before .if1 .left in
     let mark = c .before .before .before .before .before .mark .ensures in
     let mark-ok = ok-marks mark pre0 in
     let bump = c .before .before .before .bump .ensures in
     let bump-ok = ok-bumps bump mark-ok in
-    search asks depth 8
+    (bump-ok .logs, small-len mark-ok)
 
 close-requires-3 : tie.Need-close-requires-3
 close-requires-3 c κs =
@@ -82,7 +79,6 @@ returns-2 : tie.Need-returns-2
 unfolding types.tyVarOne plan choose chosen
 returns-2 c =
     let pre0 = c .before .before .before .before .before .before .before .before .before .before .before .before .before .before .before .before .before .before .before .before .pre .0 in
-    let pre1 = c .before .before .before .before .before .before .before .before .before .before .before .before .before .before .before .before .before .before .before .before .pre .1 in
     let if1 = c .before .before .before .before .before .before .before .before .before .before .before .before .before .if1 .left in
     let mark = c .before .before .before .before .before .before .before .before .before .before .before .before .mark .ensures in
     let bump = c .before .before .before .before .before .before .before .before .before .before .bump .ensures in

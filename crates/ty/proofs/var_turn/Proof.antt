@@ -1,9 +1,9 @@
 -- by tools/prove
-use Rattle.grammar.specs.Util as util
-use Rattle.parser.specs.Runs.{runs-in, runs-always, kind-at, kind-off}
-use Rattle.parser.specs.Plans.{plan, choose, chosen, by-steps, s-kind, s-true, s-false, s-bump, s-by, settled, s-end}
+use Rattle.parser.specs.Runs.{runs-in, kind-at, kind-off}
+use Rattle.parser.specs.Plans.{plan, choose, chosen, by-steps, s-kind, s-true, s-false, s-bump, s-by, s-eats, eats-settled, s-end}
 use native.Mathlib.Omega.{arith}
 use mathlib.Core.Path.{_≡_, refl, _∙_}
+use Rattle.grammar.specs.Util as util
 use lib.ListN.{length}
 use borrow.Author.Needs.{needs}
 use Rattle.ty.proofs.var_turn.Statement.{statement}
@@ -62,7 +62,7 @@ eat-requires c κs =
     let if1 = c .before .before .before .before .before .before .before .before .before .before .before .before .if1 .left in
     let var-item = rw (c .before .before .before .item2 .given .1) at (c .before .before .before .before .before .before .before .before .before .var-item .ensures) in
     let var-item-ok = var-item .ok in
-    (var-item-ok, omega arith)
+    (var-item-ok .reads, var-item-ok .logs, var-item-ok .holds, omega arith)
 
 state-requires : tie.Need-state-requires
 state-requires c κs =
@@ -87,11 +87,11 @@ returns-2 c =
 
 same-length-4 : tie.Need-same-length-4
 same-length-4 c =
-    c .before .before .before .before .before .eat .kept .1 .1 .1 .1 .0 ∙ c .before .before .before .before .before .before .before .before .before .before .before .before .before .before .before .var-item .kept .1 .1 .1 .1 .0
+    c .before .before .before .before .before .eat .kept .1 .0 ∙ c .before .before .before .before .before .before .before .before .before .before .before .before .before .before .before .var-item .kept .1 .1 .1 .1 .0
 
 same-length-5 : tie.Need-same-length-5
 same-length-5 c =
-    c .before .before .before .before .before .eat .kept .1 .1 .1 .1 .1 .0 ∙ c .before .before .before .before .before .before .before .before .before .before .before .before .before .before .before .var-item .kept .1 .1 .1 .1 .1 .0
+    c .before .before .before .before .before .eat .kept .1 .1 .0 ∙ c .before .before .before .before .before .before .before .before .before .before .before .before .before .before .before .var-item .kept .1 .1 .1 .1 .1 .0
 
 returns-3 : tie.Need-returns-3
 unfolding util.endTurn plan choose chosen
@@ -102,7 +102,7 @@ returns-3 c =
     let var-item = rw (c .before .before .before .before .before .before .before .before .before .item2 .given .1) at (c .before .before .before .before .before .before .before .before .before .before .before .before .before .before .before .var-item .ensures) in
     let eat = c .before .before .before .before .before .eat .ensures in
     let state = c .state .ensures in
-    by-steps pre0 (λ b. s-kind (s-false _ _ (kind-off _ _ _ _ at if1) (s-by _ (runs-in var-item) (s-by _ (settled state (runs-always eat)) s-end))))
+    by-steps pre0 (λ b. s-kind (s-false _ _ (kind-off _ _ _ _ at if1) (s-by _ (runs-in var-item) (s-eats _ _ _ (eats-settled state eat) s-end))))
 
 pub var-turn-spec : {M : Type 1} → statement M
 var-turn-spec =

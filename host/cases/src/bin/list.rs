@@ -1,6 +1,7 @@
 //! Lists one token file from standard input as document 01 says, with the
 //! oracle's outcome: what the listing program is held to.
 
+use cases::tok::Laid;
 use oracle::{Case, Outcome};
 use sml_syntax::kind::SyntaxKind;
 use std::fmt::Write as _;
@@ -22,17 +23,14 @@ fn case(file: &[u8]) -> Option<Case> {
         return None;
     }
     let (text, records) = rest.split_at(text);
-    Some(Case {
+    let laid = Laid {
         text: text.to_vec(),
         records: records.to_vec(),
-        env: oracle::std_env(),
-        depth: u64::from(u16::from_le_bytes([e, f])),
-        mode: u64::from(mode),
-        scratch: MOST,
-        nodes: MOST,
-        finds: MOST,
-        fin: MOST,
-    })
+    };
+    let mut ret = cases::standard(laid, MOST);
+    ret.depth = u64::from(u16::from_le_bytes([e, f]));
+    ret.mode = u64::from(mode);
+    Some(ret)
 }
 
 /// The name of a token's kind: the source's, without the `Kw` of a keyword.

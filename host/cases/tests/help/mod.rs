@@ -8,18 +8,7 @@ use sml_syntax::kind::SyntaxKind;
 
 /// A roomy case of these tokens in the standard environment, plain.
 pub fn case(toks: &[Tok]) -> Case {
-    let laid = tok::plain(toks);
-    Case {
-        text: laid.text,
-        records: laid.records,
-        env: oracle::std_env(),
-        depth: 1000,
-        mode: 1,
-        scratch: 65_536,
-        nodes: 65_536,
-        finds: 65_536,
-        fin: 65_536,
-    }
+    cases::standard(tok::plain(toks), 65_536)
 }
 
 /// The case of a line of words.

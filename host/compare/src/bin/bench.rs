@@ -10,55 +10,42 @@
 //! ```
 
 use compare::file::file;
+use compare::lent::{Buffers, call};
 use compare::options::{number, pairs};
 use oracle::Case;
 use oracle::here::{Ready, whole};
-use sml_reader::{Call, Room, Stack, with_stack};
+use sml_reader::{Stack, with_stack};
 use std::hint::black_box;
 use std::process::{Command, ExitCode};
 use std::time::Instant;
 
-const USAGE: &str = "usage: bench [--seed 1] [--rounds 200] [--instructions 0|1]\n\
-                     \x20      bench --once ours|whole|get --tokens N [--seed 1]";
+const USAGE: &str = "usage: bench [--seed 1] [--rounds 200] [--instructions 0|1] [--fixities 0|1]\n\
+                     \x20      bench --once ours|whole|get --tokens N [--changes N] [--seed 1]";
 
 const SIZES: [usize; 3] = [1000, 4000, 13_000];
 
-/// Buffers as large as a file needs, lent again and again.
-struct Buffers {
-    scratch: Vec<u8>,
-    nodes: Vec<u8>,
-    findings: Vec<u8>,
-    environment: Vec<u8>,
+/// The sizes of files that change fixities, and how often they do.
+const CHANGED_SIZES: [usize; 2] = [4000, 13_000];
+const CHANGES: [usize; 4] = [0, 30, 300, 1000];
+
+/// A file to be read.
+#[derive(Clone, Copy)]
+struct Asked {
+    seed: u64,
+    tokens: usize,
+    changes: Option<usize>,
 }
 
-impl Buffers {
-    fn new(case: &Case) -> Self {
-        Self {
-            scratch: vec![0; case.scratch],
-            nodes: vec![0; case.nodes],
-            findings: vec![0; case.finds],
-            environment: vec![0; case.fin],
-        }
+impl Asked {
+    fn case(self) -> Case {
+        file(self.seed, self.tokens, self.changes)
     }
 }
 
 /// A call of the archive; gives the count of bytes of the nodes.
 #[inline(never)]
 fn once_ours(stack: &Stack, case: &Case, buffers: &mut Buffers) -> usize {
-    let call = Call {
-        text: &case.text,
-        records: &case.records,
-        environment: &case.env,
-        depth: case.depth,
-        mode: case.mode,
-    };
-    let room = Room {
-        scratch: &mut buffers.scratch,
-        nodes: &mut buffers.nodes,
-        findings: &mut buffers.findings,
-        environment: &mut buffers.environment,
-    };
-    let used = stack.read_into(&call, room);
+    let used = stack.read_into(&call(case), buffers.room());
     used.expect("a file that is read").nodes
 }
 
@@ -112,13 +99,17 @@ fn once(stack: &Stack, what: &str, case: &Case) -> Result<(), String> {
 }
 
 /// The instructions of one call.
-fn instructions(what: &str, seed: u64, tokens: usize) -> Result<f64, String> {
+fn instructions(what: &str, asked: Asked) -> Result<f64, String> {
     let program = std::env::current_exe().map_err(|it| it.to_string())?;
     let mut command = Command::new("valgrind");
     command.args(["--tool=callgrind", "--callgrind-out-file=/dev/null"]);
     command.arg(format!("--toggle-collect=bench::once_{what}*"));
     command.arg(program).args(["--once", what]);
-    command.args(["--tokens", &tokens.to_string(), "--seed", &seed.to_string()]);
+    command.args(["--tokens", &asked.tokens.to_string()]);
+    command.args(["--seed", &asked.seed.to_string()]);
+    if let Some(changes) = asked.changes {
+        command.args(["--changes", &changes.to_string()]);
+    }
     let done = command.output().map_err(|it| format!("valgrind: {it}"))?;
     let text = String::from_utf8_lossy(&done.stderr);
     let line = text.lines().find_map(|it| it.split_once("Collected : "));
@@ -129,45 +120,79 @@ fn instructions(what: &str, seed: u64, tokens: usize) -> Result<f64, String> {
 }
 
 /// The instructions of one call of each.
-fn counts(seed: u64, tokens: usize) -> Result<[f64; 3], String> {
+fn counts(asked: Asked) -> Result<[f64; 3], String> {
     Ok([
-        instructions("ours", seed, tokens)?,
-        instructions("whole", seed, tokens)?,
-        instructions("get", seed, tokens)?,
+        instructions("ours", asked)?,
+        instructions("whole", asked)?,
+        instructions("get", asked)?,
     ])
 }
 
-fn table(stack: &Stack, seed: u64, rounds: u64, counted: bool) -> Result<(), String> {
+fn table(stack: &Stack, all: &[Asked], rounds: u64, counted: bool) -> Result<(), String> {
     let unit = if counted { "instructions" } else { "µs" };
     println!("{unit}; whole: the source from records to bytes; get: its `get` alone");
-    println!("tokens         ours        whole   ours/whole          get   ours/get");
-    for size in SIZES {
-        let case = file(seed, size);
+    println!("tokens changes         ours        whole   ours/whole          get   ours/get");
+    for asked in all {
+        let case = asked.case();
         let [ours, whole, get] = if counted {
-            counts(seed, size)?
+            counts(*asked)?
         } else {
             times(stack, &case, rounds)
         };
         let tokens = case.records.len() / 5;
+        let changes = asked.changes.map_or("-".to_owned(), |it| it.to_string());
         let (to_whole, to_get) = (ours / whole, ours / get);
         println!(
-            "{tokens:>6} {ours:>12.0} {whole:>12.0} {to_whole:>12.2} {get:>12.0} {to_get:>10.2}"
+            "{tokens:>6} {changes:>7} {ours:>12.0} {whole:>12.0} {to_whole:>12.2} {get:>12.0} {to_get:>10.2}"
         );
     }
     Ok(())
 }
 
+/// The files of a table.
+fn asked(seed: u64, fixities: bool) -> Vec<Asked> {
+    let one = |tokens, changes| Asked {
+        seed,
+        tokens,
+        changes,
+    };
+    if !fixities {
+        return SIZES.map(|tokens| one(tokens, None)).to_vec();
+    }
+    let sizes = CHANGED_SIZES.into_iter();
+    let each = sizes.flat_map(|tokens| CHANGES.map(|changes| one(tokens, Some(changes))));
+    each.collect()
+}
+
 fn run() -> Result<(), String> {
-    let names = ["--seed", "--rounds", "--instructions", "--once", "--tokens"];
+    let names = [
+        "--seed",
+        "--rounds",
+        "--instructions",
+        "--fixities",
+        "--once",
+        "--tokens",
+        "--changes",
+    ];
     let pairs = pairs(std::env::args().skip(1), &names)?;
     let seed = number(&pairs, "--seed", Some(1))?;
     let rounds = number(&pairs, "--rounds", Some(200))?.max(1);
     let counted = number(&pairs, "--instructions", Some(0))? != 0;
+    let fixities = number(&pairs, "--fixities", Some(0))? != 0;
     with_stack(|stack| match pairs.get("--once") {
-        None => table(stack, seed, rounds, counted),
+        None => table(stack, &asked(seed, fixities), rounds, counted),
         Some(what) => {
-            let tokens = number(&pairs, "--tokens", None)?;
-            once(stack, what, &file(seed, tokens.min(13_107) as usize))
+            let tokens = number(&pairs, "--tokens", None)?.min(13_107) as usize;
+            let changes = match pairs.get("--changes") {
+                None => None,
+                Some(_) => Some(number(&pairs, "--changes", None)?.min(1024) as usize),
+            };
+            let asked = Asked {
+                seed,
+                tokens,
+                changes,
+            };
+            once(stack, what, &asked.case())
         }
     })
 }

@@ -1,7 +1,7 @@
 -- by tools/prove
+use Rattle.parser.specs.Runs.{test-true, test-false}
+use Rattle.parser.specs.Plans.{plan, choose, chosen, takes, s-look, s-true, s-false, s-bump, s-end}
 use Rattle.grammar.specs.Util as util
-use Rattle.parser.specs.Runs.{asks, test-true, test-false}
-use Rattle.parser.specs.Plans.{plan, choose, chosen, always, s-look, s-true, s-false, s-bump, s-end}
 use lib.ListN.{length}
 use borrow.Author.Needs.{needs}
 use Rattle.parser.proofs.util.bump_ascription.Statement.{statement}
@@ -14,39 +14,36 @@ use Rattle.parser.proofs.util.ascription.Reads as ascription-reads
 
 peek-requires : tie.Need-peek-requires
 peek-requires c κs =
-    let pre0 = c .before .before .before .before .before .before .pre in
-    search asks depth 8
+    let pre0 = c .before .before .pre .0 in
+    pre0
 
 enum-known-k : tie.Need-enum-known-k
 enum-known-k c =
-    let pre0 = c .before .before .before .before .before .before .before .before .pre in
+    let pre0 = c .before .before .before .before .pre .0 in
+    let pre1 = c .before .before .before .before .pre .1 in
     search needs
 
 enum-told : tie.Need-enum-told
 enum-told c =
-    let pre0 = c .before .before .before .before .before .before .before .before .pre in
+    let pre0 = c .before .before .before .before .pre .0 in
+    let pre1 = c .before .before .before .before .pre .1 in
     search needs
 
 returns : tie.Need-returns
 unfolding util.bumpAscription plan choose chosen
 returns c =
-    let pre0 = c .before .before .before .before .before .before .before .before .before .pre in
     let peek = rw (c .enum-told .given .1) at (c .before .before .peek .ensures) in
-    always pre0 (λ n b. s-look peek s-end)
+    takes (λ x e j h n b. s-look peek s-end)
 
 ascription-requires : tie.Need-ascription-requires
 ascription-requires c κs =
-    let pre0 = c .before .before .before .before .before .before .before .before .before .before .pre in
-    let peek = rw (c .before .k .given .1) at (c .before .before .before .peek .ensures) in
-    search asks depth 8
+    tt
 
 bump-requires : tie.Need-bump-requires
 bump-requires c κs =
-    let pre0 = c .before .before .before .before .before .before .before .before .before .before .before .before .before .pre in
-    let peek = rw (c .before .before .before .before .k .given .1) at (c .before .before .before .before .before .before .peek .ensures) in
-    let ascription = c .before .before .ascription .ensures in
-    let if1 = c .before .if1 .taken in
-    search asks depth 8
+    let pre0 = c .before .before .before .before .before .before .before .before .before .pre .0 in
+    let pre1 = c .before .before .before .before .before .before .before .before .before .pre .1 in
+    (pre0, pre1)
 
 same-length : tie.Need-same-length
 same-length c =
@@ -55,21 +52,19 @@ same-length c =
 returns-2 : tie.Need-returns-2
 unfolding util.bumpAscription plan choose chosen
 returns-2 c =
-    let pre0 = c .before .before .before .before .before .before .before .before .before .before .before .before .before .before .before .before .pre in
     let peek = rw (c .before .before .before .before .before .before .before .k .given .1) at (c .before .before .before .before .before .before .before .before .before .peek .ensures) in
     let ascription = c .before .before .before .before .before .ascription .ensures in
     let if1 = c .before .before .before .before .if1 .taken in
     let bump = c .before .before .bump .ensures in
-    always pre0 (λ n b. s-look peek (s-true _ _ (test-true ascription if1) (s-bump bump s-end)))
+    takes (λ x e j h n b. s-look peek (s-true _ _ (test-true ascription if1) (s-bump bump s-end)))
 
 returns-3 : tie.Need-returns-3
 unfolding util.bumpAscription plan choose chosen
 returns-3 c =
-    let pre0 = c .before .before .before .before .before .before .before .before .before .before .before .before .pre in
     let peek = rw (c .before .before .before .k .given .1) at (c .before .before .before .before .before .peek .ensures) in
     let ascription = c .before .ascription .ensures in
     let if1 = c .if1 .left in
-    always pre0 (λ n b. s-look peek (s-false _ _ (test-false ascription if1) s-end))
+    takes (λ x e j h n b. s-look peek (s-false _ _ (test-false ascription if1) s-end))
 
 pub bump-ascription-spec : {M : Type 1} → statement M
 bump-ascription-spec =

@@ -1,7 +1,7 @@
 -- by tools/prove
+use Rattle.parser.specs.Runs.{kind-at, kind-off}
+use Rattle.parser.specs.Plans.{plan, choose, chosen, takes, s-kind, s-true, s-false, s-bump, s-end}
 use Rattle.grammar.specs.Util as util
-use Rattle.parser.specs.Runs.{asks, kind-at, kind-off}
-use Rattle.parser.specs.Plans.{plan, choose, chosen, always, s-kind, s-true, s-false, s-bump, s-end}
 use lib.ListN.{length}
 use borrow.Author.Needs.{needs}
 use Rattle.parser.proofs.util.bump_if.Statement.{statement}
@@ -13,15 +13,14 @@ use Rattle.parser.proofs.bump.Reads as bump-reads
 
 at-requires : tie.Need-at-requires
 at-requires c κs =
-    let pre0 = c .before .before .before .before .before .before .pre in
-    search asks depth 8
+    let pre0 = c .before .before .pre .0 in
+    pre0
 
 bump-requires : tie.Need-bump-requires
 bump-requires c κs =
-    let pre0 = c .before .before .before .before .before .before .before .before .before .pre in
-    let at = c .before .before .at .ensures in
-    let if1 = c .before .if1 .taken in
-    search asks depth 8
+    let pre0 = c .before .before .before .before .before .pre .0 in
+    let pre1 = c .before .before .before .before .before .pre .1 in
+    (pre0, pre1)
 
 same-length : tie.Need-same-length
 same-length c =
@@ -30,19 +29,17 @@ same-length c =
 returns : tie.Need-returns
 unfolding util.bumpIf plan choose chosen
 returns c =
-    let pre0 = c .before .before .before .before .before .before .before .before .before .before .before .before .pre in
     let at = c .before .before .before .before .before .at .ensures in
     let if1 = c .before .before .before .before .if1 .taken in
     let bump = c .before .before .bump .ensures in
-    always pre0 (λ n b. s-kind (s-true _ _ (kind-at _ _ _ _ at if1) (s-bump bump s-end)))
+    takes (λ x e j h n b. s-kind (s-true _ _ (kind-at _ _ _ _ at if1) (s-bump bump s-end)))
 
 returns-2 : tie.Need-returns-2
 unfolding util.bumpIf plan choose chosen
 returns-2 c =
-    let pre0 = c .before .before .before .before .before .before .before .before .pre in
     let at = c .before .at .ensures in
     let if1 = c .if1 .left in
-    always pre0 (λ n b. s-kind (s-false _ _ (kind-off _ _ _ _ at if1) s-end))
+    takes (λ x e j h n b. s-kind (s-false _ _ (kind-off _ _ _ _ at if1) s-end))
 
 pub bump-if-spec : {M : Type 1} → statement M
 bump-if-spec = tie.close (tie.spec at-requires bump-requires same-length returns returns-2)

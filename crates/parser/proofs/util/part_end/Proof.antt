@@ -1,8 +1,8 @@
 -- by tools/prove
-use Rattle.grammar.specs.Util as util
-use Rattle.parser.specs.Runs.{asks, kind-at, kind-off, ok-bumps}
+use Rattle.parser.specs.Runs.{kind-at, kind-off, ok-bumps}
 use Rattle.parser.specs.Plans.{plan, choose, chosen, in-steps, s-kind, s-true, s-false, s-bump, s-close, s-end}
 use mathlib.Core.Path.{_≡_, refl, _∙_}
+use Rattle.grammar.specs.Util as util
 use lib.ListN.{length}
 use borrow.Author.Needs.{needs}
 use Rattle.parser.proofs.util.part_end.Statement.{statement}
@@ -16,34 +16,26 @@ use Rattle.parser.proofs.close.Reads as close-reads
 at-requires : tie.Need-at-requires
 at-requires c κs =
     let pre0 = c .before .before .before .before .before .before .pre .0 in
-    let pre1 = c .before .before .before .before .before .before .pre .1 in
-    search asks depth 8
+    pre0 .reads
 
 bump-requires : tie.Need-bump-requires
 bump-requires c κs =
     let pre0 = c .before .before .before .before .before .before .before .before .before .pre .0 in
-    let pre1 = c .before .before .before .before .before .before .before .before .before .pre .1 in
-    let at = c .before .before .at .ensures in
-    let if1 = c .before .if1 .taken in
-    search asks depth 8
+    (pre0 .reads, pre0 .logs)
 
 close-requires : tie.Need-close-requires
 close-requires c κs =
     let pre0 = c .before .before .before .before .before .before .before .before .before .before .before .before .before .pre .0 in
     let pre1 = c .before .before .before .before .before .before .before .before .before .before .before .before .before .pre .1 in
-    let at = c .before .before .before .before .before .before .at .ensures in
-    let if1 = c .before .before .before .before .before .if1 .taken in
     let bump = c .before .before .before .bump .ensures in
     let bump-ok = ok-bumps bump pre0 in
-    search asks depth 8
+    (bump-ok .logs, pre1)
 
 close-requires-2 : tie.Need-close-requires-2
 close-requires-2 c κs =
     let pre0 = c .before .before .before .before .before .before .before .before .before .pre .0 in
     let pre1 = c .before .before .before .before .before .before .before .before .before .pre .1 in
-    let at = c .before .before .at .ensures in
-    let if1 = c .before .if1 .left in
-    search asks depth 8
+    (pre0 .logs, pre1)
 
 same-length : tie.Need-same-length
 same-length c =
@@ -53,7 +45,6 @@ returns : tie.Need-returns
 unfolding util.partEnd plan choose chosen
 returns c =
     let pre0 = c .before .before .before .before .before .before .before .before .before .before .before .before .before .before .before .before .pre .0 in
-    let pre1 = c .before .before .before .before .before .before .before .before .before .before .before .before .before .before .before .before .pre .1 in
     let at = c .before .before .before .before .before .before .before .before .before .at .ensures in
     let if1 = c .before .before .before .before .before .before .before .before .if1 .taken in
     let bump = c .before .before .before .before .before .before .bump .ensures in
@@ -68,7 +59,6 @@ returns-2 : tie.Need-returns-2
 unfolding util.partEnd plan choose chosen
 returns-2 c =
     let pre0 = c .before .before .before .before .before .before .before .before .before .before .before .before .pre .0 in
-    let pre1 = c .before .before .before .before .before .before .before .before .before .before .before .before .pre .1 in
     let at = c .before .before .before .before .before .at .ensures in
     let if1 = c .before .before .before .before .if1 .left in
     let close2 = c .before .before .close2 .ensures in

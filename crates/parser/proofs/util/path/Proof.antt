@@ -1,7 +1,7 @@
 -- by tools/prove
-use Rattle.grammar.specs.Util as util
-use Rattle.parser.specs.Runs.{asks, runs-in, test-true, test-false}
+use Rattle.parser.specs.Runs.{runs-in, test-true, test-false}
 use Rattle.parser.specs.Plans.{plan, choose, chosen, by-steps, s-look, s-true, s-false, s-by, s-end}
+use Rattle.grammar.specs.Util as util
 use lib.ListN.{length}
 use borrow.Author.Needs.{needs}
 use Rattle.parser.proofs.util.path.Statement.{statement}
@@ -15,7 +15,7 @@ use Rattle.parser.proofs.util.path_here.Reads as path-here-reads
 peek-requires : tie.Need-peek-requires
 peek-requires c κs =
     let pre0 = c .before .before .before .before .before .before .pre in
-    search asks depth 8
+    pre0 .reads
 
 enum-known-k : tie.Need-enum-known-k
 enum-known-k c =
@@ -36,17 +36,12 @@ returns c =
 
 name-star-eq-requires : tie.Need-name-star-eq-requires
 name-star-eq-requires c κs =
-    let pre0 = c .before .before .before .before .before .before .before .before .before .before .pre in
-    let peek = rw (c .before .k .given .1) at (c .before .before .before .peek .ensures) in
-    search asks depth 8
+    tt
 
 path-here-requires : tie.Need-path-here-requires
 path-here-requires c κs =
     let pre0 = c .before .before .before .before .before .before .before .before .before .before .before .before .before .before .pre in
-    let peek = rw (c .before .before .before .before .before .k .given .1) at (c .before .before .before .before .before .before .before .peek .ensures) in
-    let name-star-eq = c .before .before .before .name-star-eq .ensures in
-    let if1 = c .before .before .if1 .taken in
-    search asks depth 8
+    pre0
 
 same-length : tie.Need-same-length
 same-length c =

@@ -1,8 +1,8 @@
 -- by tools/prove
-use Rattle.grammar.specs.Util as util
-use Rattle.parser.specs.Runs.{asks, runs-in, ok-marks}
+use Rattle.parser.specs.Runs.{runs-in, ok-marks, small-len}
 use Rattle.parser.specs.Plans.{plan, choose, chosen, by-steps, s-close, s-mark, s-deep, s-by, s-run, s-end}
 use mathlib.Core.Path.{_≡_, refl, _∙_}
+use Rattle.grammar.specs.Util as util
 use lib.ListN.{length}
 use borrow.Author.Needs.{needs}
 use Rattle.parser.proofs.util.path_here.Statement.{statement}
@@ -17,9 +17,7 @@ use Rattle.parser.proofs.util.path_start.Reads as path-start-reads
 
 refuse-requires : tie.Need-refuse-requires
 refuse-requires c κs =
-    let pre0 = c .before .before .before .before .before .before .before .pre in
-    let if1 = c .if1 .taken in
-    search asks depth 8
+    tt
 
 returns : tie.Need-returns
 unfolding util.pathHere plan choose chosen
@@ -31,9 +29,7 @@ returns c =
 
 mark-requires : tie.Need-mark-requires
 mark-requires c κs =
-    let pre0 = c .before .before .before .before .before .before .before .pre in
-    let if1 = c .if1 .left in
-    search asks depth 8
+    tt
 
 sub-path-start : tie.Need-sub-path-start
 sub-path-start c =
@@ -44,10 +40,9 @@ sub-path-start c =
 path-start-requires : tie.Need-path-start-requires
 path-start-requires c κs =
     let pre0 = c .before .before .before .before .before .before .before .before .before .before .pre in
-    let if1 = c .before .before .before .if1 .left in
     let mark = c .before .before .mark .ensures in
     let mark-ok = ok-marks mark pre0 in
-    search asks depth 8
+    mark-ok
 
 enum-known-start : tie.Need-enum-known-start
 enum-known-start c =
@@ -63,25 +58,18 @@ sub-path-parts c =
 
 path-parts-requires : tie.Need-path-parts-requires
 path-parts-requires c κs =
-    let pre0 = c .before .before .before .before .before .before .before .before .before .before .before .before .before .before .before .before .before .before .before .before .pre in
-    let if1 = c .before .before .before .before .before .before .before .before .before .before .before .before .before .if1 .left in
-    let mark = c .before .before .before .before .before .before .before .before .before .before .before .before .mark .ensures in
-    let mark-ok = ok-marks mark pre0 in
     let path-start = rw (c .before .before .before .start .given .1) at (c .before .before .before .before .before .before .before .before .before .path-start .ensures) in
     let path-start-ok = path-start .ok in
-    search asks depth 8
+    path-start-ok
 
 close-requires : tie.Need-close-requires
 close-requires c κs =
     let pre0 = c .before .before .before .before .before .before .before .before .before .before .before .before .before .before .before .before .before .before .before .before .before .before .before .before .before .before .pre in
-    let if1 = c .before .before .before .before .before .before .before .before .before .before .before .before .before .before .before .before .before .before .before .if1 .left in
     let mark = c .before .before .before .before .before .before .before .before .before .before .before .before .before .before .before .before .before .before .mark .ensures in
     let mark-ok = ok-marks mark pre0 in
-    let path-start = rw (c .before .before .before .before .before .before .before .before .before .start .given .1) at (c .before .before .before .before .before .before .before .before .before .before .before .before .before .before .before .path-start .ensures) in
-    let path-start-ok = path-start .ok in
     let path-parts = c .before .before .before .before .before .path-parts .ensures in
     let path-parts-ok = path-parts .ok in
-    search asks depth 8
+    (path-parts-ok .logs, small-len mark-ok)
 
 enum-known-start-2 : tie.Need-enum-known-start-2
 enum-known-start-2 c =
@@ -92,12 +80,11 @@ enum-known-start-2 c =
 close-requires-2 : tie.Need-close-requires-2
 close-requires-2 c κs =
     let pre0 = c .before .before .before .before .before .before .before .before .before .before .before .before .before .before .before .before .before .before .before .pre in
-    let if1 = c .before .before .before .before .before .before .before .before .before .before .before .before .if1 .left in
     let mark = c .before .before .before .before .before .before .before .before .before .before .before .mark .ensures in
     let mark-ok = ok-marks mark pre0 in
     let path-start = rw (c .before .before .start2 .given .1) at (c .before .before .before .before .before .before .before .before .path-start .ensures) in
     let path-start-ok = path-start .ok in
-    search asks depth 8
+    (path-start-ok .logs, small-len mark-ok)
 
 same-length : tie.Need-same-length
 same-length c =

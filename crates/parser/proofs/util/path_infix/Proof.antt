@@ -1,8 +1,9 @@
 -- by tools/prove
-use Rattle.grammar.specs.Util as util
-use Rattle.parser.specs.Runs.{asks, runs-in, runs-always, ok-state}
-use Rattle.parser.specs.Plans.{plan, choose, chosen, by-steps, s-by, settled, s-end}
+use Rattle.parser.specs.Runs.{runs-in, runs-always, ok-eats, ok-state}
+use Rattle.parser.specs.Plans.{plan, choose, chosen, by-steps, s-by, s-eats, eats-settled, s-end}
+use native.Mathlib.Omega.{arith}
 use mathlib.Core.Path.{_≡_, refl, _∙_}
+use Rattle.grammar.specs.Util as util
 use lib.ListN.{length}
 use borrow.Author.Needs.{needs}
 use Rattle.parser.proofs.util.path_infix.Statement.{statement}
@@ -17,42 +18,35 @@ use Rattle.parser.proofs.util.unnecessary_op.Reads as unnecessary-op-re
 unnecessary-op-requires : tie.Need-unnecessary-op-requires
 unnecessary-op-requires c κs =
     let pre0 = c .before .before .before .before .before .before .before .before .pre in
-    search asks depth 8
+    pre0
 
 eat-requires : tie.Need-eat-requires
 eat-requires c κs =
-    let pre0 = c .before .before .before .before .before .before .before .before .before .before .before .before .before .before .before .pre in
     let unnecessary-op = c .before .before .before .before .before .before .unnecessary-op .ensures in
     let unnecessary-op-ok = unnecessary-op .ok in
-    search asks depth 8
+    (unnecessary-op-ok .reads, unnecessary-op-ok .logs, unnecessary-op-ok .holds, omega arith)
 
 state-requires : tie.Need-state-requires
 state-requires c κs =
-    let pre0 = c .before .before .before .before .before .before .before .before .before .before .before .before .before .before .before .before .before .before .before .before .pre in
-    let unnecessary-op = c .before .before .before .before .before .before .before .before .before .before .before .unnecessary-op .ensures in
-    let unnecessary-op-ok = unnecessary-op .ok in
-    let eat = c .before .before .before .before .eat .ensures in
-    let eat-ok = eat .ok in
-    search asks depth 8
+    tt
 
 path-must-requires : tie.Need-path-must-requires
 path-must-requires c κs =
-    let pre0 = c .before .before .before .before .before .before .before .before .before .before .before .before .before .before .before .before .before .before .before .before .before .before .before .pre in
     let unnecessary-op = c .before .before .before .before .before .before .before .before .before .before .before .before .before .before .unnecessary-op .ensures in
     let unnecessary-op-ok = unnecessary-op .ok in
     let eat = c .before .before .before .before .before .before .before .eat .ensures in
-    let eat-ok = eat .ok in
+    let eat-ok = ok-eats eat unnecessary-op-ok in
     let state = c .before .before .state .ensures in
     let state-ok = ok-state state eat-ok in
-    search asks depth 8
+    state-ok
 
 same-length : tie.Need-same-length
 same-length c =
-    c .before .before .before .before .path-must .kept .1 .1 .1 .1 .0 ∙ c .before .before .before .before .before .before .before .before .before .before .before .before .eat .kept .1 .1 .1 .1 .0 ∙ c .before .before .before .before .before .before .before .before .before .before .before .before .before .before .before .before .before .before .before .unnecessary-op .kept .1 .1 .1 .1 .0
+    c .before .before .before .before .path-must .kept .1 .1 .1 .1 .0 ∙ c .before .before .before .before .before .before .before .before .before .before .before .before .eat .kept .1 .0 ∙ c .before .before .before .before .before .before .before .before .before .before .before .before .before .before .before .before .before .before .before .unnecessary-op .kept .1 .1 .1 .1 .0
 
 same-length-2 : tie.Need-same-length-2
 same-length-2 c =
-    c .before .before .before .before .path-must .kept .1 .1 .1 .1 .1 .0 ∙ c .before .before .before .before .before .before .before .before .before .before .before .before .eat .kept .1 .1 .1 .1 .1 .0 ∙ c .before .before .before .before .before .before .before .before .before .before .before .before .before .before .before .before .before .before .before .unnecessary-op .kept .1 .1 .1 .1 .1 .0
+    c .before .before .before .before .path-must .kept .1 .1 .1 .1 .1 .0 ∙ c .before .before .before .before .before .before .before .before .before .before .before .before .eat .kept .1 .1 .0 ∙ c .before .before .before .before .before .before .before .before .before .before .before .before .before .before .before .before .before .before .before .unnecessary-op .kept .1 .1 .1 .1 .1 .0
 
 returns : tie.Need-returns
 unfolding util.pathInfix plan choose chosen
@@ -62,7 +56,7 @@ returns c =
     let eat = c .before .before .before .before .before .before .before .before .before .before .before .before .eat .ensures in
     let state = c .before .before .before .before .before .before .before .state .ensures in
     let path-must = c .before .before .before .before .path-must .ensures in
-    by-steps pre0 (λ b. s-by _ (runs-always unnecessary-op) (s-by _ (settled state (runs-always eat)) (s-by _ (runs-in path-must) s-end)))
+    by-steps pre0 (λ b. s-by _ (runs-always unnecessary-op) (s-eats _ _ _ (eats-settled state eat) (s-by _ (runs-in path-must) s-end)))
 
 pub path-infix-spec : {M : Type 1} → statement M
 path-infix-spec =

@@ -1,8 +1,9 @@
 -- by tools/prove
-use Rattle.grammar.specs.Util as util
-use Rattle.parser.specs.Runs.{asks, runs-in}
+use Rattle.parser.specs.Runs.{runs-in}
 use Rattle.parser.specs.Plans.{plan, choose, chosen, by-steps, s-report, s-by, s-end}
+use native.Mathlib.Omega.{arith}
 use mathlib.Core.Path.{_≡_, refl, _∙_}
+use Rattle.grammar.specs.Util as util
 use lib.ListN.{length}
 use borrow.Author.Needs.{needs}
 use Rattle.parser.proofs.util.path_must.Statement.{statement}
@@ -15,7 +16,7 @@ use Rattle.parser.proofs.util.path.Reads as path-reads
 path-requires : tie.Need-path-requires
 path-requires c κs =
     let pre0 = c .before .before .before .before .before .before .before .before .pre in
-    search asks depth 8
+    pre0
 
 enum-known-got : tie.Need-enum-known-got
 enum-known-got c =
@@ -29,10 +30,9 @@ enum-known-got-2 c =
 
 report-requires : tie.Need-report-requires
 report-requires c κs =
-    let pre0 = c .before .before .before .before .before .before .before .before .before .before .before .before .before .before .before .before .before .pre in
     let path = rw (c .before .before .got2 .given .1) at (c .before .before .before .before .before .before .before .before .path .ensures) in
     let path-ok = path .ok in
-    search asks depth 8
+    (path-ok .holds, (let few = path-ok .reads .few in let inside = path-ok .reads .inside in omega arith), omega arith)
 
 same-length : tie.Need-same-length
 same-length c =

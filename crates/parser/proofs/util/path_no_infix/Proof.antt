@@ -1,8 +1,8 @@
 -- by tools/prove
-use Rattle.grammar.specs.Util as util
-use Rattle.parser.specs.Runs.{asks, runs-in, runs-always}
+use Rattle.parser.specs.Runs.{runs-in, runs-always}
 use Rattle.parser.specs.Plans.{plan, choose, chosen, by-steps, s-by, s-end}
 use mathlib.Core.Path.{_≡_, refl, _∙_}
+use Rattle.grammar.specs.Util as util
 use lib.ListN.{length}
 use borrow.Author.Needs.{needs}
 use Rattle.parser.proofs.util.path_no_infix.Statement.{statement}
@@ -15,14 +15,13 @@ use Rattle.parser.proofs.util.without_op.Reads as without-op-reads
 without-op-requires : tie.Need-without-op-requires
 without-op-requires c κs =
     let pre0 = c .before .before .before .before .before .before .before .before .pre in
-    search asks depth 8
+    pre0
 
 path-must-requires : tie.Need-path-must-requires
 path-must-requires c κs =
-    let pre0 = c .before .before .before .before .before .before .before .before .before .before .before .before .before .before .before .pre in
     let without-op = c .before .before .before .before .before .before .without-op .ensures in
     let without-op-ok = without-op .ok in
-    search asks depth 8
+    without-op-ok
 
 same-length : tie.Need-same-length
 same-length c =

@@ -1,8 +1,8 @@
 -- by tools/prove
-use Rattle.grammar.specs.Util as util
-use Rattle.parser.specs.Runs.{asks, runs-always, ok-marks, ok-state}
-use Rattle.parser.specs.Plans.{plan, choose, chosen, by-steps, s-mark, s-deep, s-by, settled, s-end}
+use Rattle.parser.specs.Runs.{ok-marks, ok-eats, ok-state, small-len}
+use Rattle.parser.specs.Plans.{plan, choose, chosen, by-steps, s-mark, s-deep, s-by, s-eats, eats-settled, s-end}
 use mathlib.Core.Path.{_≡_, refl, _∙_}
+use Rattle.grammar.specs.Util as util
 use lib.ListN.{length}
 use borrow.Author.Needs.{needs}
 use Rattle.parser.proofs.util.path_part.Statement.{statement}
@@ -17,9 +17,7 @@ use Rattle.parser.proofs.util.part_end.Reads as part-end-reads
 
 refuse-requires : tie.Need-refuse-requires
 refuse-requires c κs =
-    let pre0 = c .before .before .before .before .before .before .before .pre in
-    let if1 = c .if1 .taken in
-    search asks depth 8
+    tt
 
 returns : tie.Need-returns
 unfolding util.pathPart plan choose chosen
@@ -31,27 +29,18 @@ returns c =
 
 mark-requires : tie.Need-mark-requires
 mark-requires c κs =
-    let pre0 = c .before .before .before .before .before .before .before .pre in
-    let if1 = c .if1 .left in
-    search asks depth 8
+    tt
 
 eat-name-star-requires : tie.Need-eat-name-star-requires
 eat-name-star-requires c κs =
     let pre0 = c .before .before .before .before .before .before .before .before .before .before .pre in
-    let if1 = c .before .before .before .if1 .left in
     let mark = c .before .before .mark .ensures in
     let mark-ok = ok-marks mark pre0 in
-    search asks depth 8
+    (mark-ok .reads, mark-ok .logs, mark-ok .holds)
 
 state-requires : tie.Need-state-requires
 state-requires c κs =
-    let pre0 = c .before .before .before .before .before .before .before .before .before .before .before .before .before .before .before .pre in
-    let if1 = c .before .before .before .before .before .before .before .before .if1 .left in
-    let mark = c .before .before .before .before .before .before .before .mark .ensures in
-    let mark-ok = ok-marks mark pre0 in
-    let eat-name-star = c .before .before .before .before .eat-name-star .ensures in
-    let eat-name-star-ok = eat-name-star .ok in
-    search asks depth 8
+    tt
 
 sub-part-end : tie.Need-sub-part-end
 sub-part-end c =
@@ -62,22 +51,21 @@ sub-part-end c =
 part-end-requires : tie.Need-part-end-requires
 part-end-requires c κs =
     let pre0 = c .before .before .before .before .before .before .before .before .before .before .before .before .before .before .before .before .before .before .pre in
-    let if1 = c .before .before .before .before .before .before .before .before .before .before .before .if1 .left in
     let mark = c .before .before .before .before .before .before .before .before .before .before .mark .ensures in
     let mark-ok = ok-marks mark pre0 in
     let eat-name-star = c .before .before .before .before .before .before .before .eat-name-star .ensures in
-    let eat-name-star-ok = eat-name-star .ok in
+    let eat-name-star-ok = ok-eats eat-name-star mark-ok in
     let state = c .before .before .state .ensures in
     let state-ok = ok-state state eat-name-star-ok in
-    search asks depth 8
+    (state-ok, small-len mark-ok)
 
 same-length : tie.Need-same-length
 same-length c =
-    c .before .before .before .before .part-end .kept .1 .1 .1 .1 .0 ∙ c .before .before .before .before .before .before .before .before .before .before .before .before .eat-name-star .kept .1 .1 .1 .1 .0
+    c .before .before .before .before .part-end .kept .1 .1 .1 .1 .0 ∙ c .before .before .before .before .before .before .before .before .before .before .before .before .eat-name-star .kept .1 .0
 
 same-length-2 : tie.Need-same-length-2
 same-length-2 c =
-    c .before .before .before .before .part-end .kept .1 .1 .1 .1 .1 .0 ∙ c .before .before .before .before .before .before .before .before .before .before .before .before .eat-name-star .kept .1 .1 .1 .1 .1 .0
+    c .before .before .before .before .part-end .kept .1 .1 .1 .1 .1 .0 ∙ c .before .before .before .before .before .before .before .before .before .before .before .before .eat-name-star .kept .1 .1 .0
 
 returns-2 : tie.Need-returns-2
 unfolding util.pathPart plan choose chosen
@@ -88,7 +76,7 @@ returns-2 c =
     let eat-name-star = c .before .before .before .before .before .before .before .before .before .before .before .before .eat-name-star .ensures in
     let state = c .before .before .before .before .before .before .before .state .ensures in
     let part-end = c .before .before .before .before .part-end .ensures in
-    by-steps pre0 (λ b. s-mark if1 mark (s-by _ (settled state (runs-always eat-name-star)) (s-by _ part-end s-end)))
+    by-steps pre0 (λ b. s-mark if1 mark (s-eats _ _ _ (eats-settled state eat-name-star) (s-by _ part-end s-end)))
 
 pub path-part-spec : {M : Type 1} → statement M
 path-part-spec =

@@ -1,12 +1,12 @@
 -- by tools/prove
-use Rattle.grammar.specs.Util as util
 use Rattle.laws.specs.Progress.{path-part-advances}
 use Rattle.parser.specs.View.{mem}
-use Rattle.parser.specs.Runs.{asks, runs-in, Loops, turns, loop-starts, loop-goes, loop-falls, loop-ends}
-use borrow.Author.Needs.{needs}
+use Rattle.parser.specs.Runs.{runs-in, Loops, turns, loop-starts, loop-goes, loop-falls, loop-ends}
 use mathlib.Core.Path.{_≡_, refl, _∙_}
-use lib.ListN.{length}
 use mathlib.Core.Bool.{true}
+use Rattle.grammar.specs.Util as util
+use borrow.Author.Needs.{needs}
+use lib.ListN.{length}
 use Rattle.parser.proofs.util.path_parts.Statement.{statement}
 use Rattle.parser.proofs.util.path_parts.Tie as tie
 use Rattle.parser.proofs.util.path_parts.Reads as reads
@@ -27,9 +27,8 @@ loop-holds c =
 
 path-part-requires : tie.Need-path-part-requires Inv-loop μ-loop
 path-part-requires c κs =
-    let pre0 = c .before .before .before .before .before .before .before .before .before .pre in
     let inv = c .before .before .loop .inv .0 .ok in
-    search asks depth 8
+    inv
 
 enum-known-turn : tie.Need-enum-known-turn Inv-loop μ-loop
 enum-known-turn c =
@@ -38,13 +37,14 @@ enum-known-turn c =
 
 loop-less : tie.Need-loop-less Inv-loop μ-loop
 loop-less c =
-    let path-part = runs-in {b = 0} (rw (c .before .turn .given .1) at (c .before .before .before .before .before .before .before .path-part .ensures)) in
-    loop-falls (path-part-advances true _ _) path-part
+    let path-part = rw (c .before .turn .given .1) at (c .before .before .before .before .before .before .before .path-part .ensures) in
+    loop-falls (path-part-advances true _ _) (runs-in {b = 0} path-part)
 
 loop-again : tie.Need-loop-again Inv-loop μ-loop
 loop-again c =
-    let path-part = runs-in (rw (c .before .turn .given .1) at (c .before .before .before .before .before .before .before .path-part .ensures)) in
-    (loop-goes (path-part-advances true _ _) (c .before .before .before .before .before .before .before .before .before .before .loop .inv .0) path-part, c .before .before .before .before .before .before .before .path-part .kept .1 .1 .1 .1 .0 ∙ c .before .before .before .before .before .before .before .before .before .before .loop .inv .1, c .before .before .before .before .before .before .before .path-part .kept .1 .1 .1 .1 .1 .0 ∙ c .before .before .before .before .before .before .before .before .before .before .loop .inv .2)
+    let inv = c .before .before .before .before .before .before .before .before .before .before .loop .inv .0 in
+    let path-part = rw (c .before .turn .given .1) at (c .before .before .before .before .before .before .before .path-part .ensures) in
+    (loop-goes (path-part-advances true _ _) inv (runs-in path-part), c .before .before .before .before .before .before .before .path-part .kept .1 .1 .1 .1 .0 ∙ c .before .before .before .before .before .before .before .before .before .before .loop .inv .1, c .before .before .before .before .before .before .before .path-part .kept .1 .1 .1 .1 .1 .0 ∙ c .before .before .before .before .before .before .before .before .before .before .loop .inv .2)
 
 enum-known-turn-2 : tie.Need-enum-known-turn-2 Inv-loop μ-loop
 enum-known-turn-2 c =
@@ -61,8 +61,9 @@ same-length-2 c =
 
 returns : tie.Need-returns Inv-loop μ-loop
 returns c =
-    let path-part = runs-in (rw (c .before .turn2 .given .1) at (c .before .before .before .before .before .before .before .path-part .ensures)) in
-    loop-ends (path-part-advances true _ _) (c .before .before .before .before .before .before .before .before .before .before .loop .inv .0) path-part
+    let inv = c .before .before .before .before .before .before .before .before .before .before .loop .inv .0 in
+    let path-part = rw (c .before .turn2 .given .1) at (c .before .before .before .before .before .before .before .path-part .ensures) in
+    loop-ends (path-part-advances true _ _) inv (runs-in path-part)
 
 pub path-parts-spec : {M : Type 1} → statement M
 path-parts-spec =

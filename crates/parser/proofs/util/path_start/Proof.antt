@@ -1,8 +1,8 @@
 -- by tools/prove
-use Rattle.grammar.specs.Util as util
-use Rattle.parser.specs.Runs.{asks, ok-bumps, ok-marks}
+use Rattle.parser.specs.Runs.{ok-bumps, ok-marks, small-len}
 use Rattle.parser.specs.Plans.{plan, choose, chosen, by-steps, s-bump, s-mark, s-deep, s-by, s-end}
 use mathlib.Core.Path.{_≡_, refl, _∙_}
+use Rattle.grammar.specs.Util as util
 use lib.ListN.{length}
 use borrow.Author.Needs.{needs}
 use Rattle.parser.proofs.util.path_start.Statement.{statement}
@@ -16,9 +16,7 @@ use Rattle.parser.proofs.util.part_end.Reads as part-end-reads
 
 refuse-requires : tie.Need-refuse-requires
 refuse-requires c κs =
-    let pre0 = c .before .before .before .before .before .before .before .pre in
-    let if1 = c .if1 .taken in
-    search asks depth 8
+    tt
 
 returns : tie.Need-returns
 unfolding util.pathStart plan choose chosen
@@ -30,17 +28,14 @@ returns c =
 
 mark-requires : tie.Need-mark-requires
 mark-requires c κs =
-    let pre0 = c .before .before .before .before .before .before .before .pre in
-    let if1 = c .if1 .left in
-    search asks depth 8
+    tt
 
 bump-requires : tie.Need-bump-requires
 bump-requires c κs =
     let pre0 = c .before .before .before .before .before .before .before .before .before .pre in
-    let if1 = c .before .before .if1 .left in
     let mark = c .before .mark .ensures in
     let mark-ok = ok-marks mark pre0 in
-    search asks depth 8
+    (mark-ok .reads, mark-ok .logs)
 
 sub-part-end : tie.Need-sub-part-end
 sub-part-end c =
@@ -51,12 +46,11 @@ sub-part-end c =
 part-end-requires : tie.Need-part-end-requires
 part-end-requires c κs =
     let pre0 = c .before .before .before .before .before .before .before .before .before .before .before .before .before .before .pre in
-    let if1 = c .before .before .before .before .before .before .before .if1 .left in
     let mark = c .before .before .before .before .before .before .mark .ensures in
     let mark-ok = ok-marks mark pre0 in
     let bump = c .before .before .before .before .bump .ensures in
     let bump-ok = ok-bumps bump mark-ok in
-    search asks depth 8
+    (bump-ok, small-len mark-ok)
 
 same-length : tie.Need-same-length
 same-length c =

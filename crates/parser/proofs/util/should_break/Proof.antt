@@ -1,7 +1,8 @@
 -- by tools/prove
-use Rattle.grammar.specs.Util as util
-use Rattle.parser.specs.Runs.{asks, test-true, test-false}
+use Rattle.parser.specs.Runs.{test-true, test-false}
 use Rattle.parser.specs.Plans.{plan, choose, chosen, always, s-true, s-false, s-report, s-end}
+use native.Mathlib.Omega.{arith}
+use Rattle.grammar.specs.Util as util
 use lib.ListN.{length}
 use borrow.Author.Needs.{needs}
 use Rattle.parser.proofs.util.should_break.Statement.{statement}
@@ -14,15 +15,13 @@ use Rattle.parser.proofs.util.weaker.Reads as weaker-reads
 
 tie-requires : tie.Need-tie-requires
 tie-requires c κs =
-    let pre0 = c .before .before .before .before .before .before .pre in
-    search asks depth 8
+    tt
 
 report-requires : tie.Need-report-requires
 report-requires c κs =
     let pre0 = c .before .before .before .before .before .before .before .before .before .pre in
-    let tie = c .before .before .tie .ensures in
     let if1 = c .before .if1 .taken in
-    search asks depth 8
+    (pre0 .holds, (let few = pre0 .reads .few in let inside = pre0 .reads .inside in omega arith), omega arith)
 
 same-length : tie.Need-same-length
 same-length c =
@@ -39,10 +38,7 @@ returns c =
 
 weaker-requires : tie.Need-weaker-requires
 weaker-requires c κs =
-    let pre0 = c .before .before .before .before .before .before .before .before .pre in
-    let tie = c .before .tie .ensures in
-    let if1 = c .if1 .left in
-    search asks depth 8
+    tt
 
 returns-2 : tie.Need-returns-2
 unfolding util.shouldBreak plan choose chosen

@@ -1,7 +1,8 @@
 -- by tools/prove
-use Rattle.grammar.specs.Util as util
-use Rattle.parser.specs.Runs.{asks, kind-at, kind-off, test-true, test-false}
+use Rattle.parser.specs.Runs.{kind-at, kind-off, test-true, test-false}
 use Rattle.parser.specs.Plans.{plan, choose, chosen, always, s-look, s-kind, s-fixed, s-true, s-false, s-report, s-end}
+use native.Mathlib.Omega.{arith}
+use Rattle.grammar.specs.Util as util
 use lib.ListN.{length}
 use borrow.Author.Needs.{needs}
 use Rattle.parser.proofs.util.unnecessary_op.Statement.{statement}
@@ -17,7 +18,7 @@ use Rattle.parser.proofs.util.name_star_eq.Reads as name-star-eq-reads
 at-n-requires : tie.Need-at-n-requires
 at-n-requires c κs =
     let pre0 = c .before .before .before .before .before .before .pre in
-    search asks depth 8
+    pre0 .reads
 
 returns : tie.Need-returns
 unfolding util.unnecessaryOp plan choose chosen
@@ -30,9 +31,7 @@ returns c =
 peek-n-requires : tie.Need-peek-n-requires
 peek-n-requires c κs =
     let pre0 = c .before .before .before .before .before .before .before .before .pre in
-    let at-n = c .before .at-n .ensures in
-    let if1 = c .if1 .left in
-    search asks depth 8
+    pre0 .reads
 
 enum-known-k : tie.Need-enum-known-k
 enum-known-k c =
@@ -57,21 +56,12 @@ returns-2 c =
 
 name-star-eq-requires : tie.Need-name-star-eq-requires
 name-star-eq-requires c κs =
-    let pre0 = c .before .before .before .before .before .before .before .before .before .before .before .before .pre in
-    let at-n = c .before .before .before .before .before .at-n .ensures in
-    let if1 = c .before .before .before .before .if1 .left in
-    let peek-n = rw (c .before .k .given .1) at (c .before .before .before .peek-n .ensures) in
-    search asks depth 8
+    tt
 
 fixity-at-requires : tie.Need-fixity-at-requires
 fixity-at-requires c κs =
     let pre0 = c .before .before .before .before .before .before .before .before .before .before .before .before .before .before .pre in
-    let at-n = c .before .before .before .before .before .before .before .at-n .ensures in
-    let if1 = c .before .before .before .before .before .before .if1 .left in
-    let peek-n = rw (c .before .before .before .k .given .1) at (c .before .before .before .before .before .peek-n .ensures) in
-    let name-star-eq = c .before .name-star-eq .ensures in
-    let if2 = c .if2 .taken in
-    search asks depth 8
+    (pre0 .reads, pre0 .names, pre0 .stands)
 
 enum-told-2 : tie.Need-enum-told-2
 enum-told-2 c =
@@ -83,13 +73,9 @@ enum-told-2 c =
 report-requires : tie.Need-report-requires
 report-requires c κs =
     let pre0 = c .before .before .before .before .before .before .before .before .before .before .before .before .before .before .before .before .before .before .pre in
-    let at-n = c .before .before .before .before .before .before .before .before .before .before .before .at-n .ensures in
     let if1 = c .before .before .before .before .before .before .before .before .before .before .if1 .left in
-    let peek-n = rw (c .before .before .before .before .before .before .before .k .given .1) at (c .before .before .before .before .before .before .before .before .before .peek-n .ensures) in
-    let name-star-eq = c .before .before .before .before .before .name-star-eq .ensures in
     let if2 = c .before .before .before .before .if2 .taken in
-    let fixity-at = rw (c .before .enum-told2 .given .1) at (c .before .before .before .fixity-at .ensures) in
-    search asks depth 8
+    (pre0 .holds, (let few = pre0 .reads .few in let inside = pre0 .reads .inside in omega arith), omega arith)
 
 enum-told-3 : tie.Need-enum-told-3
 enum-told-3 c =

@@ -1,8 +1,7 @@
 -- by tools/prove
-use Rattle.grammar.specs.Util as util
-use Rattle.parser.specs.Runs.{runs-always}
-use Rattle.parser.specs.Plans.{plan, choose, chosen, always, s-by, settled, s-end}
+use Rattle.parser.specs.Plans.{plan, choose, chosen, eats, s-eats, eats-settled, s-end}
 use native.Mathlib.Omega.{arith}
+use Rattle.grammar.specs.Util as util
 use lib.ListN.{length}
 use borrow.Author.Needs.{needs}
 use Rattle.parser.proofs.util.want.Statement.{statement}
@@ -14,9 +13,11 @@ use Rattle.parser.proofs.util.eat.Reads as eat-reads
 
 eat-requires : tie.Need-eat-requires
 eat-requires c κs =
-    let pre0 = c .before .before .before .before .before .before .before .before .pre .0 in
-    let pre1 = c .before .before .before .before .before .before .before .before .pre .1 in
-    (pre0, omega arith)
+    let pre0 = c .before .before .before .before .before .pre .0 in
+    let pre1 = c .before .before .before .before .before .pre .1 in
+    let pre2 = c .before .before .before .before .before .pre .2 in
+    let pre3 = c .before .before .before .before .before .pre .3 in
+    (pre0, pre1, pre2, omega arith)
 
 state-requires : tie.Need-state-requires
 state-requires c κs =
@@ -24,20 +25,18 @@ state-requires c κs =
 
 same-length : tie.Need-same-length
 same-length c =
-    c .before .before .before .before .before .eat .kept .1 .1 .1 .1 .0
+    c .before .before .before .before .before .eat .kept .1 .0
 
 same-length-2 : tie.Need-same-length-2
 same-length-2 c =
-    c .before .before .before .before .before .eat .kept .1 .1 .1 .1 .1 .0
+    c .before .before .before .before .before .eat .kept .1 .1 .0
 
 returns : tie.Need-returns
 unfolding util.want plan choose chosen
 returns c =
-    let pre0 = c .before .before .before .before .before .before .before .before .before .before .before .before .before .before .pre .0 in
-    let pre1 = c .before .before .before .before .before .before .before .before .before .before .before .before .before .before .pre .1 in
     let eat = c .before .before .before .before .before .eat .ensures in
     let state = c .state .ensures in
-    always pre0 (λ n b. s-by _ (settled state (runs-always eat)) s-end)
+    eats (λ x e j n b. s-eats _ _ _ (eats-settled state eat) s-end)
 
 pub want-spec : {M : Type 1} → statement M
 want-spec = tie.close (tie.spec eat-requires state-requires same-length same-length-2 returns)

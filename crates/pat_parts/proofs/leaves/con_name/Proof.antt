@@ -1,7 +1,7 @@
 -- by tools/prove
-use Rattle.grammar.specs.Pat as pat
 use Rattle.parser.specs.Runs.{runs-in, kind-at, kind-off}
 use Rattle.parser.specs.Plans.{plan, choose, chosen, by-steps, s-kind, s-true, s-false, s-by, s-end}
+use Rattle.grammar.specs.Pat as pat
 use lib.ListN.{length}
 use borrow.Author.Needs.{needs}
 use Rattle.pat_parts.proofs.leaves.con_name.Statement.{statement}

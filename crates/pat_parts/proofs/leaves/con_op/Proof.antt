@@ -1,10 +1,10 @@
 -- by tools/prove
-use Rattle.grammar.specs.Pat as pat
 use Rattle.parser.specs.Runs.{runs-always}
 use Rattle.parser.specs.Plans.{plan, choose, chosen, in-steps, s-close, s-by, s-end}
 use mathlib.Core.Path.{_≡_, refl, _∙_}
-use lib.ListN.{length}
 use mathlib.Core.Bool.{true}
+use Rattle.grammar.specs.Pat as pat
+use lib.ListN.{length}
 use borrow.Author.Needs.{needs}
 use Rattle.pat_parts.proofs.leaves.con_op.Statement.{statement}
 use Rattle.pat_parts.proofs.leaves.con_op.Tie as tie
@@ -56,7 +56,6 @@ returns : tie.Need-returns
 unfolding pat.conOp plan choose chosen
 returns c =
     let pre0 = c .before .before .before .before .before .before .before .before .before .before .before .before .before .before .before .before .before .before .before .before .pre .0 in
-    let pre1 = c .before .before .before .before .before .before .before .before .before .before .before .before .before .before .before .before .before .before .before .before .pre .1 in
     let should-break-pat = rw (c .before .before .before .before .before .ends .given .1) at (c .before .before .before .before .before .before .before .before .before .before .before .should-break-pat .ensures) in
     let close = c .before .before .close .ensures in
     in-steps pre0 (s-by _ (runs-always (should-break-pat _)) (s-close close s-end))
@@ -73,7 +72,6 @@ returns-2 : tie.Need-returns-2
 unfolding pat.conOp plan choose chosen
 returns-2 c =
     let pre0 = c .before .before .before .before .before .before .before .before .before .before .before .before .before .before .before .before .before .before .before .before .pre .0 in
-    let pre1 = c .before .before .before .before .before .before .before .before .before .before .before .before .before .before .before .before .before .before .before .before .pre .1 in
     let should-break-pat = rw (c .before .before .before .before .before .ends2 .given .1) at (c .before .before .before .before .before .before .before .before .before .before .before .should-break-pat .ensures) in
     let close2 = c .before .before .close2 .ensures in
     in-steps pre0 (s-by _ (runs-always (should-break-pat _)) (s-close close2 s-end))

@@ -1,7 +1,7 @@
 -- by tools/prove
-use Rattle.grammar.specs.Pat as pat
 use Rattle.parser.specs.Runs.{runs-always}
 use Rattle.parser.specs.Plans.{plan, choose, chosen, always, s-by, s-end}
+use Rattle.grammar.specs.Pat as pat
 use lib.ListN.{length}
 use borrow.Author.Needs.{needs}
 use Rattle.pat_parts.proofs.leaves.should_break_pat.Statement.{statement}

@@ -1,8 +1,8 @@
 -- by tools/prove
-use Rattle.grammar.specs.Pat as pat
 use Rattle.parser.specs.Runs.{runs-in, test-true, test-false, ok-bumps, ok-marks}
 use Rattle.parser.specs.Plans.{plan, choose, chosen, in-steps, s-true, s-false, s-bump, s-close, s-mark, s-deep, s-by, s-end}
 use mathlib.Core.Path.{_≡_, refl, _∙_}
+use Rattle.grammar.specs.Pat as pat
 use lib.ListN.{length}
 use borrow.Author.Needs.{needs}
 use Rattle.pat_parts.proofs.leaves.typed_step.Statement.{statement}
@@ -24,7 +24,6 @@ returns : tie.Need-returns
 unfolding pat.typedStep plan choose chosen
 returns c =
     let pre0 = c .before .before .before .before .before .before .before .before .pre .0 in
-    let pre1 = c .before .before .before .before .before .before .before .before .pre .1 in
     let is-infix = c .before .is-infix .ensures in
     let if1 = c .if1 .taken in
     in-steps pre0 (s-true _ _ (test-true is-infix if1) s-end)
@@ -37,7 +36,6 @@ returns-2 : tie.Need-returns-2
 unfolding pat.typedStep plan choose chosen
 returns-2 c =
     let pre0 = c .before .before .before .before .before .before .before .before .before .before .pre .0 in
-    let pre1 = c .before .before .before .before .before .before .before .before .before .before .pre .1 in
     let is-infix = c .before .before .before .is-infix .ensures in
     let if1 = c .before .before .if1 .left in
     let if2 = c .before .if2 .taken in
@@ -91,7 +89,6 @@ returns-3 : tie.Need-returns-3
 unfolding pat.typedStep plan choose chosen
 returns-3 c =
     let pre0 = c .before .before .before .before .before .before .before .before .before .before .before .before .before .before .before .before .before .before .before .before .before .before .before .before .before .pre .0 in
-    let pre1 = c .before .before .before .before .before .before .before .before .before .before .before .before .before .before .before .before .before .before .before .before .before .before .before .before .before .pre .1 in
     let is-infix = c .before .before .before .before .before .before .before .before .before .before .before .before .before .before .before .before .before .before .is-infix .ensures in
     let if1 = c .before .before .before .before .before .before .before .before .before .before .before .before .before .before .before .before .before .if1 .left in
     let if2 = c .before .before .before .before .before .before .before .before .before .before .before .before .before .before .before .before .if2 .left in

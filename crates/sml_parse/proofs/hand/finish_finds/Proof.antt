@@ -9,11 +9,11 @@ seal-requires : tie.Need-seal-requires
 seal-requires c κs =
     (search needs, record { below = λ i. omega (arith, c .before .slice-known .given i) })
 
-mul-clear-behind : tie.Need-mul-clear-behind
-mul-clear-behind c = search needs
+mul-clear : tie.Need-mul-clear
+mul-clear c = search needs
 
-clear-behind-requires : tie.Need-clear-behind-requires
-clear-behind-requires c κs = search needs
+clear-requires : tie.Need-clear-requires
+clear-requires c κs = search needs
 
 same-length : tie.Need-same-length
 same-length c = search needs
@@ -21,8 +21,8 @@ same-length c = search needs
 returns : tie.Need-returns
 returns c =
     let s = c .before .before .before .before .before .before .seal .ensures in
-    finds-out (c .before .before .before .before .before .before .before .before .before .args .finds .now) (c .before .before .before .before .before .before .seal .last .0) _ (c .before .before .before .before .before .before .before .before .before .pre) (s .1) (s .0) (c .before .before .clear-behind .ensures)
+    finds-out (c .before .before .before .before .before .before .before .before .before .args .finds .now) (c .before .before .before .before .before .before .seal .last .0) _ (c .before .before .before .before .before .before .before .before .before .pre) (s .1) (s .0) (c .before .before .clear .ensures)
 
 pub finish-finds-spec : {M : Type 1} → statement M
 finish-finds-spec =
-    tie.close (tie.spec seal-requires mul-clear-behind clear-behind-requires same-length returns)
+    tie.close (tie.spec seal-requires mul-clear clear-requires same-length returns)
