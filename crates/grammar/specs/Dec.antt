@@ -628,7 +628,7 @@ bareTail = do
   close SK.DecWithTail
   ret t
 
--- dec.rs, `dec_with_tail`: its node stands also where it is empty
+-- dec.rs, `dec_with_tail`
 unfoldable pub decWithTail : {g : Bool} → InfixErr → Prog Rule g
 decWithTail e = marked (from (do
   v ← maybeSemiSep SK.DecInSeq (decOne e)
