@@ -1,4 +1,4 @@
-// The parts of dec.rs about types: type bindings, datatypes and their copies, `withtype`.
+// The parts of dec.rs about types: type bindings, datatypes and their copies, `withtype`, the head of `abstype`.
 use parser::Found;
 use parser::NO_NAME;
 use parser::State;
@@ -10,14 +10,14 @@ use parser::close;
 use parser::finding;
 use parser::kind;
 use parser::report;
-use parser::util::bump_if;
-use parser::util::eat;
-use parser::util::eat_name_star;
-use parser::util::path_must;
-use parser::util::want;
 use ty::of_ty;
 use ty::ty_must;
-use ty::ty_var_seq;
+use ty_parts::ty_var_seq;
+use util::bump_if;
+use util::eat;
+use util::eat_name_star;
+use util::path_must;
+use util::want;
 ghost use mathlib.Core.Bool.{true};
 ghost use Prim.Native.Nat.{_<_};
 ghost use Rattle.grammar.specs.Prog.{Prog};
@@ -354,7 +354,7 @@ fn with_type(
 
 // `dat_binds`.
 // unfolds: util.manySep
-pub fn dat_binds(
+fn dat_binds(
     text: &[u8],
     toks: &[u8],
     env: &[u8],
@@ -370,6 +370,26 @@ pub fn dat_binds(
 {
     let s1 = dat_list(text, toks, env, table, scratch, finds, left, b, s);
     with_type(text, toks, env, table, scratch, finds, left, s1)
+}
+
+// `abstype`, up to its declarations.
+pub fn abs_head(
+    text: &[u8],
+    toks: &[u8],
+    env: &[u8],
+    table: &[u8],
+    scratch: &mut [u8],
+    finds: &mut [u8],
+    left: usize,
+    b: usize,
+    s: State,
+) -> State
+    requires { ⌜ Sound (mem (now text) (now toks) (now env) (now table) (now scratch) (now finds) s) ⌝ }
+    ensures { λ r. ⌜ RunsIn left b decl.abstypeHead (mem (now (text .entry)) (now (toks .entry)) (now (env .entry)) (now (table .entry)) (now (scratch .entry)) (now (finds .entry)) s) (mem (now (text .entry)) (now (toks .entry)) (now (env .entry)) (now (table .entry)) (now (scratch .exit)) (now (finds .exit)) r) 0 ⌝ }
+{
+    let s1 = bump(toks, scratch, s);
+    let s2 = dat_binds(text, toks, env, table, scratch, finds, left, b, s1);
+    want(toks, scratch, finds, kind::WITH_KW, s2)
 }
 
 // `datatype`: a copy of one, or datatypes.

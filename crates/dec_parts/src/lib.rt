@@ -1,4 +1,4 @@
-// The parts of dec.rs that hold no expression, structure or signature: type variables, sharing, `where`, paths of structures.
+// The parts of dec.rs that hold no expression, structure or signature: type variables, sharing, `where`, paths of structures, starts and ends.
 use parser::Found;
 use parser::Look;
 use parser::State;
@@ -8,12 +8,12 @@ use parser::bump;
 use parser::close;
 use parser::kind;
 use parser::peek;
-use parser::util::bump_if;
-use parser::util::path;
-use parser::util::path_must;
-use parser::util::want;
 use ty::ty_must;
-use ty::ty_var_seq;
+use ty_parts::ty_var_seq;
+use util::bump_if;
+use util::path;
+use util::path_must;
+use util::want;
 ghost use mathlib.Core.Path.{_≡_};
 ghost use mathlib.Core.Bool.{true};
 ghost use Prim.Native.Nat.{suc, _<_};
@@ -141,7 +141,7 @@ fn sharing_tails(
 }
 
 // The sharing tails, where one is next.
-pub fn sharings(
+fn sharings(
     text: &[u8],
     toks: &[u8],
     env: &[u8],
@@ -184,8 +184,8 @@ pub fn bare_tail(
     }
 }
 
-// The end of a functor application.
-pub fn app_end(
+// The end of `dec_with_tail` behind declarations.
+pub fn full_tail(
     text: &[u8],
     toks: &[u8],
     env: &[u8],
@@ -195,12 +195,57 @@ pub fn app_end(
     left: usize,
     b: usize,
     s: State,
-) -> Found
+) -> State
     requires { ⌜ Sound (mem (now text) (now toks) (now env) (now table) (now scratch) (now finds) s) × (b < 4294967296) ⌝ }
-    ensures { λ r. ⌜ RunsIn left b decl.appEnd (mem (now (text .entry)) (now (toks .entry)) (now (env .entry)) (now (table .entry)) (now (scratch .entry)) (now (finds .entry)) s) (mem (now (text .entry)) (now (toks .entry)) (now (env .entry)) (now (table .entry)) (now (scratch .exit)) (now (finds .exit)) (outState r)) (outVal r) ⌝ }
+    ensures { λ r. ⌜ RunsIn left b (decl.fullTail {g = true}) (mem (now (text .entry)) (now (toks .entry)) (now (env .entry)) (now (table .entry)) (now (scratch .entry)) (now (finds .entry)) s) (mem (now (text .entry)) (now (toks .entry)) (now (env .entry)) (now (table .entry)) (now (scratch .exit)) (now (finds .exit)) r) 1 ⌝ }
 {
-    let s1 = want(toks, scratch, finds, kind::RROUND, s);
-    Found::At(close(scratch, kind::APP_STR_EXP, b, s1))
+    let more = sharings(text, toks, env, table, scratch, finds, left, b, s);
+    let s1 = more.state();
+    close(scratch, kind::DEC_WITH_TAIL, b, s1)
+}
+
+// The start of a functor application.
+pub fn app_start(
+    text: &[u8],
+    toks: &[u8],
+    env: &[u8],
+    table: &[u8],
+    scratch: &mut [u8],
+    finds: &mut [u8],
+    left: usize,
+    s: State,
+) -> State
+    requires { ⌜ Sound (mem (now text) (now toks) (now env) (now table) (now scratch) (now finds) s) ⌝ }
+    ensures { λ r. ⌜ Runs left decl.appStart (mem (now (text .entry)) (now (toks .entry)) (now (env .entry)) (now (table .entry)) (now (scratch .entry)) (now (finds .entry)) s) (mem (now (text .entry)) (now (toks .entry)) (now (env .entry)) (now (table .entry)) (now (scratch .exit)) (now (finds .exit)) r) 0 ⌝ }
+{
+    let s1 = bump(toks, scratch, s);
+    want(toks, scratch, finds, kind::LROUND, s1)
+}
+
+// Where something ends: the kinds of the token and of the node.
+pub struct Ending {
+    pub end: u8,
+    pub node: u8,
+}
+
+// The end of what ends at a token, and its node.
+pub fn end_node(
+    text: &[u8],
+    toks: &[u8],
+    env: &[u8],
+    table: &[u8],
+    scratch: &mut [u8],
+    finds: &mut [u8],
+    left: usize,
+    q: Ending,
+    b: usize,
+    s: State,
+) -> State
+    requires { ⌜ Sound (mem (now text) (now toks) (now env) (now table) (now scratch) (now finds) s) × (b < 4294967296) × (q .end < 128) ⌝ }
+    ensures { λ r. ⌜ RunsIn left b (decl.ended (q .end) (q .node)) (mem (now (text .entry)) (now (toks .entry)) (now (env .entry)) (now (table .entry)) (now (scratch .entry)) (now (finds .entry)) s) (mem (now (text .entry)) (now (toks .entry)) (now (env .entry)) (now (table .entry)) (now (scratch .exit)) (now (finds .exit)) r) 1 ⌝ }
+{
+    let s1 = want(toks, scratch, finds, q.end, s);
+    close(scratch, q.node, b, s1)
 }
 
 // A structure that is a path.

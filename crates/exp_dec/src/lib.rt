@@ -1,28 +1,30 @@
 // Expressions and declarations: exp.rs and dec.rs, the functions that call one another.
-use dat_parts::dat_binds;
+use dat_parts::abs_head;
 use dat_parts::op_name;
-use dec_parts::app_end;
+use dec_parts::Ending;
+use dec_parts::app_start;
 use dec_parts::bare_tail;
 use dec_parts::bump_vars;
-use dec_parts::sharings;
+use dec_parts::end_node;
+use dec_parts::full_tail;
 use dec_parts::str_path;
 use dec_parts::wheres;
-use exp_parts::ExpPrec;
-use exp_parts::is_andalso;
-use exp_parts::is_ascribed;
-use exp_parts::is_handle;
-use exp_parts::is_orelse;
 use exp_parts::keyword;
 use exp_parts::leaf;
 use exp_parts::paren_end;
-use exp_parts::record_update;
-use exp_parts::should_break_exp;
+use exp_parts::record_start;
 use exp_parts::starts;
 use exp_parts::starts_arg;
+use exp_prec::ExpPrec;
+use exp_prec::is_ascribed;
+use exp_prec::is_handle;
+use exp_prec::node_of;
+use exp_prec::should_break_exp;
 use fun_parts::fun_left;
 use fun_parts::rec_pat;
 use leaf_parts::leaf_dec;
 use parser::Found;
+use parser::InfixErr;
 use parser::Look;
 use parser::NO_NAME;
 use parser::State;
@@ -36,20 +38,19 @@ use parser::kind;
 use parser::names::fixity_at;
 use parser::peek;
 use parser::report;
-use parser::util::InfixErr;
-use parser::util::ascription;
-use parser::util::bump_ascription;
-use parser::util::bump_if;
-use parser::util::eat;
-use parser::util::lab;
-use parser::util::name_star_eq;
-use parser::util::want;
 use pat::pat_prec;
 use pat_parts::PatPrec;
 use sml_fixity::Fixity;
 use ty::of_ty;
 use ty::ty_annotation;
 use ty::ty_must;
+use util::ascription;
+use util::bump_ascription;
+use util::bump_if;
+use util::eat;
+use util::lab;
+use util::name_star_eq;
+use util::want;
 ghost use mathlib.Core.Path.{_≡_};
 ghost use mathlib.Core.Bool.{Bool, true, false};
 ghost use Prim.Native.Nat.{ℕ, suc, _+_, _-_, _*_, _<_};
@@ -60,7 +61,7 @@ ghost use Rattle.grammar.specs.Exp as expr;
 ghost use Rattle.grammar.specs.Dec as decl;
 ghost use Rattle.parser.specs.View.{Sound, mem, errOf, outState, outVal};
 ghost use Rattle.parser.specs.Runs.{Always, Runs, RunsIn};
-ghost use Rattle.exp_parts.specs.Prec.{precOf};
+ghost use Rattle.exp_prec.specs.Prec.{precOf};
 
 // The names of the functions are short because the proofs of a cycle of calls stand in a folder that is named by all of them.
 
@@ -84,11 +85,12 @@ const NO: InfixErr = InfixErr::No;
 
 const YES: InfixErr = InfixErr::Yes;
 
-// The arguments of `end_sep`. The node's kind names the closure.
+// The arguments of `end_sep`, and the node around it. The kind of what it wraps names the closure.
 pub struct EndSep {
     pub wrap: u8,
     pub sep: u8,
     pub end: u8,
+    pub node: u8,
 }
 
 // Rows of a record, the elements of a list, expressions in parentheses, and those of a `let`.
@@ -96,77 +98,131 @@ const ROWS: EndSep = EndSep {
     wrap: kind::EXP_ROW,
     sep: kind::COMMA,
     end: kind::RCURLY,
+    node: kind::RECORD_EXP,
 };
 
 const LST: EndSep = EndSep {
     wrap: kind::EXP_ARG,
     sep: kind::COMMA,
     end: kind::RSQUARE,
+    node: kind::LIST_EXP,
 };
 
 const SEQS: EndSep = EndSep {
     wrap: kind::EXP_IN_SEQ,
     sep: kind::SEMICOLON,
     end: kind::RROUND,
+    node: kind::SEQ_EXP,
 };
 
 const TUPS: EndSep = EndSep {
     wrap: kind::EXP_ARG,
     sep: kind::COMMA,
     end: kind::RROUND,
+    node: kind::TUPLE_EXP,
 };
 
 const INS: EndSep = EndSep {
     wrap: kind::EXP_IN_SEQ,
     sep: kind::SEMICOLON,
     end: kind::END_KW,
+    node: kind::LET_EXP,
 };
 
-// The arguments of `many_sep`. The node's kind names the closure.
+// The arguments of `many_sep`, and the node around it. The kind of what it wraps names the closure.
 pub struct ManySep {
     pub sep: u8,
     pub wrap: u8,
+    pub node: u8,
 }
 
 const MATCH: ManySep = ManySep {
     sep: kind::BAR,
     wrap: kind::ARM,
+    node: kind::MATCHER,
 };
 
 const VALS: ManySep = ManySep {
     sep: kind::AND_KW,
     wrap: kind::VAL_BIND,
+    node: kind::VAL_DEC,
 };
 
 const FUNS: ManySep = ManySep {
     sep: kind::AND_KW,
     wrap: kind::FUN_BIND,
+    node: kind::FUN_DEC,
 };
 
 const CASES: ManySep = ManySep {
     sep: kind::BAR,
     wrap: kind::FUN_BIND_CASE,
+    node: kind::FUN_BIND,
 };
 
 const EXNS: ManySep = ManySep {
     sep: kind::AND_KW,
     wrap: kind::EX_BIND,
+    node: kind::EX_DEC,
 };
 
 const STRS: ManySep = ManySep {
     sep: kind::AND_KW,
     wrap: kind::STR_BIND,
+    node: kind::STRUCTURE_DEC,
 };
 
 const SIGS: ManySep = ManySep {
     sep: kind::AND_KW,
     wrap: kind::SIG_BIND,
+    node: kind::SIGNATURE_DEC,
 };
 
 const FCTS: ManySep = ManySep {
     sep: kind::AND_KW,
     wrap: kind::FUNCTOR_BIND,
+    node: kind::FUNCTOR_DEC,
 };
+
+// Where structures, signatures and declarations end.
+const STRUCT: Ending = Ending {
+    end: kind::END_KW,
+    node: kind::STRUCT_STR_EXP,
+};
+
+const STR_LET: Ending = Ending {
+    end: kind::END_KW,
+    node: kind::LET_STR_EXP,
+};
+
+const APPLIED: Ending = Ending {
+    end: kind::RROUND,
+    node: kind::APP_STR_EXP,
+};
+
+const SIG: Ending = Ending {
+    end: kind::END_KW,
+    node: kind::SIG_SIG_EXP,
+};
+
+const ABSTYPE: Ending = Ending {
+    end: kind::END_KW,
+    node: kind::ABSTYPE_DEC,
+};
+
+const LOCAL: Ending = Ending {
+    end: kind::END_KW,
+    node: kind::LOCAL_DEC,
+};
+
+// The tokens before an expression.
+const THEN: u8 = kind::THEN_KW;
+
+const ELSE: u8 = kind::ELSE_KW;
+
+const DO: u8 = kind::DO_KW;
+
+const EQ_GT: u8 = kind::EQ_GT;
 
 // The node of `maybe_semi_sep`, which names the closure: declarations with their tails, or single ones.
 const DECS: u8 = kind::DEC;
@@ -199,6 +255,7 @@ fn exp(
 // `exp_prec`: an expression, with the operators that `min` lets stand.
 // measure: 64 * left + 5
 // unfolds: root.body expr.expScope expr.expHead
+// shuts: expr.expRest expr.atExp
 fn pre(
     text: &[u8],
     toks: &[u8],
@@ -216,23 +273,22 @@ fn pre(
     let Look::Kind(k) = peek(toks, s) else {
         return Found::Missing(s);
     };
-    let b = s.len;
     if left == 0 {
-        let s1 = s.refuse(TOO_DEEP);
-        return rst(text, toks, env, table, scratch, finds, left, min, b, s1);
+        return Found::Missing(s.refuse(TOO_DEEP));
     }
+    let b = s.len;
     let s1 = s.mark();
     if starts(k) {
         let s2 = keyword(text, toks, env, table, scratch, finds, k, min, s1);
-        let s3 = key(text, toks, env, table, scratch, finds, left - 1, k, b, s2);
+        let s3 = kw(text, toks, env, table, scratch, finds, left - 1, k, b, s2);
         return Found::At(s3);
     }
     rst(text, toks, env, table, scratch, finds, left, min, b, s1)
 }
 
 // What is behind a keyword that starts an expression, to the end of its node.
-// measure: 64 * left + 7
-fn key(
+// measure: 64 * left + 8
+fn kw(
     text: &[u8],
     toks: &[u8],
     env: &[u8],
@@ -256,20 +312,37 @@ fn key(
         return close(scratch, kind::RAISE_EXP, b, s1);
     }
     if k == kind::IF_KW {
-        let s2 = want(toks, scratch, finds, kind::THEN_KW, s1);
-        let s3 = exp(text, toks, env, table, scratch, finds, left, MIN, s2);
-        let s4 = want(toks, scratch, finds, kind::ELSE_KW, s3);
-        let s5 = exp(text, toks, env, table, scratch, finds, left, MIN, s4);
-        return close(scratch, kind::IF_EXP, b, s5);
+        let s2 = we(text, toks, env, table, scratch, finds, left, THEN, s1);
+        let s3 = we(text, toks, env, table, scratch, finds, left, ELSE, s2);
+        return close(scratch, kind::IF_EXP, b, s3);
     }
     if k == kind::WHILE_KW {
-        let s2 = want(toks, scratch, finds, kind::DO_KW, s1);
-        let s3 = exp(text, toks, env, table, scratch, finds, left, MIN, s2);
-        return close(scratch, kind::WHILE_EXP, b, s3);
+        let s2 = we(text, toks, env, table, scratch, finds, left, DO, s1);
+        return close(scratch, kind::WHILE_EXP, b, s2);
     }
     let s2 = want(toks, scratch, finds, kind::OF_KW, s1);
     let s3 = mat(text, toks, env, table, scratch, finds, left, s2);
     close(scratch, kind::CASE_EXP, b, s3)
+}
+
+// A token of the kind `k`, and an expression.
+// measure: 64 * left + 7
+fn we(
+    text: &[u8],
+    toks: &[u8],
+    env: &[u8],
+    table: &mut [u8; 8192],
+    scratch: &mut [u8],
+    finds: &mut [u8],
+    left: usize,
+    k: u8,
+    s: State,
+) -> State
+    requires { ⌜ Sound (mem (now text) (now toks) (now env) (now table) (now scratch) (now finds) s) × (k < 128) ⌝ }
+    ensures { λ r. ⌜ Runs left (expr.wantExp k) (mem (now (text .entry)) (now (toks .entry)) (now (env .entry)) (now (table .entry)) (now (scratch .entry)) (now (finds .entry)) s) (mem (now (text .entry)) (now (toks .entry)) (now (env .entry)) (now (table .exit)) (now (scratch .exit)) (now (finds .exit)) r) 0 ⌝ }
+{
+    let s1 = want(toks, scratch, finds, k, s);
+    exp(text, toks, env, table, scratch, finds, left, MIN, s1)
 }
 
 // An atomic expression, and the arguments and operators behind it.
@@ -442,6 +515,7 @@ fn opr(
 
 // The right side of an operator, to the end of its node.
 // measure: 64 * left + 7
+// rewrites: node-of
 fn rhs(
     text: &[u8],
     toks: &[u8],
@@ -465,16 +539,9 @@ fn rhs(
         let s1 = mat(text, toks, env, table, scratch, finds, left, s);
         return close(scratch, kind::HANDLE_EXP, b, s1);
     }
-    if is_andalso(op) {
-        let s1 = exp(text, toks, env, table, scratch, finds, left, op, s);
-        return close(scratch, kind::ANDALSO_EXP, b, s1);
-    }
-    if is_orelse(op) {
-        let s1 = exp(text, toks, env, table, scratch, finds, left, op, s);
-        return close(scratch, kind::ORELSE_EXP, b, s1);
-    }
     let s1 = exp(text, toks, env, table, scratch, finds, left, op, s);
-    close(scratch, kind::INFIX_EXP, b, s1)
+    let node = node_of(op);
+    close(scratch, node, b, s1)
 }
 
 // `app_exp`: an argument of the expression that started at `b`.
@@ -521,8 +588,7 @@ fn arg(
         return report(finds, finding::EXPECTED, finding::EXP, NO_NAME, s);
     };
     if left == 0 {
-        let s1 = s.refuse(TOO_DEEP);
-        return report(finds, finding::EXPECTED, finding::EXP, NO_NAME, s1);
+        return s.refuse(TOO_DEEP);
     }
     let s1 = s.mark();
     let b = s1.len;
@@ -535,7 +601,7 @@ fn arg(
 
 // `at_exp`: an atomic expression, the kind k being next.
 // measure: 64 * left + 5
-// unfolds: util.endSep expr.endClosure util.choose
+// unfolds: expr.endClosure util.choose
 fn atm(
     text: &[u8],
     toks: &[u8],
@@ -552,13 +618,12 @@ fn atm(
     ensures { λ r. ⌜ RunsIn left b (expr.atExpHead (suc k)) (mem (now (text .entry)) (now (toks .entry)) (now (env .entry)) (now (table .entry)) (now (scratch .entry)) (now (finds .entry)) s) (mem (now (text .entry)) (now (toks .entry)) (now (env .entry)) (now (table .exit)) (now (scratch .exit)) (now (finds .exit)) (outState r)) (outVal r) ⌝ }
 {
     if k == kind::LCURLY {
-        let s1 = bump(toks, scratch, s);
-        let s2 = record_update(text, toks, env, table, scratch, finds, left, s1);
-        let s3 = sep(text, toks, env, table, scratch, finds, left, ROWS, b, s2);
-        return Found::At(close(scratch, kind::RECORD_EXP, b, s3));
+        let s1 = record_start(text, toks, env, table, scratch, finds, left, s);
+        let s2 = cl(text, toks, env, table, scratch, finds, left, ROWS, b, s1);
+        return Found::At(s2);
     }
     if k == kind::HASH {
-        return hsh(text, toks, env, table, scratch, finds, left, b, s);
+        return hs(text, toks, env, table, scratch, finds, left, b, s);
     }
     if k == kind::LROUND {
         let s1 = bump(toks, scratch, s);
@@ -566,8 +631,8 @@ fn atm(
     }
     if k == kind::LSQUARE {
         let s1 = bump(toks, scratch, s);
-        let s2 = sep(text, toks, env, table, scratch, finds, left, LST, b, s1);
-        return Found::At(close(scratch, kind::LIST_EXP, b, s2));
+        let s2 = cl(text, toks, env, table, scratch, finds, left, LST, b, s1);
+        return Found::At(s2);
     }
     if k == kind::LET_KW {
         return lex(text, toks, env, table, scratch, finds, left, b, s);
@@ -577,8 +642,8 @@ fn atm(
 
 // `#`: a vector, or a selector.
 // measure: 64 * left
-// unfolds: util.endSep expr.endClosure util.choose
-fn hsh(
+// unfolds: expr.endClosure util.choose
+fn hs(
     text: &[u8],
     toks: &[u8],
     env: &[u8],
@@ -595,23 +660,22 @@ fn hsh(
     let s1 = bump(toks, scratch, s);
     if at(toks, kind::LSQUARE, s1) {
         if left == 0 {
-            let s2 = s1.refuse(TOO_DEEP);
-            return Found::At(close(scratch, kind::VECTOR_EXP, b, s2));
+            return Found::At(s1.refuse(TOO_DEEP));
         }
         let s2 = s1.mark();
         let c = s2.len;
         let s3 = bump(toks, scratch, s2);
-        let s4 = sep(text, toks, env, table, scratch, finds, left - 1, LST, c, s3);
-        let s5 = close(scratch, kind::LIST_EXP, c, s4);
-        return Found::At(close(scratch, kind::VECTOR_EXP, b, s5));
+        let s4 = cl(text, toks, env, table, scratch, finds, left - 1, LST, c, s3);
+        return Found::At(close(scratch, kind::VECTOR_EXP, b, s4));
     }
     let s2 = lab(toks, scratch, finds, s1);
     Found::At(close(scratch, kind::SELECTOR_EXP, b, s2))
 }
 
 // `at_exp_l_round`: what is behind `(`.
-// measure: 64 * left + 1
-// unfolds: util.endSep expr.endClosure util.choose
+// measure: 64 * left + 2
+// unfolds: expr.endClosure util.choose
+// shuts: expr.parenEnd
 fn rnd(
     text: &[u8],
     toks: &[u8],
@@ -631,8 +695,7 @@ fn rnd(
         return Found::At(close(scratch, kind::TUPLE_EXP, b, s1));
     }
     if left == 0 {
-        let s1 = s.refuse(TOO_DEEP);
-        return paren_end(text, toks, env, table, scratch, finds, left, b, s1);
+        return Found::At(s.refuse(TOO_DEEP));
     }
     let s1 = s.mark();
     let c = s1.len;
@@ -643,14 +706,14 @@ fn rnd(
     if k == kind::SEMICOLON {
         let s3 = bump(toks, scratch, s2);
         let s4 = close(scratch, kind::EXP_IN_SEQ, c, s3);
-        let s5 = sep(text, toks, env, table, scratch, finds, left, SEQS, b, s4);
-        return Found::At(close(scratch, kind::SEQ_EXP, b, s5));
+        let s5 = cl(text, toks, env, table, scratch, finds, left, SEQS, b, s4);
+        return Found::At(s5);
     }
     if k == kind::COMMA {
         let s3 = bump(toks, scratch, s2);
         let s4 = close(scratch, kind::EXP_ARG, c, s3);
-        let s5 = sep(text, toks, env, table, scratch, finds, left, TUPS, b, s4);
-        return Found::At(close(scratch, kind::TUPLE_EXP, b, s5));
+        let s5 = cl(text, toks, env, table, scratch, finds, left, TUPS, b, s4);
+        return Found::At(s5);
     }
     paren_end(text, toks, env, table, scratch, finds, left, b, s2)
 }
@@ -698,6 +761,28 @@ fn bdy(
     let s1 = got.state();
     let s2 = want(toks, scratch, finds, kind::IN_KW, s1);
     sep(text, toks, env, table, scratch, finds, left, INS, b, s2)
+}
+
+// `end_sep`, to the end of the node around it.
+// measure: 64 * left + 1
+// unfolds: util.endSep
+fn cl(
+    text: &[u8],
+    toks: &[u8],
+    env: &[u8],
+    table: &mut [u8; 8192],
+    scratch: &mut [u8],
+    finds: &mut [u8],
+    left: usize,
+    q: EndSep,
+    b: usize,
+    s: State,
+) -> State
+    requires { ⌜ Sound (mem (now text) (now toks) (now env) (now table) (now scratch) (now finds) s) × (b < 4294967296) × (q .end < 128) ⌝ }
+    ensures { λ r. ⌜ RunsIn left b (util.endSepNode {g = true} (q .wrap) (q .sep) (q .end) (q .node) (expr.endClosure (q .wrap))) (mem (now (text .entry)) (now (toks .entry)) (now (env .entry)) (now (table .entry)) (now (scratch .entry)) (now (finds .entry)) s) (mem (now (text .entry)) (now (toks .entry)) (now (env .entry)) (now (table .exit)) (now (scratch .exit)) (now (finds .exit)) r) 0 ⌝ }
+{
+    let s1 = sep(text, toks, env, table, scratch, finds, left, q, b, s);
+    close(scratch, q.node, b, s1)
 }
 
 // `end_sep`: items up to the token that ends them.
@@ -798,7 +883,7 @@ fn eq(
 
 // `matcher`.
 // measure: 64 * left
-// unfolds: util.manySep decl.manyClosure util.choose
+// unfolds: decl.manyClosure util.choose
 fn mat(
     text: &[u8],
     toks: &[u8],
@@ -818,7 +903,7 @@ fn mat(
     let s1 = s.mark();
     let b = s1.len;
     let s2 = bump_if(toks, scratch, kind::BAR, s1);
-    let s3 = mny(
+    bd(
         text,
         toks,
         env,
@@ -830,8 +915,30 @@ fn mat(
         YES,
         b,
         s2,
-    );
-    close(scratch, kind::MATCHER, b, s3)
+    )
+}
+
+// `many_sep`, to the end of the node around it.
+// measure: 64 * left + 1
+// unfolds: util.manySep
+fn bd(
+    text: &[u8],
+    toks: &[u8],
+    env: &[u8],
+    table: &mut [u8; 8192],
+    scratch: &mut [u8],
+    finds: &mut [u8],
+    left: usize,
+    q: ManySep,
+    e: InfixErr,
+    b: usize,
+    s: State,
+) -> State
+    requires { ⌜ Sound (mem (now text) (now toks) (now env) (now table) (now scratch) (now finds) s) × (b < 4294967296) ⌝ }
+    ensures { λ r. ⌜ RunsIn left b (util.manySepNode {g = true} (q .sep) (q .wrap) (q .node) (decl.manyClosure (q .wrap) (errOf e))) (mem (now (text .entry)) (now (toks .entry)) (now (env .entry)) (now (table .entry)) (now (scratch .entry)) (now (finds .entry)) s) (mem (now (text .entry)) (now (toks .entry)) (now (env .entry)) (now (table .exit)) (now (scratch .exit)) (now (finds .exit)) r) 0 ⌝ }
+{
+    let s1 = mny(text, toks, env, table, scratch, finds, left, q, e, b, s);
+    close(scratch, q.node, b, s1)
 }
 
 // `many_sep`: items between separators.
@@ -876,7 +983,7 @@ fn mny(
 }
 
 // One of them.
-// measure: 64 * left + 8
+// measure: 64 * left + 9
 // chooses: q.wrap
 fn itm(
     text: &[u8],
@@ -897,16 +1004,16 @@ fn itm(
         return arm(text, toks, env, table, scratch, finds, left, s);
     }
     if q.wrap == kind::VAL_BIND {
-        return val(text, toks, env, table, scratch, finds, left, e, s);
+        return vl(text, toks, env, table, scratch, finds, left, e, s);
     }
     if q.wrap == kind::FUN_BIND {
         return fun(text, toks, env, table, scratch, finds, left, e, s);
     }
     if q.wrap == kind::FUN_BIND_CASE {
-        return cas(text, toks, env, table, scratch, finds, left, e, s);
+        return cs(text, toks, env, table, scratch, finds, left, e, s);
     }
     if q.wrap == kind::EX_BIND {
-        return exn(text, toks, env, table, scratch, finds, left, s);
+        return ex(text, toks, env, table, scratch, finds, left, s);
     }
     if q.wrap == kind::STR_BIND {
         return stb(text, toks, env, table, scratch, finds, left, s);
@@ -918,7 +1025,7 @@ fn itm(
 }
 
 // An arm: a pattern and an expression.
-// measure: 64 * left + 7
+// measure: 64 * left + 8
 fn arm(
     text: &[u8],
     toks: &[u8],
@@ -939,16 +1046,15 @@ fn arm(
             Found::Missing(s2)
         }
         Found::At(s1) => {
-            let s2 = want(toks, scratch, finds, kind::EQ_GT, s1);
-            let s3 = exp(text, toks, env, table, scratch, finds, left, MIN, s2);
-            Found::At(s3)
+            let s2 = we(text, toks, env, table, scratch, finds, left, EQ_GT, s1);
+            Found::At(s2)
         }
     }
 }
 
 // A value that is bound.
 // measure: 64 * left + 1
-fn val(
+fn vl(
     text: &[u8],
     toks: &[u8],
     env: &[u8],
@@ -1009,7 +1115,7 @@ fn fun(
 
 // A case of a function.
 // measure: 64 * left + 1
-fn cas(
+fn cs(
     text: &[u8],
     toks: &[u8],
     env: &[u8],
@@ -1032,7 +1138,7 @@ fn cas(
 
 // An exception.
 // measure: 64 * left + 1
-fn exn(
+fn ex(
     text: &[u8],
     toks: &[u8],
     env: &[u8],
@@ -1142,7 +1248,7 @@ fn fct(
         Found::Missing(s1) => Found::Missing(s1),
         Found::At(s1) => {
             let s2 = want(toks, scratch, finds, kind::LROUND, s1);
-            let s3 = par(text, toks, env, table, scratch, finds, left, s2);
+            let s3 = pa(text, toks, env, table, scratch, finds, left, s2);
             let s4 = want(toks, scratch, finds, kind::RROUND, s3);
             let s5 = aso(text, toks, env, table, scratch, finds, left, s4);
             let s6 = want(toks, scratch, finds, kind::EQ, s5);
@@ -1154,7 +1260,7 @@ fn fct(
 
 // The parameter of a functor: a name and its signature, or declarations, whose fixities reach what follows.
 // measure: 64 * left + 3
-fn par(
+fn pa(
     text: &[u8],
     toks: &[u8],
     env: &[u8],
@@ -1261,7 +1367,7 @@ fn sem(
     }
     let s1 = s.mark();
     let b = s1.len;
-    let got = prt(text, toks, env, table, scratch, finds, left - 1, w, e, s1);
+    let got = pt(text, toks, env, table, scratch, finds, left - 1, w, e, s1);
     match got {
         Found::Missing(s2) => Found::Missing(s2),
         Found::At(s2) => {
@@ -1274,7 +1380,7 @@ fn sem(
 // Declarations with their tails, or a single one.
 // measure: 64 * left + 1
 // chooses: w
-fn prt(
+fn pt(
     text: &[u8],
     toks: &[u8],
     env: &[u8],
@@ -1323,9 +1429,8 @@ fn tl(
         Found::Missing(s2) => bare_tail(text, toks, env, table, scratch, finds, n, b, s2),
         Found::At(s2) => {
             let s3 = seq(text, toks, env, table, scratch, finds, n, INSEQ, e, b, s2);
-            let more = sharings(text, toks, env, table, scratch, finds, n, b, s3);
-            let s4 = more.state();
-            Found::At(close(scratch, kind::DEC_WITH_TAIL, b, s4))
+            let s4 = full_tail(text, toks, env, table, scratch, finds, n, b, s3);
+            Found::At(s4)
         }
     }
 }
@@ -1365,7 +1470,7 @@ fn one(
 
 // The declarations that `leaf_dec` leaves, the kind k being next: those of values, functions and exceptions, `do`, and what `mds` reads.
 // measure: 64 * left + 8
-// unfolds: util.manySep decl.manyClosure util.choose
+// unfolds: decl.manyClosure util.choose
 fn cor(
     text: &[u8],
     toks: &[u8],
@@ -1384,18 +1489,18 @@ fn cor(
 {
     if k == kind::VAL_KW {
         let s1 = bump_vars(text, toks, env, table, scratch, finds, left, s);
-        let s2 = mny(text, toks, env, table, scratch, finds, left, VALS, e, b, s1);
-        return Found::At(close(scratch, kind::VAL_DEC, b, s2));
+        let s2 = bd(text, toks, env, table, scratch, finds, left, VALS, e, b, s1);
+        return Found::At(s2);
     }
     if k == kind::FUN_KW {
         let s1 = bump_vars(text, toks, env, table, scratch, finds, left, s);
-        let s2 = mny(text, toks, env, table, scratch, finds, left, FUNS, e, b, s1);
-        return Found::At(close(scratch, kind::FUN_DEC, b, s2));
+        let s2 = bd(text, toks, env, table, scratch, finds, left, FUNS, e, b, s1);
+        return Found::At(s2);
     }
     if k == kind::EXCEPTION_KW {
         let s1 = bump(toks, scratch, s);
-        let s2 = mny(text, toks, env, table, scratch, finds, left, EXNS, e, b, s1);
-        return Found::At(close(scratch, kind::EX_DEC, b, s2));
+        let s2 = bd(text, toks, env, table, scratch, finds, left, EXNS, e, b, s1);
+        return Found::At(s2);
     }
     if k == kind::DO_KW {
         let s1 = bump(toks, scratch, s);
@@ -1407,7 +1512,7 @@ fn cor(
 
 // Those of structures, signatures and functors, `include`, and what `oth` reads.
 // measure: 64 * left + 7
-// unfolds: util.manySep decl.manyClosure util.choose
+// unfolds: decl.manyClosure util.choose
 fn mds(
     text: &[u8],
     toks: &[u8],
@@ -1426,22 +1531,22 @@ fn mds(
 {
     if k == kind::STRUCTURE_KW {
         let s1 = bump(toks, scratch, s);
-        let s2 = mny(text, toks, env, table, scratch, finds, left, STRS, e, b, s1);
-        return Found::At(close(scratch, kind::STRUCTURE_DEC, b, s2));
+        let s2 = bd(text, toks, env, table, scratch, finds, left, STRS, e, b, s1);
+        return Found::At(s2);
     }
     if k == kind::SIGNATURE_KW {
         let s1 = bump(toks, scratch, s);
-        let s2 = mny(text, toks, env, table, scratch, finds, left, SIGS, e, b, s1);
-        return Found::At(close(scratch, kind::SIGNATURE_DEC, b, s2));
+        let s2 = bd(text, toks, env, table, scratch, finds, left, SIGS, e, b, s1);
+        return Found::At(s2);
     }
     if k == kind::FUNCTOR_KW {
         let s1 = bump(toks, scratch, s);
-        let s2 = mny(text, toks, env, table, scratch, finds, left, FCTS, e, b, s1);
-        return Found::At(close(scratch, kind::FUNCTOR_DEC, b, s2));
+        let s2 = bd(text, toks, env, table, scratch, finds, left, FCTS, e, b, s1);
+        return Found::At(s2);
     }
     if k == kind::INCLUDE_KW {
         let s1 = bump(toks, scratch, s);
-        let s2 = inc(text, toks, env, table, scratch, finds, left, b, s1);
+        let s2 = ic(text, toks, env, table, scratch, finds, left, b, s1);
         return Found::At(close(scratch, kind::INCLUDE_DEC, b, s2));
     }
     oth(text, toks, env, table, scratch, finds, left, k, e, b, s)
@@ -1466,16 +1571,14 @@ fn oth(
     ensures { λ r. ⌜ RunsIn left b (decl.otherDec (suc k) (errOf e)) (mem (now (text .entry)) (now (toks .entry)) (now (env .entry)) (now (table .entry)) (now (scratch .entry)) (now (finds .entry)) s) (mem (now (text .entry)) (now (toks .entry)) (now (env .entry)) (now (table .exit)) (now (scratch .exit)) (now (finds .exit)) (outState r)) (outVal r) ⌝ }
 {
     if k == kind::ABSTYPE_KW {
-        let s1 = bump(toks, scratch, s);
-        let s2 = dat_binds(text, toks, env, table, scratch, finds, left, b, s1);
-        let s3 = want(toks, scratch, finds, kind::WITH_KW, s2);
-        let got = dec(text, toks, env, table, scratch, finds, left, e, s3);
-        let s4 = got.state();
-        let s5 = want(toks, scratch, finds, kind::END_KW, s4);
-        return Found::At(close(scratch, kind::ABSTYPE_DEC, b, s5));
+        let s1 = abs_head(text, toks, env, table, scratch, finds, left, b, s);
+        let got = dec(text, toks, env, table, scratch, finds, left, e, s1);
+        let s2 = got.state();
+        let end = end_node(text, toks, env, table, scratch, finds, left, ABSTYPE, b, s2);
+        return Found::At(end);
     }
     if k == kind::LOCAL_KW {
-        return loc(text, toks, env, table, scratch, finds, left, e, b, s);
+        return lo(text, toks, env, table, scratch, finds, left, e, b, s);
     }
     let got = pre(text, toks, env, table, scratch, finds, left, MIN, s);
     match got {
@@ -1486,7 +1589,7 @@ fn oth(
 
 // `local`, whose fixities reach what follows.
 // measure: 64 * left + 1
-fn loc(
+fn lo(
     text: &[u8],
     toks: &[u8],
     env: &[u8],
@@ -1516,6 +1619,7 @@ fn loc(
 
 // Its second part, from `in` to `end`.
 // measure: 64 * left
+// shuts: decl.ended util.want util.eat
 fn end(
     text: &[u8],
     toks: &[u8],
@@ -1532,9 +1636,7 @@ fn end(
     ensures { λ r. ⌜ RunsIn left b (decl.localTail (errOf e)) (mem (now (text .entry)) (now (toks .entry)) (now (env .entry)) (now (table .entry)) (now (scratch .entry)) (now (finds .entry)) s) (mem (now (text .entry)) (now (toks .entry)) (now (env .entry)) (now (table .exit)) (now (scratch .exit)) (now (finds .exit)) (outState r)) (outVal r) ⌝ }
 {
     if left == 0 {
-        let s1 = s.refuse(TOO_DEEP);
-        let s2 = want(toks, scratch, finds, kind::END_KW, s1);
-        return Found::At(close(scratch, kind::LOCAL_DEC, b, s2));
+        return Found::At(s.refuse(TOO_DEEP));
     }
     let s1 = s.mark();
     let c = s1.len;
@@ -1542,8 +1644,8 @@ fn end(
     let got = dec(text, toks, env, table, scratch, finds, left - 1, e, s2);
     let s3 = got.state();
     let s4 = close(scratch, kind::LOCAL_DEC_TL, c, s3);
-    let s5 = want(toks, scratch, finds, kind::END_KW, s4);
-    Found::At(close(scratch, kind::LOCAL_DEC, b, s5))
+    let end = end_node(text, toks, env, table, scratch, finds, left, LOCAL, b, s4);
+    Found::At(end)
 }
 
 // `str_exp`, or the finding that there is no structure.
@@ -1695,15 +1797,15 @@ fn sth(
         let got = dec(text, toks, env, table, scratch, finds, left, YES, s1);
         let s2 = got.state();
         let s3 = s1.give_back(s2);
-        let s4 = want(toks, scratch, finds, kind::END_KW, s3);
-        return Found::At(close(scratch, kind::STRUCT_STR_EXP, b, s4));
+        let end = end_node(text, toks, env, table, scratch, finds, left, STRUCT, b, s3);
+        return Found::At(end);
     }
     if k == kind::LET_KW {
         let s1 = bump(toks, scratch, s);
         let s2 = slt(text, toks, env, table, scratch, finds, left, s1);
         let s3 = s1.give_back(s2);
-        let s4 = want(toks, scratch, finds, kind::END_KW, s3);
-        return Found::At(close(scratch, kind::LET_STR_EXP, b, s4));
+        let end = end_node(text, toks, env, table, scratch, finds, left, STR_LET, b, s3);
+        return Found::At(end);
     }
     if k == kind::NAME {
         if at_n(toks, 1, kind::LROUND, s) {
@@ -1716,6 +1818,7 @@ fn sth(
 
 // A functor application. The fixities of declarations as its argument end with it.
 // measure: 64 * left + 3
+// shuts: decl.ended util.want util.eat
 fn fap(
     text: &[u8],
     toks: &[u8],
@@ -1730,28 +1833,25 @@ fn fap(
     requires { ⌜ Sound (mem (now text) (now toks) (now env) (now table) (now scratch) (now finds) s) × (b < 4294967296) ⌝ }
     ensures { λ r. ⌜ RunsIn left b decl.strApp (mem (now (text .entry)) (now (toks .entry)) (now (env .entry)) (now (table .entry)) (now (scratch .entry)) (now (finds .entry)) s) (mem (now (text .entry)) (now (toks .entry)) (now (env .entry)) (now (table .exit)) (now (scratch .exit)) (now (finds .exit)) (outState r)) (outVal r) ⌝ }
 {
-    let s1 = bump(toks, scratch, s);
-    let s2 = want(toks, scratch, finds, kind::LROUND, s1);
+    let s1 = app_start(text, toks, env, table, scratch, finds, left, s);
     if left == 0 {
-        let s3 = s2.refuse(TOO_DEEP);
-        let got = dec(text, toks, env, table, scratch, finds, left, YES, s3);
-        let s4 = got.state();
-        let s5 = s3.give_back(s4);
-        return app_end(text, toks, env, table, scratch, finds, left, b, s5);
+        return Found::At(s1.refuse(TOO_DEEP));
     }
-    let s3 = s2.mark();
-    let c = s3.len;
-    let found = stx(text, toks, env, table, scratch, finds, left - 1, s3);
+    let s2 = s1.mark();
+    let c = s2.len;
+    let found = stx(text, toks, env, table, scratch, finds, left - 1, s2);
     match found {
-        Found::At(s4) => {
-            let s5 = close(scratch, kind::APP_STR_EXP_ARG_STR_EXP, c, s4);
-            app_end(text, toks, env, table, scratch, finds, left, b, s5)
+        Found::At(s3) => {
+            let s4 = close(scratch, kind::APP_STR_EXP_ARG_STR_EXP, c, s3);
+            let end = end_node(text, toks, env, table, scratch, finds, left, APPLIED, b, s4);
+            Found::At(end)
         }
-        Found::Missing(s4) => {
-            let got = dec(text, toks, env, table, scratch, finds, left, YES, s4);
-            let s5 = got.state();
-            let s6 = s4.give_back(s5);
-            app_end(text, toks, env, table, scratch, finds, left, b, s6)
+        Found::Missing(s3) => {
+            let got = dec(text, toks, env, table, scratch, finds, left, YES, s3);
+            let s4 = got.state();
+            let s5 = s3.give_back(s4);
+            let end = end_node(text, toks, env, table, scratch, finds, left, APPLIED, b, s5);
+            Found::At(end)
         }
     }
 }
@@ -1835,16 +1935,16 @@ fn sgx(
     if left == 0 {
         return Found::Missing(s.refuse(TOO_DEEP));
     }
+    let n = left - 1;
     let b = s.len;
     let s1 = s.mark();
     if k == kind::SIG_KW {
         let s2 = bump(toks, scratch, s1);
-        let got = dec(text, toks, env, table, scratch, finds, left - 1, NO, s2);
+        let got = dec(text, toks, env, table, scratch, finds, n, NO, s2);
         let s3 = got.state();
         let s4 = s2.give_back(s3);
-        let s5 = want(toks, scratch, finds, kind::END_KW, s4);
-        let s6 = close(scratch, kind::SIG_SIG_EXP, b, s5);
-        return Found::At(wheres(text, toks, env, table, scratch, finds, left, b, s6));
+        let s5 = end_node(text, toks, env, table, scratch, finds, n, SIG, b, s4);
+        return Found::At(wheres(text, toks, env, table, scratch, finds, left, b, s5));
     }
     if k == kind::NAME {
         let s2 = bump(toks, scratch, s1);
@@ -1857,7 +1957,7 @@ fn sgx(
 // The signatures behind `include`.
 // measure: 64 * left + 1
 // advances: sig-exp-advances
-fn inc(
+fn ic(
     text: &[u8],
     toks: &[u8],
     env: &[u8],

@@ -1,5 +1,6 @@
 // The parts of dec.rs that hold patterns alone: the pattern of `val`, the head of a function.
 use parser::Found;
+use parser::InfixErr;
 use parser::Look;
 use parser::NO_NAME;
 use parser::State;
@@ -14,15 +15,14 @@ use parser::names::fixity_at;
 use parser::peek;
 use parser::peek_n;
 use parser::report;
-use parser::util::InfixErr;
-use parser::util::name_star;
-use parser::util::want;
 use pat::at_must;
 use pat::at_pat;
 use pat::pat_must;
 use pat::pat_prec;
 use pat_parts::PatPrec;
 use sml_fixity::Fixity;
+use util::name_star;
+use util::want;
 ghost use mathlib.Core.Bool.{true};
 ghost use Prim.Native.Nat.{_<_};
 ghost use Rattle.grammar.specs.Prog.{Prog};

@@ -12,7 +12,7 @@ use Rattle.grammar.specs.Prog.Look.{index, says, number, mode}
 use Rattle.grammar.specs.Prog.Act.{takeAs}
 use Rattle.grammar.specs.Rule.{Rule, PatPrec, InfixErr}
 use Rattle.grammar.specs.Rule.Rule.{dec, strExp, sigExp}
-use Rattle.grammar.specs.Util.{is, ifKind, ifNone, when, done, plain, expected, eat, want, choose, bumpIf, commaSep, manySep, maybeSemiSep, isNameStar, isNameStarEq, isAscription, bumpAscription, eatNameStar, path, pathMust}
+use Rattle.grammar.specs.Util.{is, ifKind, ifNone, when, done, plain, expected, eat, want, choose, bumpIf, commaSep, manySep, manySepNode, maybeSemiSep, isNameStar, isNameStarEq, isAscription, bumpAscription, eatNameStar, path, pathMust}
 use Rattle.grammar.specs.Ty.{ty, tyVarSeq, ofTy, tyAnnotation}
 use Rattle.grammar.specs.Pat.{pat, patMust, atPat, atPatMust, asPatTl}
 use Rattle.grammar.specs.Exp.{exp, expOpt, eqExp, arm}
@@ -311,6 +311,12 @@ nonfixDec = do
   namesStarEq none
   done SK.NonfixDec
 
+-- dec.rs, the end of what ends at a token of the kind k, and the exit of its node
+unfoldable pub ended : ℕ → ℕ → Prog Rule true
+ended k node = do
+  want k
+  done node
+
 -- dec.rs, `dec_one`: its case of `local`, from the second part on
 unfoldable pub localTail : InfixErr → Prog Rule true
 localTail e = do
@@ -318,8 +324,7 @@ localTail e = do
     want SK.InKw
     call (dec e)
     close SK.LocalDecTl))
-  want SK.EndKw
-  done SK.LocalDec
+  ended SK.EndKw SK.LocalDec
 
 -- dec.rs, `dec_one`: its case of `local`
 unfoldable pub localDec : InfixErr → Prog Rule true
@@ -532,16 +537,20 @@ bumpVars = do
   tyVarSeq
   ret 0
 
+-- dec.rs, `dec_one`: its case of `abstype`, up to its declarations
+unfoldable pub abstypeHead : Prog Rule true
+abstypeHead = do
+  bump
+  datBinds
+  want SK.WithKw
+
 -- dec.rs, `dec_one`: its cases of `abstype` and `local`, and the last, an expression
 unfoldable pub otherDec : ℕ → InfixErr → Prog Rule true
 otherDec k e =
     ifKind k SK.AbstypeKw (do
-      bump
-      datBinds
-      want SK.WithKw
+      abstypeHead
       call (dec e)
-      want SK.EndKw
-      done SK.AbstypeDec)
+      ended SK.EndKw SK.AbstypeDec)
     (ifKind k SK.LocalKw (localDec e)
     (do
       v ← expOpt
@@ -552,16 +561,16 @@ unfoldable pub moduleDec : ℕ → InfixErr → Prog Rule true
 moduleDec k e =
     ifKind k SK.StructureKw (do
       bump
-      manySep SK.AndKw SK.StrBind strBind
-      done SK.StructureDec)
+      manySepNode SK.AndKw SK.StrBind SK.StructureDec strBind
+      ret 1)
     (ifKind k SK.SignatureKw (do
       bump
-      manySep SK.AndKw SK.SigBind sigBind
-      done SK.SignatureDec)
+      manySepNode SK.AndKw SK.SigBind SK.SignatureDec sigBind
+      ret 1)
     (ifKind k SK.FunctorKw (do
       bump
-      manySep SK.AndKw SK.FunctorBind functorBind
-      done SK.FunctorDec)
+      manySepNode SK.AndKw SK.FunctorBind SK.FunctorDec functorBind
+      ret 1)
     (ifKind k SK.IncludeKw (do
       bump
       loop (call sigExp)
@@ -573,16 +582,16 @@ unfoldable pub coreDec : ℕ → InfixErr → Prog Rule true
 coreDec k e =
     ifKind k SK.ValKw (do
       bumpVars
-      manySep SK.AndKw SK.ValBind (valBind e)
-      done SK.ValDec)
+      manySepNode SK.AndKw SK.ValBind SK.ValDec (valBind e)
+      ret 1)
     (ifKind k SK.FunKw (do
       bumpVars
-      manySep SK.AndKw SK.FunBind (funBind e)
-      done SK.FunDec)
+      manySepNode SK.AndKw SK.FunBind SK.FunDec (funBind e)
+      ret 1)
     (ifKind k SK.ExceptionKw (do
       bump
-      manySep SK.AndKw SK.ExBind exBind
-      done SK.ExDec)
+      manySepNode SK.AndKw SK.ExBind SK.ExDec exBind
+      ret 1)
     (ifKind k SK.DoKw (do
       bump
       exp
@@ -628,13 +637,17 @@ bareTail = do
   close SK.DecWithTail
   ret t
 
+-- dec.rs, `dec_with_tail`: the end behind declarations
+unfoldable pub fullTail : {g : Bool} → Prog Rule g
+fullTail = do
+  sharings
+  done SK.DecWithTail
+
 -- dec.rs, `dec_with_tail`
 unfoldable pub decWithTail : {g : Bool} → InfixErr → Prog Rule g
 decWithTail e = marked (from (do
   v ← maybeSemiSep SK.DecInSeq (decOne e)
-  ifNone v bareTail (do
-    sharings
-    done SK.DecWithTail)))
+  ifNone v bareTail fullTail))
 
 -- util.rs, `maybe_semi_sep`: the closure that the kind of its node names. For contracts of code: no rule is made of it.
 unfoldable pub semiClosure : ℕ → InfixErr → Prog Rule true
@@ -644,23 +657,22 @@ semiClosure wrap e = choose (eqb wrap SK.Dec) (decWithTail e) (decOne e)
 unfoldable pub decs : {g : Bool} → InfixErr → Prog Rule g
 decs e = from (maybeSemiSep SK.Dec (decWithTail e))
 
--- dec.rs, `str_exp`: the end of a functor application
-unfoldable pub appEnd : Prog Rule true
-appEnd = do
-  want SK.RRound
-  done SK.AppStrExp
+-- dec.rs, `str_exp`: the start of a functor application
+unfoldable pub appStart : Prog Rule true
+appStart = do
+  bump
+  want SK.LRound
 
 -- dec.rs, `str_exp`: a functor application. Its argument is a structure, or declarations in an environment of their own.
 unfoldable pub strApp : Prog Rule true
 strApp = do
-  bump
-  want SK.LRound
+  appStart
   v ← marked (from (do
     v ← call strExp
     ifNone v (ret 0) (done SK.AppStrExpArgStrExp)))
   ifNone v (do
     scoped (call (dec InfixErr.Yes))
-    appEnd) appEnd
+    ended SK.RRound SK.AppStrExp) (ended SK.RRound SK.AppStrExp)
 
 -- dec.rs, `str_exp`: its case of a path
 unfoldable pub strPath : Prog Rule true
@@ -681,13 +693,11 @@ strHead k =
     ifKind k SK.StructKw (do
       bump
       scoped (call (dec InfixErr.Yes))
-      want SK.EndKw
-      done SK.StructStrExp)
+      ended SK.EndKw SK.StructStrExp)
     (ifKind k SK.LetKw (do
       bump
       scoped strLet
-      want SK.EndKw
-      done SK.LetStrExp)
+      ended SK.EndKw SK.LetStrExp)
     (ifKind k SK.Name (do
       k1 ← peek 1
       ifKind k1 SK.LRound strApp strPath)
@@ -719,8 +729,7 @@ sigHead k =
     ifKind k SK.SigKw (do
       bump
       scoped (call (dec InfixErr.No))
-      want SK.EndKw
-      done SK.SigSigExp)
+      ended SK.EndKw SK.SigSigExp)
     (ifKind k SK.Name (do
       bump
       done SK.NameSigExp)

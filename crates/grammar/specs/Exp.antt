@@ -8,7 +8,7 @@ use Rattle.grammar.specs.Prog.Prog.{ret, branch, lookup, act, from, clos
 use Rattle.grammar.specs.Prog.Act.{refuse}
 use Rattle.grammar.specs.Rule.{Rule, ExpPrec, InfixErr}
 use Rattle.grammar.specs.Rule.Rule.{expPrec, dec}
-use Rattle.grammar.specs.Util.{is, ifKind, ifNone, when, done, expected, want, choose, bumpIf, endSep, commaSep, manySep, shouldBreak, isNameStarEq, isAscription, pathInfix, pathNoInfix, lab}
+use Rattle.grammar.specs.Util.{is, ifKind, ifNone, when, done, expected, want, choose, bumpIf, endSep, endSepNode, manySepNode, shouldBreak, isNameStarEq, isAscription, pathInfix, pathNoInfix, lab}
 use Rattle.grammar.specs.Ty.{ty}
 use Rattle.grammar.specs.Pat.{pat, isSCon}
 use Rattle.grammar.specs.SyntaxKind as SK
@@ -37,6 +37,12 @@ eqExp = do
     exp
     close SK.EqExp)))
 
+-- exp.rs, `matcher` and `exp_prec`: a token of the kind k, and an expression
+unfoldable pub wantExp : ℕ → Prog Rule true
+wantExp k = do
+  want k
+  exp
+
 -- exp.rs, `matcher`: its closure for `many_sep`, one arm
 unfoldable pub arm : Prog Rule true
 arm = do
@@ -44,20 +50,18 @@ arm = do
   ifNone v (do
     expected EK.Pat
     ret 0) (do
-      want SK.EqGt
-      exp
+      wantExp SK.EqGt
       ret 1)
 
 -- exp.rs, `matcher`
 unfoldable pub matcher : {g : Bool} → Prog Rule g
 matcher = marked (from (do
   bumpIf SK.Bar
-  manySep SK.Bar SK.Arm arm
-  close SK.Matcher))
+  manySepNode SK.Bar SK.Arm SK.Matcher arm))
 
--- exp.rs, `exp_args`
+-- exp.rs, `exp_args`, and the exit of its node in both cases of `at_exp` that call it
 abbrev pub expArgs : {g : Bool} → Prog Rule g
-expArgs = commaSep SK.ExpArg SK.RSquare exp
+expArgs = endSepNode SK.ExpArg SK.Comma SK.RSquare SK.ListExp exp
 
 -- exp.rs, `at_exp_l_round`: its `sep`, what was read behind the first expression; 0 where it is neither
 abbrev pub sawSemicolon : ℕ
@@ -95,11 +99,11 @@ atExpLRound = do
               close SK.ExpArg
               ret sawComma) (ret 0))))
       branch (eqb v sawSemicolon) (do
-        endSep SK.ExpInSeq SK.Semicolon SK.RRound exp
-        done SK.SeqExp)
+        endSepNode SK.ExpInSeq SK.Semicolon SK.RRound SK.SeqExp exp
+        ret 1)
           (branch (eqb v sawComma) (do
-            endSep SK.ExpArg SK.Comma SK.RRound exp
-            done SK.TupleExp)
+            endSepNode SK.ExpArg SK.Comma SK.RRound SK.TupleExp exp
+            ret 1)
           parenEnd))
 
 -- exp.rs, `at_exp`: its case of `op`
@@ -134,6 +138,12 @@ recordUpdate = do
       bump
       close SK.RecordUpdate))))
 
+-- exp.rs, `at_exp`: its case of `{`, up to the rows
+unfoldable pub recordStart : Prog Rule true
+recordStart = do
+  bump
+  recordUpdate
+
 -- exp.rs, `at_exp`: a row of a record expression, in its closure for `comma_sep`
 unfoldable pub expRow : Prog Rule true
 expRow = do
@@ -148,8 +158,7 @@ hashExp = do
   ifKind k SK.LSquare (do
     marked (from (do
       bump
-      expArgs
-      close SK.ListExp))
+      expArgs))
     done SK.VectorExp) (do
       lab
       done SK.SelectorExp)
@@ -190,10 +199,9 @@ atExpLeaf k =
 unfoldable pub atExpHead : ℕ → Prog Rule true
 atExpHead k =
     ifKind k SK.LCurly (do
-      bump
-      recordUpdate
-      commaSep SK.ExpRow SK.RCurly expRow
-      done SK.RecordExp)
+      recordStart
+      endSepNode SK.ExpRow SK.Comma SK.RCurly SK.RecordExp expRow
+      ret 1)
     (ifKind k SK.Hash hashExp
     (ifKind k SK.LRound (do
       bump
@@ -201,7 +209,7 @@ atExpHead k =
     (ifKind k SK.LSquare (do
       bump
       expArgs
-      done SK.ListExp)
+      ret 1)
     (ifKind k SK.LetKw letExp
     (atExpLeaf k)))))
 
@@ -288,18 +296,21 @@ rank (ExpPrec.Infix op) = 5
 abbrev pub isHandle : ExpPrec → Bool
 isHandle p = eqb (rank p) 1
 
-abbrev pub isOrelse : ExpPrec → Bool
-isOrelse p = eqb (rank p) 2
-
-abbrev pub isAndalso : ExpPrec → Bool
-isAndalso p = eqb (rank p) 3
-
 abbrev pub isAscribed : ExpPrec → Bool
 isAscribed p = eqb (rank p) 4
 
 -- exp.rs, `exp_prec`: its `infix`, whether this is the right side of an infix name
 abbrev pub isInfix : ExpPrec → Bool
 isInfix p = eqb (rank p) 5
+
+-- exp.rs, `exp_prec_loop`: the node of an operator whose right side is an expression; the others are never asked for
+abbrev pub nodeOf : ExpPrec → ℕ
+nodeOf ExpPrec.Min = SK.InfixExp
+nodeOf ExpPrec.Handle = SK.InfixExp
+nodeOf ExpPrec.Orelse = SK.OrelseExp
+nodeOf ExpPrec.Andalso = SK.AndalsoExp
+nodeOf ExpPrec.Ascription = SK.InfixExp
+nodeOf (ExpPrec.Infix op) = SK.InfixExp
 
 -- exp.rs, `exp_prec_loop`: the right side of an operator of the kind prec, which is not Min, and the exit of the node that `precede` opened
 unfoldable pub rightSide : ExpPrec → Prog Rule true
@@ -310,15 +321,9 @@ rightSide prec =
     (branch (isHandle prec) (do
       matcher
       close SK.HandleExp)
-    (branch (isAndalso prec) (do
-      expMust prec
-      close SK.AndalsoExp)
-    (branch (isOrelse prec) (do
-      expMust prec
-      close SK.OrelseExp)
     (do
       expMust prec
-      close SK.InfixExp))))
+      close (nodeOf prec)))
 
 -- exp.rs, `exp_prec_loop`: an operator of the kind prec. Unless it ends the climb, the operator and its right side.
 unfoldable pub climb : ExpPrec → ExpPrec → Prog Rule false
@@ -385,14 +390,11 @@ keyed k =
       exp
       ifKind k SK.RaiseKw (close SK.RaiseExp)
           (ifKind k SK.IfKw (do
-            want SK.ThenKw
-            exp
-            want SK.ElseKw
-            exp
+            wantExp SK.ThenKw
+            wantExp SK.ElseKw
             close SK.IfExp)
           (ifKind k SK.WhileKw (do
-            want SK.DoKw
-            exp
+            wantExp SK.DoKw
             close SK.WhileExp)
           (do
             want SK.OfKw

@@ -112,6 +112,12 @@ endTurn wrap sep end f = do
 unfoldable pub endSep : {g : Bool} → ℕ → ℕ → ℕ → Prog Rule true → Prog Rule g
 endSep wrap sep end f = loop (endTurn wrap sep end f)
 
+-- util.rs, `end_sep` or `comma_sep`, and the exit of the node around it
+unfoldable pub endSepNode : {g : Bool} → (wrap sep end node : ℕ) → Prog Rule true → Prog Rule g
+endSepNode wrap sep end node f = do
+  endSep wrap sep end f
+  close node
+
 -- util.rs, `comma_sep`
 abbrev pub commaSep : {g : Bool} → ℕ → ℕ → Prog Rule true → Prog Rule g
 commaSep wrap end f = endSep wrap SK.Comma end f
@@ -131,6 +137,12 @@ manyTurn sep wrap f = marked (from (do
 -- util.rs, `many_sep`. Its answer serves one caller alone, FunBind, for which it is always true.
 unfoldable pub manySep : {g : Bool} → ℕ → ℕ → Prog Rule true → Prog Rule g
 manySep sep wrap f = loop (manyTurn sep wrap f)
+
+-- util.rs, `many_sep`, and the exit of the node around it
+unfoldable pub manySepNode : {g : Bool} → (sep wrap node : ℕ) → Prog Rule true → Prog Rule g
+manySepNode sep wrap node f = do
+  manySep sep wrap f
+  close node
 
 -- util.rs, `should_break`: its first test, equal precedence with unlike association
 abbrev pub tie : Infix → Infix → Bool

@@ -283,8 +283,8 @@ module _ (E : List Entry) (C : ℕ) where
   turn-at m ex r t s xs ys zs b c d v k f g n ps Q h =
       g-loop (exp-step-advances (minOf m) n)
       (g-bind (g-peek (g-on (is-sign (v .0 .sign)) (g-some (v .0 .fixity) (g-bind (goes-on k (λ ps1 t1.
-      g-true (g-bind (g-marked (g-bind (g-take (g-false (g-false (g-false (g-false (g-bind (right-at (s .op) (s .operand) r xs ys c (v .1) (v .2) (v .3) f (n - 1) _ ps1 _ (λ ps2 t2.
-      g-close (g-ret (g n ps2 Q (λ ps3 t3. h ps3 (told-next t1 (told-next t2 t3)))))))))))))))))))))))
+      g-true (g-bind (g-marked (g-bind (g-take (g-false (g-false (g-bind (right-at (s .op) (s .operand) r xs ys c (v .1) (v .2) (v .3) f (n - 1) _ ps1 _ (λ ps2 t2.
+      g-close (g-ret (g n ps2 Q (λ ps3 t3. h ps3 (told-next t1 (told-next t2 t3)))))))))))))))))))))
 
   -- The source's loop does what the climb does.
   pub climbs : {m : Min} {ex t : Tree (Operand Token)} {xs ys : List (Step (Operand Token))} {b : Bool} → Loop m ex xs t b ys → Stand E xs → Runs E C m ex xs t b ys

@@ -63,7 +63,7 @@ module _ {E : List Entry} {C n : ℕ} {f : Forest} {ps : List ℕ} {Q : ℕ → 
 module _ {E : List Entry} {C n : ℕ} {f : Forest} {ps : List ℕ} {Q : ℕ → List Token → Forest → List ℕ → Type 0} {g : Bool} where
   -- an empty DecWithTail
   tail-end : Q 0 [] (node f SK.DecWithTail Forest.none) ps → Goes E C n [] f ps {g = g} (D.decWithTail InfixErr.Yes) Q
-  unfolding D.decWithTail D.bareTail U.maybeSemiSep tokenIn join
+  unfolding D.decWithTail D.bareTail D.fullTail U.maybeSemiSep tokenIn join
   tail-end h =
       g-marked (g-from (g-bind (g-bind (turn-end (g-true (g-ret (g-true (g-bind (share-end (g-bind (g-close (g-ret h))))))))))))
 
@@ -104,7 +104,7 @@ module _ (E : List Entry) (C : ℕ) (t : Token) (ts : List Token) (k : ℕ) (c :
   tail-file : (n : ℕ) (f : Forest) (ps : List ℕ) (Q : ℕ → List Token → Forest → List ℕ → Type 0)
       → ((ps' : List ℕ) → Told b ps ps' → Q 1 [] (node f SK.DecWithTail (node Forest.none SK.DecInSeq (node Forest.none k c))) ps')
       → Goes E C n (t ∷ ts) f ps {g = true} (D.decWithTail InfixErr.Yes) Q
-  unfolding D.decWithTail D.bareTail U.maybeSemiSep join tokenIn
+  unfolding D.decWithTail D.bareTail D.fullTail U.maybeSemiSep join tokenIn
   tail-file n f ps Q q = g-marked (g-from (g-bind (g-bind (seq-file (n - 1) Forest.none ps _
       (λ ps' k. g-false (g-bind (g-loop (dec-one-advances true InfixErr.Yes (n - 1)) (turn-end (g-ret
       (g-false (g-bind (share-end (g-bind (g-close (g-ret (q ps' k))))))))))))))))

@@ -90,7 +90,7 @@ module _ (E : List Entry) (C : ℕ) {t : Token} (us : List Token) (T : Term) (b 
   -- the declaration
   pub one-val : (i : ℕ) (z : List ℕ) → One E C (record { index = i; kind = SK.ValKw; text = z } ∷ t ∷ (us ++ (record { index = j; kind = SK.Eq; text = y } ∷ x ∷ []))) SK.ValDec
       (valNodes (record { index = i; kind = SK.ValKw; text = z }) T (record { index = j; kind = SK.Eq; text = y }) x) b
-  unfolding D.decOne D.decHead D.leafDec D.fixDec D.coreDec D.bumpVars U.manySep U.manyTurn tokenIn join valNodes
+  unfolding D.decOne D.decHead D.leafDec D.fixDec D.coreDec D.bumpVars U.manySepNode U.manySep U.manyTurn tokenIn join valNodes
   one-val i z n f ps Q q =
-      g-bind (g-peek (g-false (g-marked (g-from (g-bind (g-false (g-false (g-false (g-false (g-false (g-false (g-false (g-false (g-ret (g-true (g-true (g-bind (g-bind (g-take (g-bind (no-vars a (g-ret (g-bind (g-loop (many-turn-advances true SK.AndKw SK.ValBind (D.valBind InfixErr.Yes) (n - 1))
-      (g-marked (g-from (g-bind (bind-val (n - 1 - 1) Forest.none ps _ (λ ps' k. g-false (g-bind (g-peek (g-false (g-bind (g-close (g-ret (g-bind (g-close (g-ret (q ps' k)))))))))))))))))))))))))))))))))))))))
+      g-bind (g-peek (g-false (g-marked (g-from (g-bind (g-false (g-false (g-false (g-false (g-false (g-false (g-false (g-false (g-ret (g-true (g-true (g-bind (g-bind (g-take (g-bind (no-vars a (g-ret (g-bind (g-bind (g-loop (many-turn-advances true SK.AndKw SK.ValBind (D.valBind InfixErr.Yes) (n - 1))
+      (g-marked (g-from (g-bind (bind-val (n - 1 - 1) Forest.none ps _ (λ ps' k. g-false (g-bind (g-peek (g-false (g-bind (g-close (g-ret (g-close (g-ret (q ps' k)))))))))))))))))))))))))))))))))))))))

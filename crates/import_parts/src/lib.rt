@@ -1,4 +1,5 @@
 // The parts of dec.rs about imports: es_import.
+use parser::InfixErr;
 use parser::Look;
 use parser::NO_NAME;
 use parser::State;
@@ -12,11 +13,10 @@ use parser::kind;
 use parser::names::says;
 use parser::peek;
 use parser::report;
-use parser::util::InfixErr;
-use parser::util::eat;
-use parser::util::want;
 use pat::as_pat_tl;
 use ty::ty_annotation;
+use util::eat;
+use util::want;
 ghost use mathlib.Core.Path.{_≡_};
 ghost use mathlib.Core.Bool.{true};
 ghost use Prim.Native.Nat.{suc};

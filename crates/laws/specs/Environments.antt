@@ -101,11 +101,11 @@ unfolding E.expMust
 exp-still min = search stills depth 40
 
 match-still : {g : Bool} → Still Kind g E.matcher
-unfolding E.matcher U.bumpIf E.arm
+unfolding E.matcher U.manySepNode U.bumpIf E.arm E.wantExp
 match-still = search (stills, many-still, want-still, exp-still) depth 40 fits 10000
 
 at-exp-still : {g : Bool} → Still Kind g E.atExp
-unfolding E.atExp E.atExpHead E.atExpLeaf E.atExpLRound E.parenEnd E.opExp E.recordUpdate E.updatePath E.expRow E.hashExp E.letExp E.letBody E.eqExp U.lab
+unfolding E.atExp E.atExpHead E.atExpLeaf E.atExpLRound E.parenEnd E.opExp E.recordStart E.recordUpdate E.updatePath E.expRow E.hashExp E.letExp E.letBody E.eqExp U.endSepNode U.lab
 at-exp-still = search (stills, infix-still, no-infix-still, end-still, exp-still) depth 60 fits 10000
 
 -- one case for each verdict
@@ -117,11 +117,11 @@ decide-still E.ends = search stills
 decide-still (E.infixes op min) = break-still op min
 
 exp-scope-still : (min : ExpPrec) → Still Kind false (E.expScope min)
-unfolding E.expScope E.expRest E.expHead E.keyword E.needParens E.keyed E.expStep E.nameStep E.climb E.rightSide E.appExp E.atExpMust
+unfolding E.expScope E.expRest E.expHead E.keyword E.needParens E.keyed E.wantExp E.expStep E.nameStep E.climb E.rightSide E.appExp E.atExpMust
 exp-scope-still min = search (stills, at-exp-still, decide-still, exp-still, ty-still, match-still, want-still) depth 60 fits 10000
 
 str-scope-still : Still Kind false D.strScope
-unfolding D.strScope D.strHead D.strApp D.appEnd D.strPath D.strLet D.strMust D.strStep D.ascriptionTail D.sigMust
+unfolding D.strScope D.strHead D.strApp D.appStart D.ended D.strPath D.strLet D.strMust D.strStep D.ascriptionTail D.sigMust
 str-scope-still = search (stills, want-still, must-still) depth 60 fits 10000
 
 var-seq-still : {g : Bool} → Still Kind g T.tyVarSeq
@@ -129,7 +129,7 @@ unfolding T.tyVarSeq T.tyVars T.tyVarOne T.tyVarMany
 var-seq-still = search (stills, end-still, eat-still) depth 40
 
 sig-scope-still : Still Kind false D.sigScope
-unfolding D.sigScope D.sigHead D.wheres D.sigStep D.whereTail
+unfolding D.sigScope D.sigHead D.ended D.wheres D.sigStep D.whereTail
 sig-scope-still = search (stills, want-still, must-still, var-seq-still, ty-still) depth 60 fits 10000
 
 -- the body of each of these rules

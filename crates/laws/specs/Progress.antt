@@ -99,11 +99,11 @@ module _ (ρ : ℕ → ℕ → Rule → World → Out) (grows : Growing ρ) (adv
 
   -- an application takes a token where an argument starts, or a name is next: by cases of the kind, and as the searches use it
   app-arg : {g : Bool} (n k : ℕ) (K : ℕ → Type 0) → When (E.isArg k) (Moves {g = g} ρ n E.appExp k K)
-  unfolding E.appExp E.atExpMust E.atExp E.atExpHead E.atExpLeaf E.opExp E.hashExp E.letExp
+  unfolding E.appExp E.atExpMust E.atExp E.atExpHead E.recordStart E.atExpLeaf E.opExp E.hashExp E.letExp
   app-arg n k K = search (moving, path-infix) depth 40 fits 10000
 
   app-name : {g : Bool} (n k : ℕ) (K : ℕ → Type 0) → When (U.isNameStarEq k) (Moves {g = g} ρ n E.appExp k K)
-  unfolding E.appExp E.atExpMust E.atExp E.atExpHead E.atExpLeaf E.opExp E.hashExp E.letExp
+  unfolding E.appExp E.atExpMust E.atExp E.atExpHead E.recordStart E.atExpLeaf E.opExp E.hashExp E.letExp
   app-name n k K = search (moving, path-infix, path-no-infix) depth 40 fits 10000
 
   app-takes-arg : {g : Bool} (n k : ℕ) (K : ℕ → Type 0) → E.isArg k ≡ true → Moves {g = g} ρ n E.appExp k K
@@ -124,7 +124,7 @@ module _ (ρ : ℕ → ℕ → Rule → World → Out) (grows : Growing ρ) (adv
       breaks v = opaque (E.decide v)
 
   at-exp : {g : Bool} (n k : ℕ) (K : ℕ → Type 0) → K 0 → Moves {g = g} ρ n E.atExp k K
-  unfolding E.atExp E.atExpHead E.atExpLeaf E.opExp E.hashExp E.letExp
+  unfolding E.atExp E.atExpHead E.recordStart E.atExpLeaf E.opExp E.hashExp E.letExp
   at-exp n k K z = search (moving, path-infix, path-no-infix) depth 40 fits 10000
 
   exp-scope : (n : ℕ) (k : ℕ) (min : ExpPrec) → Moves ρ n (E.expScope min) k Idle
@@ -152,7 +152,7 @@ module _ (ρ : ℕ → ℕ → Rule → World → Out) (grows : Growing ρ) (adv
   leaf-dec k K n z = search (moving, fix-dec) depth 40 fits 10000
 
   other-dec : (k : ℕ) (e : InfixErr) (K : ℕ → Type 0) (n : ℕ) → K 0 → Moves ρ n (D.otherDec k e) k K
-  unfolding D.otherDec D.localDec
+  unfolding D.otherDec D.abstypeHead D.localDec
   other-dec k e K n z = search moving depth 40 fits 10000
 
   module-dec : (k : ℕ) (e : InfixErr) (K : ℕ → Type 0) (n : ℕ) → K 0 → Moves ρ n (D.moduleDec k e) k K
@@ -177,7 +177,7 @@ module _ (ρ : ℕ → ℕ → Rule → World → Out) (grows : Growing ρ) (adv
 
   -- where `sharing` is next the tail takes a token, whatever the declarations before it did
   dec-tail : {g : Bool} (e : InfixErr) (n k : ℕ) (K : ℕ → Type 0) → K 0 → Moves {g = g} ρ n (D.decWithTail e) k K
-  unfolding D.decWithTail D.bareTail D.sharings
+  unfolding D.decWithTail D.bareTail D.fullTail D.sharings
   dec-tail e n k K z = moves-cases (U.is k SK.SharingKw)
       (search (moving, semi-sep {g = true} SK.DecInSeq (D.decOne e) (dec-one e), moves-turn, share-takes) depth 40 fits 10000)
       (λ h. search (moving, semi-sep {g = true} SK.DecInSeq (D.decOne e) (dec-one e)) depth 40 fits 10000)
@@ -208,7 +208,7 @@ module _ (ρ : ℕ → ℕ → Rule → World → Out) (grows : Growing ρ) (adv
   str-step n k = search moving depth 40 fits 10000
 
   str-scope : (n k : ℕ) → Moves ρ n D.strScope k Idle
-  unfolding D.strScope D.strHead D.strApp D.strPath
+  unfolding D.strScope D.strHead D.strApp D.appStart D.strPath
   str-scope n k = search (moving, must-takes) depth 40 fits 10000
 
   sig-step : (n k : ℕ) → Moves ρ n D.sigStep k Idle

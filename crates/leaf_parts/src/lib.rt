@@ -10,7 +10,7 @@ use parser::State;
 use parser::bump;
 use parser::close;
 use parser::kind;
-use parser::util::path;
+use util::path;
 ghost use mathlib.Core.Path.{_≡_};
 ghost use mathlib.Core.Bool.{true};
 ghost use Prim.Native.Nat.{suc, _<_};

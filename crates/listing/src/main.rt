@@ -1,66 +1,17 @@
 // The listing program: one token file on standard input, its reading as lines on standard output (document 01).
 use libc::STDIN_FILENO;
 use libc::STDOUT_FILENO;
-use lines::list_env;
-use lines::list_finds;
-use lines::list_nodes;
-use lines::say;
-use lines::wide;
+use listing_parts::TRAILER;
+use listing_parts::is_file;
+use listing_parts::lines::wide;
+use listing_parts::list_answer;
 use sml_fixity::basis;
 use sml_fixity::table::pair;
-use sml_parse::Answer;
 ghost use mathlib.Core.Path.{_≡_};
 ghost use mathlib.Core.Bool.{true};
 ghost use Prim.Native.Nat.{_≤_};
 ghost use lib.ListN.{length};
-ghost use Rattle.listing.specs.File.{isFile};
-ghost use Rattle.listing.specs.Used.{Within};
-
-mod lines;
-mod names;
-
-// The most bytes of a token file.
-const MOST: usize = 65536;
-
-// The bytes behind text and records, and the last of them.
-const TRAILER: usize = 8;
-
-const MARK: u8 = 77;
-
-// Whether these bytes are a token file.
-fn is_file(file: &[u8]) -> bool
-    ensures { λ r. ⌜ r ≡ isFile (now (file .entry)) ⌝ }
-{
-    let len = file.len();
-    if MOST < len {
-        return false;
-    }
-    if len < TRAILER {
-        return false;
-    }
-    if file[len - 1] != MARK {
-        return false;
-    }
-    let text = pair(file, len - TRAILER) as usize;
-    let count = pair(file, len - TRAILER + 2) as usize;
-    text + 5 * count + TRAILER == len
-}
-
-// Lists an answer, and what was handed out with it.
-fn list_answer(a: Answer, nodes: &[u8], finds: &[u8], last: &[u8])
-    requires { ⌜ Within a (now nodes) (now finds) (now last) ⌝ }
-{
-    say(b"answer ", a.number);
-    if a.number != 0 {
-        return;
-    }
-    let nodes_end = a.nodes;
-    let finds_end = a.finds;
-    let last_end = a.last;
-    list_nodes(&nodes[..nodes_end]);
-    list_finds(&finds[..finds_end]);
-    list_env(&last[..last_end]);
-}
+ghost use Rattle.listing_parts.specs.File.{isFile};
 
 // Reads the tokens into what is lent, and lists what came of it.
 fn list_read(

@@ -7,17 +7,20 @@ use mathlib.Core.Bool.{Bool, true, false, not}
 use native.Mathlib.Omega.{arith}
 use borrow.Author.Tests.{eq-eqb, ne-eqb}
 use lib.Dec.{eqb}
+use lib.ListN.{length}
 use Rattle.grammar.specs.Env as Env
-use Rattle.grammar.specs.World.{World, Out, out, ahead, fixityAhead, refuse, lengthOf, tooDeep}
+use Rattle.grammar.specs.World.{World, Out, out, ahead, fixityAhead, refuse, lengthOf, tooDeep, noName, invalid}
+use Rattle.grammar.specs.World.World.{refused}
 use Rattle.grammar.specs.World as world
 use Rattle.grammar.specs.Prog.{Prog, Look as Ask, Act, Reason, answerOf, seen, does, eval, rule}
-use Rattle.grammar.specs.Prog.Look.{kind, index}
+use Rattle.grammar.specs.Prog.Look.{kind, index, says, number, mode}
 use Rattle.grammar.specs.Prog.Act.{take, report, refuse as refuses}
 use Rattle.grammar.specs.Prog.Prog.{ret, bind, branch, look, lookup, act, from, close, marked, loop, scoped, attempt, call}
 use Rattle.grammar.specs.Rule.{Rule}
 use Rattle.grammar.specs.Util as Util
 use Rattle.grammar.specs.Root.{body}
 use Rattle.laws.specs.Laws.{unfold-rule}
+use Rattle.laws.specs.Grows.{rule-grows, eval-refused}
 use Rattle.sml_fixity.specs.Fix.{fixityOf}
 use Rattle.sml_fixity.specs.declared.Fixity.{Fixity}
 use Rattle.parser.specs.View.{Mem, mem, Sound, seenIn, Kept, Did, Saw, Says, Spells, Fixed, Marks, Adds, Bumps, Tells, refusedBy}
@@ -265,6 +268,68 @@ module _ {f : ℕ → Plan} {e : Mem} {v : ℕ} where
           next (ok-refused tooDeep q o) (kept-same (ap (λ (s : State). s .fixes) q)) (told f (mem x t n j l h s') (refuse tooDeep (seenIn a)) (rw q (refused-same tooDeep a (λ z. omega arith))) ∙ ap (λ (t : Bool).
           elim t [ true ↦ means (f (lengthOf (refuse tooDeep (seenIn a)))) (refuse tooDeep (seenIn a)) | false ↦ means (g (lengthOf (world.mark (seenIn a)))) (world.mark (seenIn a)) ]) (sym (eq-eqb m 0 z))) r;
     }
+
+-- what a look at a refused reading gives
+abbrev nothing : Ask → ℕ
+nothing (kind n) = 0
+nothing index = noName
+nothing (says x) = 0
+nothing number = invalid
+nothing mode = 0
+
+-- The value that a plan gives where the reading was refused by k with l records logged: nothing is seen, and nothing is done.
+unfoldable pub hushed : ℕ → ℕ → Plan → ℕ
+hushed k l (ends v) = v
+hushed k l (sees q f) = hushed k l (f (nothing q))
+hushed k l (finds n p f) = hushed k l p
+hushed k l (acts a f) = hushed k l (f l)
+hushed k l (closes n b f) = hushed k l (f l)
+hushed k l (marks n f h) = elim (eqb n 0) [ true ↦ hushed k l (f l) | false ↦ hushed k l (h l) ]
+hushed k l (runs n b p f) = hushed k l (f (eval (rule body) n b p (refused k l) .val) l)
+
+hushed-means : (p : Plan) (k l : ℕ) → means p (refused k l) ≡ out (hushed k l p) (refused k l)
+unfolding means hushed seen does ahead world.indexAhead world.saysAhead world.numberAhead world.modeOf world.tokenAhead fixityAhead lengthOf refuse world.mark world.end world.take1 world.takeChange world.report
+hushed-means (ends v) k l = refl
+hushed-means (sees (kind n) f) k l = hushed-means (f 0) k l
+hushed-means (sees index f) k l = hushed-means (f noName) k l
+hushed-means (sees (says x) f) k l = hushed-means (f 0) k l
+hushed-means (sees number f) k l = hushed-means (f invalid) k l
+hushed-means (sees mode f) k l = hushed-means (f 0) k l
+hushed-means (finds n p f) k l = hushed-means p k l
+hushed-means (acts take f) k l = hushed-means (f l) k l
+hushed-means (acts (Act.takeAs c) f) k l = hushed-means (f l) k l
+hushed-means (acts (report x d i) f) k l = hushed-means (f l) k l
+hushed-means (acts (refuses y) f) k l = hushed-means (f l) k l
+hushed-means (closes n b f) k l = hushed-means (f l) k l
+hushed-means (marks n f h) k l = go (eqb n 0) (hushed-means (f l) k l) (hushed-means (h l) k l)
+  where
+    go : (t : Bool) → means (f l) (refused k l) ≡ out (hushed k l (f l)) (refused k l) → means (h l) (refused k l) ≡ out (hushed k l (h l)) (refused k l)
+        → _≡_ {A = Out} (elim t [ true ↦ means (f l) (refused k l) | false ↦ means (h l) (refused k l) ]) (out (elim t [ true ↦ hushed k l (f l) | false ↦ hushed k l (h l) ]) (refused k l))
+    go true p q = p
+    go false p q = q
+hushed-means (runs n b p f) k l =
+    let v = eval (rule body) n b p (refused k l) .val in
+    ap (λ (w : World). means (f v (lengthOf w)) w) (eval-refused (rule body) (rule-grows body) n b p k l) ∙ hushed-means (f v l) k l
+
+-- a mark that may not be opened, behind which the code returns, whatever the program still has
+pub s-shut : {m : ℕ} {f g : ℕ → Plan} {x t n j l h : List ℕ} {s s' : State} {v : ℕ} → m ≡ 0 → s' ≡ refusedBy tooDeep s → ((k l : ℕ) → hushed k l (f l) ≡ v)
+    → Steps (marks m f g) (mem x t n j l h s) (mem x t n j l h s') v
+unfolding means refuse lengthOf
+s-shut {m} {f} {g} {x} {t} {n} {j} {l} {h} {s} {s'} {v} z q r = record {
+  go = λ o. record {
+    ok = ok-refused tooDeep q o;
+    same = ap (out v) (rw q (refused-same tooDeep a (λ z. omega arith))) ∙ by (seenIn a) ∙ ap (λ (t : Bool).
+        elim t [ true ↦ means (f (lengthOf (refuse tooDeep (seenIn a)))) (refuse tooDeep (seenIn a)) | false ↦ means (g (lengthOf (world.mark (seenIn a)))) (world.mark (seenIn a)) ]) (sym (eq-eqb m 0 z));
+    kept = kept-same (ap (λ (s : State). s .fixes) q);
+  };
+}
+  where
+    a : Mem
+    a = mem x t n j l h s
+
+    by : (w : World) → out v (refuse tooDeep w) ≡ means (f (lengthOf (refuse tooDeep w))) (refuse tooDeep w)
+    by (refused k l) = sym (hushed-means (f l) k l ∙ ap (λ (u : ℕ). out u (refused k l)) (r k l))
+    by (World.on s) = let k = length (s .log) in sym (hushed-means (f k) tooDeep k ∙ ap (λ (u : ℕ). out u (refused tooDeep k)) (r tooDeep k))
 
 -- a refusal of a case that cannot happen
 pub s-refuse : {y : Reason} {f : ℕ → Plan} {x t n j l h : List ℕ} {s s' : State} {e : Mem} {v : ℕ} → s' ≡ refusedBy (answerOf y) s

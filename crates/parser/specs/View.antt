@@ -24,8 +24,8 @@ use Rattle.parser.specs.declared.Look.{Look}
 use Rattle.parser.specs.declared.Look.the-variants.{Kind, Nothing}
 use Rattle.parser.specs.declared.Found.{Found}
 use Rattle.parser.specs.declared.Found.the-variants.{At, Missing}
-use Rattle.parser.specs.declared.util.InfixErr.{InfixErr}
-use Rattle.parser.specs.declared.util.InfixErr.the-variants.{No, Yes}
+use Rattle.parser.specs.declared.InfixErr.{InfixErr}
+use Rattle.parser.specs.declared.InfixErr.the-variants.{No, Yes}
 
 -- A record of the log or of the findings, 8 bytes: a tag, a kind, a number of four bytes, two zeroes.
 abbrev pub chunkSize : ℕ

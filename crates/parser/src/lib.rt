@@ -12,7 +12,6 @@ pub mod finding;
 pub mod kind;
 pub mod names;
 pub mod tokens;
-pub mod util;
 
 // The answers that the operations give.
 pub const TOO_DEEP: usize = 4;
@@ -54,6 +53,12 @@ pub struct State {
 pub enum Look {
     Kind(u8),
     Nothing,
+}
+
+// Whether to report infix names that stand without `op`.
+pub enum InfixErr {
+    No,
+    Yes,
 }
 
 // Whether a rule found what it reads.

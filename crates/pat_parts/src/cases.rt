@@ -1,7 +1,7 @@
 // The tests by which pat.rs tells its cases apart.
 use crate::PatPrec;
+use parser::InfixErr;
 use parser::kind;
-use parser::util::InfixErr;
 ghost use mathlib.Core.Path.{_≡_};
 ghost use Prim.Native.Nat.{ℕ, suc};
 ghost use Rattle.grammar.specs.Rule as rule;

@@ -1,19 +1,17 @@
 // The replay program: a list of cases with the Rust's answers on standard input, how many answers differ on standard output.
-use form::FIRST;
-use form::case_end;
-use form::is_list;
-use form::number;
 use libc::STDIN_FILENO;
 use libc::STDOUT_FILENO;
+use replay_parts::form::FIRST;
+use replay_parts::form::case_end;
+use replay_parts::form::is_list;
+use replay_parts::form::number;
 use run::case_agrees;
 ghost use mathlib.Core.Path.{_≡_};
 ghost use mathlib.Core.Bool.{true};
 ghost use Prim.Native.Nat.{_≤_};
-ghost use Rattle.replay.specs.Form.{isList, caseCount, firstCase};
-ghost use Rattle.replay.specs.Agree.{differing};
+ghost use Rattle.replay_parts.specs.Form.{isList, caseCount, firstCase};
+ghost use Rattle.replay_parts.specs.Agree.{differing};
 
-mod compare;
-mod form;
 mod run;
 
 // How many cases of a list are answered otherwise than it says. All of them are run, whatever the others came to.

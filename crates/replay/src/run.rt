@@ -1,22 +1,22 @@
 // One case of a list, run.
-use crate::compare::answer_agrees;
-use crate::form::DEPTH;
-use crate::form::FINDS_ROOM;
-use crate::form::HEAD;
-use crate::form::LAST_ROOM;
-use crate::form::MODE;
-use crate::form::NODES_ROOM;
-use crate::form::SCRATCH_ROOM;
-use crate::form::TOKS;
-use crate::form::env_end;
-use crate::form::long;
-use crate::form::number;
+use replay_parts::compare::answer_agrees;
+use replay_parts::form::DEPTH;
+use replay_parts::form::FINDS_ROOM;
+use replay_parts::form::HEAD;
+use replay_parts::form::LAST_ROOM;
+use replay_parts::form::MODE;
+use replay_parts::form::NODES_ROOM;
+use replay_parts::form::SCRATCH_ROOM;
+use replay_parts::form::TOKS;
+use replay_parts::form::env_end;
+use replay_parts::form::long;
+use replay_parts::form::number;
 ghost use mathlib.Core.Path.{_≡_};
 ghost use Prim.Native.Nat.{_≤_};
 ghost use lib.ListN.{length};
-ghost use Rattle.sml_parse.specs.Entry.{callOf, served};
-ghost use Rattle.replay.specs.Form.{Stands, Lent, depthAt, modeAt};
-ghost use Rattle.replay.specs.Agree.{agrees, agreesAt};
+ghost use Rattle.answers.specs.Entry.{callOf, served};
+ghost use Rattle.replay_parts.specs.Form.{Stands, Lent, depthAt, modeAt};
+ghost use Rattle.replay_parts.specs.Agree.{agrees, agreesAt};
 
 // What stands in the buffers before a call, so that a byte left as it was is no zero.
 const BEFORE: u8 = 165;

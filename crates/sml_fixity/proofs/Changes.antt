@@ -63,9 +63,10 @@ module _ (text env journal : List ℕ) (t : Table) (start len : ℕ) (f : Fixity
   sorted : Sorted (tableOf text env journal t)
   sorted = sorted-force text (entriesIn env) journal (sorted-env env (entriesIn env) (st .form)) (t .len)
 
-  -- the entries there are and those that there will be
-  pub balance : length (changed (fixityOf f) (part text start len) (tableOf text env journal t)) + count (find (part text start len) (tableOf text env journal t)) ≡ t .entries + count (fixityOf f)
-  balance = rw (st .counted) (length-changed (fixityOf f) (part text start len) (tableOf text env journal t) sorted)
+  -- the entries there are and those that there will be: `k` are those of the fixity that the name had, `m` those of the one that it gets
+  pub balance : (m k : ℕ) (was : Option Infix) → m ≡ count (fixityOf f) → k ≡ count was → was ≡ find (part text start len) (tableOf text env journal t)
+      → length (changed (fixityOf f) (part text start len) (tableOf text env journal t)) + k ≡ t .entries + m
+  balance m k was p q e = rw (p, q, e, st .counted) (length-changed (fixityOf f) (part text start len) (tableOf text env journal t) sorted)
 
   pub many : maxChanges ≤ t .changes → Refused text env journal t (part text start len) (fixityOf f) journal
   many h = record { may = rw (le-ltb (t .changes) maxChanges h); kept = refl }

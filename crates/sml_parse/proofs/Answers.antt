@@ -16,10 +16,10 @@ use Rattle.grammar.specs.Tokens.{listsFit, recordsFit, recordCount}
 use Rattle.grammar.specs.Read.{Call, Result, settingsFit, reading, finish, refusal, handed, readWith, read, zeroes, badSettings, badRecords, badEnv}
 use Rattle.sml_fixity.specs.Form.{countOf}
 use Rattle.sml_fixity.specs.Table.{entriesIn}
-use Rattle.sml_parse.specs.Entry.{resultOf, withScratch, clearedTo, Tested}
-use Rattle.sml_parse.specs.declared.Answer.{Answer}
-use Rattle.sml_parse.proofs.Hands.{drop-zeroes}
-use Rattle.sml_parse.proofs.Starts.{counted}
+use Rattle.answers.specs.Entry.{resultOf, withScratch, clearedTo, Tested}
+use Rattle.answers.specs.declared.Answer.{Answer}
+use Rattle.answers.proofs.Hands.{drop-zeroes}
+use Rattle.answers.proofs.Starts.{counted}
 
 -- the tests of `read`
 abbrev asked : Call → Bool → Bool → Option (List Entry) → Result

@@ -17,8 +17,8 @@ use Rattle.sml_fixity.specs.Table.{entriesIn}
 use Rattle.parser.specs.View.{Mem, seenIn, nowOf}
 use Rattle.parser.specs.Runs.{Runs, shut}
 use Rattle.nodes.specs.Grown.{Grown, logIn, reading-grown}
-use Rattle.sml_parse.specs.Entry.{callOf, roomOf}
-use Rattle.sml_parse.proofs.Hands.{chosen, tests}
+use Rattle.answers.specs.Entry.{callOf, roomOf}
+use Rattle.answers.proofs.Hands.{chosen, tests}
 
 module _ (text toks env : List ℕ) (depth mode : ℕ) (scratch nodes finds last : List ℕ) where
   abbrev call : Call

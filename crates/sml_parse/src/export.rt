@@ -1,10 +1,10 @@
 // The entry for other languages: numbers and byte slices, each slice a pointer and a length.
-use crate::Answer;
 use crate::read;
+use answers::Answer;
 ghost use mathlib.Core.Path.{_≡_};
 ghost use mathlib.Core.List.{[], _∷_};
 ghost use lib.ListN.{length};
-ghost use Rattle.sml_parse.specs.Entry.{callOf, resultFrom, served};
+ghost use Rattle.answers.specs.Entry.{callOf, resultFrom, served};
 
 // The three used lengths. Of an array lent as a slice the length is known; behind the `&mut` it is not, so the stores are not in the entry.
 fn put_used(used: &mut [u64], a: Answer)

@@ -1,25 +1,20 @@
 // The parser as it is called: sml-parse's lib.rs, with the tests of what is lent.
-use hand::hand_out;
+use answers::Answer;
+use answers::hand::hand_out;
+use answers::refusal::refuse_all;
+use answers::start::start_state;
 use nodes::clear;
-use parser::State;
-use parser::next_live;
 use parser::tokens;
-use refusal::refuse_all;
 use sml_fixity::form;
 use sml_fixity::form::Form;
 ghost use mathlib.Core.Path.{_≡_};
-ghost use mathlib.Core.List.{[]};
 ghost use Prim.Native.Nat.{_≤_};
 ghost use lib.ListN.{length};
-ghost use Rattle.grammar.specs.World.World.{on};
-ghost use Rattle.grammar.specs.Read.{start, reading, finish, read};
+ghost use Rattle.grammar.specs.Read.{reading, finish, read};
 ghost use Rattle.sml_fixity.specs.Table.{entriesIn};
-ghost use Rattle.parser.specs.View.{Sound, mem, seenIn};
-ghost use Rattle.sml_parse.specs.Entry.{callOf, resultOf, withScratch, clearedTo, served, Tested};
+ghost use Rattle.answers.specs.Entry.{callOf, resultOf, withScratch, clearedTo, served, Tested};
 
 pub mod export;
-pub mod hand;
-pub mod refusal;
 pub mod root;
 
 // The answers that are given before reading.
@@ -31,45 +26,6 @@ const BAD_ENV: usize = 3;
 
 // The most bytes of scratch whose records' numbers fit four bytes.
 const MOST_SCRATCH: usize = 2147483640;
-
-// Document 01's number of the answer, and the three used lengths in bytes.
-pub struct Answer {
-    pub number: usize,
-    pub nodes: usize,
-    pub finds: usize,
-    pub last: usize,
-}
-
-// The parser as it is made: every token that is no trivia is left.
-fn start_state(
-    text: &[u8],
-    toks: &[u8],
-    env: &[u8],
-    table: &[u8],
-    scratch: &[u8],
-    finds: &[u8],
-    entries: usize,
-    mode: usize,
-) -> State
-    requires { ⌜ Tested (now text) (now toks) (now env) entries × (8192 ≤ length (now table)) × (length (now scratch) ≤ 2147483640) ⌝ }
-    ensures { λ r. ⌜ Sound (mem (now (text .entry)) (now (toks .entry)) (now (env .entry)) (now (table .entry)) (now (scratch .entry)) (now (finds .entry)) r) × (seenIn (mem (now (text .entry)) (now (toks .entry)) (now (env .entry)) (now (table .entry)) (now (scratch .entry)) (now (finds .entry)) r) ≡ on (start (callOf (now (text .entry)) (now (toks .entry)) (now (env .entry)) 0 mode (now (scratch .entry)) [] (now (finds .entry)) []) (entriesIn (now (env .entry))))) ⌝ }
-{
-    let count = toks.len() / 5;
-    State {
-        at: next_live(toks, count, 0),
-        count: count,
-        len: 0,
-        used: 0,
-        room: scratch.len() / 8,
-        found: 0,
-        kept: finds.len() / 8,
-        fixes: 0,
-        entries: entries,
-        changes: 0,
-        mode: mode,
-        stop: 0,
-    }
-}
 
 // The reading, with a journal of fixity changes that is lent.
 fn read_into(

@@ -1,6 +1,7 @@
 // A whole file: root.rs.
 use exp_dec::dec;
 use parser::Found;
+use parser::InfixErr;
 use parser::Look;
 use parser::NO_NAME;
 use parser::State;
@@ -11,7 +12,6 @@ use parser::finding;
 use parser::kind;
 use parser::peek;
 use parser::report;
-use parser::util::InfixErr;
 ghost use mathlib.Core.Path.{_≡_};
 ghost use Prim.Native.Nat.{ℕ, suc};
 ghost use Rattle.grammar.specs.Prog.{Prog};

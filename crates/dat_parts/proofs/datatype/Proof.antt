@@ -15,8 +15,8 @@ use Rattle.parser.proofs.Found.state.Reads as state-reads
 use Rattle.parser.proofs.at_n.Reads as at-n-reads
 use Rattle.parser.proofs.bump.Reads as bump-reads
 use Rattle.parser.proofs.close.Reads as close-reads
-use Rattle.parser.proofs.util.path_must.Reads as path-must-reads
-use Rattle.parser.proofs.util.want.Reads as want-reads
+use Rattle.util.proofs.path_must.Reads as path-must-reads
+use Rattle.util.proofs.want.Reads as want-reads
 
 bump-requires : tie.Need-bump-requires
 bump-requires c κs =

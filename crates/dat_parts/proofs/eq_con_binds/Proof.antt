@@ -16,7 +16,7 @@ use Rattle.parser.proofs.State.refuse.Reads as refuse-reads
 use Rattle.parser.proofs.at.Reads as at-reads
 use Rattle.parser.proofs.bump.Reads as bump-reads
 use Rattle.parser.proofs.close.Reads as close-reads
-use Rattle.parser.proofs.util.bump_if.Reads as bump-if-reads
+use Rattle.util.proofs.bump_if.Reads as bump-if-reads
 
 at-requires : tie.Need-at-requires
 at-requires c κs =

@@ -14,7 +14,7 @@ use Rattle.parser.proofs.Found.state.Reads as state-reads
 use Rattle.parser.proofs.at.Reads as at-reads
 use Rattle.parser.proofs.bump.Reads as bump-reads
 use Rattle.parser.proofs.report.Reads as report-reads
-use Rattle.parser.proofs.util.eat_name_star.Reads as eat-name-star-reads
+use Rattle.util.proofs.eat_name_star.Reads as eat-name-star-reads
 
 at-requires : tie.Need-at-requires
 at-requires c κs =

@@ -11,8 +11,8 @@ use Rattle.dat_parts.proofs.ty_name.Tie as tie
 use Rattle.dat_parts.proofs.ty_name.Reads as reads
 use Rattle.dat_parts.proofs.ty_name.Lts as lts
 use Rattle.parser.proofs.Found.state.Reads as state-reads
-use Rattle.parser.proofs.util.eat.Reads as eat-reads
-use Rattle.ty.proofs.ty_var_seq.Reads as ty-var-seq-reads
+use Rattle.util.proofs.eat.Reads as eat-reads
+use Rattle.ty_parts.proofs.ty_var_seq.Reads as ty-var-seq-reads
 
 ty-var-seq-requires : tie.Need-ty-var-seq-requires
 ty-var-seq-requires c κs =

@@ -11,7 +11,7 @@ use Rattle.dec_parts.proofs.bump_vars.Reads as reads
 use Rattle.dec_parts.proofs.bump_vars.Lts as lts
 use Rattle.parser.proofs.Found.state.Reads as state-reads
 use Rattle.parser.proofs.bump.Reads as bump-reads
-use Rattle.ty.proofs.ty_var_seq.Reads as ty-var-seq-reads
+use Rattle.ty_parts.proofs.ty_var_seq.Reads as ty-var-seq-reads
 
 bump-requires : tie.Need-bump-requires
 bump-requires c κs =

@@ -18,7 +18,7 @@ use Rattle.parser.proofs.State.refuse.Reads as refuse-reads
 use Rattle.parser.proofs.at.Reads as at-reads
 use Rattle.parser.proofs.bump.Reads as bump-reads
 use Rattle.parser.proofs.close.Reads as close-reads
-use Rattle.parser.proofs.util.path_must.Reads as path-must-reads
+use Rattle.util.proofs.path_must.Reads as path-must-reads
 
 abbrev Inv-loop : tie.InvT-loop
 Inv-loop text toks env table scratch₀ finds₀ left b s1₀ scratch finds s1 =

@@ -11,7 +11,7 @@ use Rattle.dec_parts.proofs.str_path.Reads as reads
 use Rattle.dec_parts.proofs.str_path.Lts as lts
 use Rattle.parser.proofs.Found.state.Reads as state-reads
 use Rattle.parser.proofs.close.Reads as close-reads
-use Rattle.parser.proofs.util.path_must.Reads as path-must-reads
+use Rattle.util.proofs.path_must.Reads as path-must-reads
 
 path-must-requires : tie.Need-path-must-requires
 path-must-requires c κs =

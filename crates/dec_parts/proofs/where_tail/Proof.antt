@@ -14,10 +14,10 @@ use Rattle.parser.proofs.Found.state.Reads as state-reads
 use Rattle.parser.proofs.at.Reads as at-reads
 use Rattle.parser.proofs.bump.Reads as bump-reads
 use Rattle.parser.proofs.close.Reads as close-reads
-use Rattle.parser.proofs.util.path_must.Reads as path-must-reads
-use Rattle.parser.proofs.util.want.Reads as want-reads
+use Rattle.util.proofs.path_must.Reads as path-must-reads
+use Rattle.util.proofs.want.Reads as want-reads
 use Rattle.ty.proofs.ty_must.Reads as ty-must-reads
-use Rattle.ty.proofs.ty_var_seq.Reads as ty-var-seq-reads
+use Rattle.ty_parts.proofs.ty_var_seq.Reads as ty-var-seq-reads
 
 at-requires : tie.Need-at-requires
 at-requires c κs =

@@ -9,7 +9,7 @@ use Rattle.exp_parts.proofs.keyword.Statement.{statement}
 use Rattle.exp_parts.proofs.keyword.Tie as tie
 use Rattle.exp_parts.proofs.keyword.Reads as reads
 use Rattle.exp_parts.proofs.keyword.Lts as lts
-use Rattle.exp_parts.proofs.is_infix.Reads as is-infix-reads
+use Rattle.exp_prec.proofs.is_infix.Reads as is-infix-reads
 use Rattle.exp_parts.proofs.need_parens.Reads as need-parens-reads
 use Rattle.parser.proofs.bump.Reads as bump-reads
 

@@ -13,8 +13,8 @@ use Rattle.exp_parts.proofs.op_exp.Reads as op-exp-reads
 use Rattle.parser.proofs.Found.state.Reads as state-reads
 use Rattle.parser.proofs.bump.Reads as bump-reads
 use Rattle.parser.proofs.close.Reads as close-reads
-use Rattle.parser.proofs.util.name_star_eq.Reads as name-star-eq-reads
-use Rattle.parser.proofs.util.path_no_infix.Reads as path-no-infix-reads
+use Rattle.util.proofs.name_star_eq.Reads as name-star-eq-reads
+use Rattle.util.proofs.path_no_infix.Reads as path-no-infix-reads
 use Rattle.pat_parts.proofs.cases.s_con.Reads as s-con-reads
 
 bump-requires : tie.Need-bump-requires

@@ -13,7 +13,7 @@ use Rattle.parser.proofs.Found.state.Reads as state-reads
 use Rattle.parser.proofs.bump.Reads as bump-reads
 use Rattle.parser.proofs.close.Reads as close-reads
 use Rattle.parser.proofs.peek_n.Reads as peek-n-reads
-use Rattle.parser.proofs.util.path_infix.Reads as path-infix-reads
+use Rattle.util.proofs.path_infix.Reads as path-infix-reads
 
 peek-n-requires : tie.Need-peek-n-requires
 peek-n-requires c κs =

@@ -13,7 +13,7 @@ use Rattle.parser.proofs.Found.state.Reads as state-reads
 use Rattle.parser.proofs.State.mark.Reads as mark-reads
 use Rattle.parser.proofs.State.refuse.Reads as refuse-reads
 use Rattle.parser.proofs.close.Reads as close-reads
-use Rattle.parser.proofs.util.path_no_infix.Reads as path-no-infix-reads
+use Rattle.util.proofs.path_no_infix.Reads as path-no-infix-reads
 
 refuse-requires : tie.Need-refuse-requires
 refuse-requires c κs =

@@ -12,7 +12,7 @@ use Rattle.fix_parts.proofs.fixity.Lts as lts
 use Rattle.fix_parts.proofs.fixity_number.Reads as fixity-number-reads
 use Rattle.parser.proofs.peek.Reads as peek-reads
 use Rattle.parser.proofs.report.Reads as report-reads
-use Rattle.parser.proofs.util.name_star_eq.Reads as name-star-eq-reads
+use Rattle.util.proofs.name_star_eq.Reads as name-star-eq-reads
 
 peek-requires : tie.Need-peek-requires
 peek-requires c κs =

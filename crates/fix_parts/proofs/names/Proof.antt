@@ -14,7 +14,7 @@ use Rattle.fix_parts.proofs.names.Reads as reads
 use Rattle.fix_parts.proofs.names.Lts as lts
 use Rattle.parser.proofs.names.take_as.Reads as take-as-reads
 use Rattle.parser.proofs.peek.Reads as peek-reads
-use Rattle.parser.proofs.util.name_star_eq.Reads as name-star-eq-reads
+use Rattle.util.proofs.name_star_eq.Reads as name-star-eq-reads
 
 abbrev Inv-loop : tie.InvT-loop
 Inv-loop text toks env table₀ scratch₀ finds left f b s1₀ table scratch s1 =

@@ -14,7 +14,7 @@ use Rattle.parser.proofs.index.Reads as index-reads
 use Rattle.parser.proofs.names.fixity_at.Reads as fixity-at-reads
 use Rattle.parser.proofs.peek.Reads as peek-reads
 use Rattle.parser.proofs.report.Reads as report-reads
-use Rattle.parser.proofs.util.name_star.Reads as name-star-reads
+use Rattle.util.proofs.name_star.Reads as name-star-reads
 
 peek-requires : tie.Need-peek-requires
 peek-requires c κs =

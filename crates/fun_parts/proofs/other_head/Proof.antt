@@ -16,7 +16,7 @@ use Rattle.fun_parts.proofs.prefix_op.Reads as prefix-op-reads
 use Rattle.parser.proofs.bump.Reads as bump-reads
 use Rattle.parser.proofs.close.Reads as close-reads
 use Rattle.parser.proofs.peek.Reads as peek-reads
-use Rattle.parser.proofs.util.want.Reads as want-reads
+use Rattle.util.proofs.want.Reads as want-reads
 
 peek-requires : tie.Need-peek-requires
 peek-requires c κs =

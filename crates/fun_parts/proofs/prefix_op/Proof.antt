@@ -14,7 +14,7 @@ use Rattle.parser.proofs.bump.Reads as bump-reads
 use Rattle.parser.proofs.names.fixity_at.Reads as fixity-at-reads
 use Rattle.parser.proofs.peek_n.Reads as peek-n-reads
 use Rattle.parser.proofs.report.Reads as report-reads
-use Rattle.parser.proofs.util.name_star.Reads as name-star-reads
+use Rattle.util.proofs.name_star.Reads as name-star-reads
 
 peek-n-requires : tie.Need-peek-n-requires
 peek-n-requires c κs =

@@ -16,7 +16,7 @@ use Rattle.import_parts.proofs.es_from.Reads as es-from-reads
 use Rattle.import_parts.proofs.es_specs.Reads as es-specs-reads
 use Rattle.parser.proofs.at.Reads as at-reads
 use Rattle.parser.proofs.bump.Reads as bump-reads
-use Rattle.parser.proofs.util.want.Reads as want-reads
+use Rattle.util.proofs.want.Reads as want-reads
 
 bump-requires : tie.Need-bump-requires
 bump-requires c κs =

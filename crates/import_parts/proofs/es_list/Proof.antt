@@ -22,7 +22,7 @@ use Rattle.parser.proofs.State.refuse.Reads as refuse-reads
 use Rattle.parser.proofs.at.Reads as at-reads
 use Rattle.parser.proofs.bump.Reads as bump-reads
 use Rattle.parser.proofs.close.Reads as close-reads
-use Rattle.parser.proofs.util.eat.Reads as eat-reads
+use Rattle.util.proofs.eat.Reads as eat-reads
 
 abbrev Inv-loop : tie.InvT-loop
 Inv-loop text toks env table scratch₀ finds₀ left b s1₀ scratch finds s1 =

@@ -11,7 +11,7 @@ use Rattle.leaf_parts.proofs.opens.Statement.{statement}
 use Rattle.leaf_parts.proofs.opens.Tie as tie
 use Rattle.leaf_parts.proofs.opens.Reads as reads
 use Rattle.leaf_parts.proofs.opens.Lts as lts
-use Rattle.parser.proofs.util.path.Reads as path-reads
+use Rattle.util.proofs.path.Reads as path-reads
 
 abbrev Inv-loop : tie.InvT-loop
 Inv-loop text toks env table scratch₀ finds₀ left b s1₀ scratch finds s1 =

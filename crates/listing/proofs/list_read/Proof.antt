@@ -1,7 +1,7 @@
 -- by hand: what a call used lies within what was lent.
 use native.Mathlib.Omega.{arith}
 use borrow.Author.Needs.{needs}
-use Rattle.listing.proofs.Used.{used}
+use Rattle.listing_parts.specs.Used.{used}
 use Rattle.listing.proofs.list_read.Statement.{statement}
 use Rattle.listing.proofs.list_read.Tie as tie
 

@@ -1,11 +1,42 @@
 -- by hand: it stores five bytes: a list of stores.
 -- `push` meets its contract: its stores, one behind the other, are the record's bytes.
+use Prim.Native.Nat.{ℕ, suc, _+_, _*_, _<_}
+use native.Mathlib.Nat.{add-suc}
 use native.Mathlib.Omega.{arith}
-use native.Mathlib.Numerals.{towards-suc}
+use mathlib.Core.Path.{_≡_, refl, ap, _∙_}
+use mathlib.Core.List.{List, [], _∷_}
 use borrow.Author.Needs.{needs}
-use lib.ListN.{length-set}
+use lib.Dec.{lit<}
+use lib.ListN.{length, set, take}
+use lib.Seq.{sets, length-sets}
+use Rattle.parser.specs.View.{chunkSize}
+use Rattle.nodes.specs.Walk.{heldAt}
 use Rattle.nodes.proofs.push.Statement.{statement}
 use Rattle.nodes.proofs.push.Tie as tie
+
+-- The laws of the stores stand before the answers, where `simp` would read all that is known of the code.
+-- bytes stored from `b + k` on
+abbrev stores : List ℕ → ℕ → ℕ → List ℕ → List ℕ
+stores l b k [] = l
+stores l b k (v ∷ vs) = stores (set l (b + k) v) b (suc k) vs
+
+stored : (l : List ℕ) (b k : ℕ) (vs : List ℕ) → stores l b k vs ≡ sets l (b + k) vs
+stored l b k [] = refl
+stored l b k (v ∷ vs) = rw (← add-suc b k) (stored (set l (b + k) v) b (suc k) vs)
+
+abbrev start : tie.After-slice-known5 → tie.Start
+start c = c .before .before .before .before .before
+
+-- the buffer after the first n stores
+abbrev after : tie.After-slice-known5 → ℕ → List ℕ
+after c n = let a = start c .args in stores (a .scratch .now) (chunkSize * a .j) 1 (take n (heldAt (a .scratch .now) (a .i)))
+
+room : (c : tie.After-slice-known5) (n k : ℕ) → k < 8 → chunkSize * start c .args .j + k < length (after c n)
+room c n k h =
+    let a = start c .args in
+    let vs = take n (heldAt (a .scratch .now) (a .i)) in
+    let e = ap length (stored (a .scratch .now) (chunkSize * a .j) 1 vs) ∙ length-sets (a .scratch .now) (chunkSize * a .j + 1) vs in
+    rw e (omega (arith, start c .pre))
 
 mul-b1 : tie.Need-mul-b1
 mul-b1 c = search needs
@@ -65,31 +96,31 @@ add-scratch-2 : tie.Need-add-scratch-2
 add-scratch-2 c = search needs
 
 slice-write-scratch-2 : tie.Need-slice-write-scratch-2
-slice-write-scratch-2 c = simp length-set (omega arith)
+slice-write-scratch-2 c = room c 1 2 (lit< tt)
 
 add-scratch-3 : tie.Need-add-scratch-3
 add-scratch-3 c = search needs
 
 slice-write-scratch-3 : tie.Need-slice-write-scratch-3
-slice-write-scratch-3 c = simp length-set (omega arith)
+slice-write-scratch-3 c = room c 2 3 (lit< tt)
 
 add-scratch-4 : tie.Need-add-scratch-4
 add-scratch-4 c = search needs
 
 slice-write-scratch-4 : tie.Need-slice-write-scratch-4
-slice-write-scratch-4 c = simp length-set (omega arith)
+slice-write-scratch-4 c = room c 3 4 (lit< tt)
 
 add-scratch-5 : tie.Need-add-scratch-5
 add-scratch-5 c = search needs
 
 slice-write-scratch-5 : tie.Need-slice-write-scratch-5
-slice-write-scratch-5 c = simp length-set (omega arith)
+slice-write-scratch-5 c = room c 4 5 (lit< tt)
 
 same-length : tie.Need-same-length
 same-length c = search needs
 
 returns : tie.Need-returns
-returns c = simp towards-suc
+returns c = let a = start c .args in stored (a .scratch .now) (chunkSize * a .j) 1 (heldAt (a .scratch .now) (a .i))
 
 pub push-spec : {M : Type 1} → statement M
 push-spec =

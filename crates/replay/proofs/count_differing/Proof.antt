@@ -7,9 +7,9 @@ use mathlib.Core.Bool.{Bool, true}
 use mathlib.Core.Logic.{⊎-elim}
 use borrow.Author.Tests.{not-true, not-false}
 use lib.ListN.{length}
-use Rattle.replay.specs.Form.{caseCount, firstCase, endsAt}
-use Rattle.replay.specs.Agree.{agreesAt, miss, differing}
-use Rattle.replay.specs.Laws.{formed, stands, ends-fits, ends-step, differing-next, differing-none}
+use Rattle.replay_parts.specs.Form.{caseCount, firstCase, endsAt}
+use Rattle.replay_parts.specs.Agree.{agreesAt, miss, differing}
+use Rattle.replay_parts.specs.Laws.{formed, stands, ends-fits, ends-step, differing-next, differing-none}
 use borrow.Author.Needs.{needs}
 use Rattle.replay.proofs.count_differing.Statement.{statement}
 use Rattle.replay.proofs.count_differing.Tie as tie

@@ -1,6 +1,6 @@
 -- by hand: the list has a number in front, by the test of its form.
 use native.Mathlib.Omega.{arith}
-use Rattle.replay.specs.Laws.{formed}
+use Rattle.replay_parts.specs.Laws.{formed}
 use borrow.Author.Needs.{needs}
 use Rattle.replay.proofs.replay.Statement.{statement}
 use Rattle.replay.proofs.replay.Tie as tie

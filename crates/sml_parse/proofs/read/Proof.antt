@@ -1,6 +1,6 @@
 -- by hand: two cases of the room, no program.
 use mathlib.Core.Path.{sym, _∙_}
-use Rattle.sml_parse.specs.Entry.{callOf, served-short, served-long}
+use Rattle.answers.specs.Entry.{callOf, served-short, served-long}
 use borrow.Author.Needs.{needs}
 use Rattle.sml_parse.proofs.read.Statement.{statement}
 use Rattle.sml_parse.proofs.read.Tie as tie

@@ -4,7 +4,7 @@ use mathlib.Core.Path.{sym, ap, _∙_}
 use Prim.Native.Nat.{ℕ}
 use lib.Seq.{length-take-le}
 use Rattle.grammar.specs.Read.{read}
-use Rattle.sml_parse.specs.Entry.{callOf, withScratch}
+use Rattle.answers.specs.Entry.{callOf, withScratch}
 use Rattle.sml_parse.proofs.Answers.{part-cleared}
 use borrow.Author.Needs.{needs}
 use Rattle.sml_parse.proofs.read_part.Statement.{statement}

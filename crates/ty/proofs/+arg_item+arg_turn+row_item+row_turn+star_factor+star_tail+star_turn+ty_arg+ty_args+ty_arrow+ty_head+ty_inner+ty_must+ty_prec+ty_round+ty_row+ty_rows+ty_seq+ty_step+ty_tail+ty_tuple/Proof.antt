@@ -88,10 +88,10 @@ use Rattle.parser.proofs.bump.Reads as bump-reads
 use Rattle.parser.proofs.close.Reads as close-reads
 use Rattle.parser.proofs.peek.Reads as peek-reads
 use Rattle.parser.proofs.report.Reads as report-reads
-use Rattle.parser.proofs.util.bump_ascription.Reads as bump-ascription-reads
-use Rattle.parser.proofs.util.eat.Reads as eat-reads
-use Rattle.parser.proofs.util.lab.Reads as lab-reads
-use Rattle.parser.proofs.util.path_must.Reads as path-must-reads
+use Rattle.util.proofs.bump_ascription.Reads as bump-ascription-reads
+use Rattle.util.proofs.eat.Reads as eat-reads
+use Rattle.util.proofs.lab.Reads as lab-reads
+use Rattle.util.proofs.path_must.Reads as path-must-reads
 use Rattle.ty.proofs.ty_con.Reads as ty-con-reads
 use Rattle.ty.proofs.+arg_item+arg_turn+row_item+row_turn+star_factor+star_tail+star_turn+ty_arg+ty_args+ty_arrow+ty_head+ty_inner+ty_must+ty_prec+ty_round+ty_row+ty_rows+ty_seq+ty_step+ty_tail+ty_tuple.{
   statement,

@@ -14,7 +14,7 @@ use Rattle.parser.proofs.State.refuse.Reads as refuse-reads
 use Rattle.parser.proofs.bump.Reads as bump-reads
 use Rattle.parser.proofs.close.Reads as close-reads
 use Rattle.parser.proofs.peek.Reads as peek-reads
-use Rattle.parser.proofs.util.ascription.Reads as ascription-reads
+use Rattle.util.proofs.ascription.Reads as ascription-reads
 use Rattle.ty.proofs.ty_must.Reads as ty-must-reads
 
 peek-requires : tie.Need-peek-requires

@@ -9,7 +9,7 @@ use Rattle.pat_parts.proofs.leaves.con_name.Tie as tie
 use Rattle.pat_parts.proofs.leaves.con_name.Reads as reads
 use Rattle.pat_parts.proofs.leaves.con_name.Lts as lts
 use Rattle.parser.proofs.at.Reads as at-reads
-use Rattle.parser.proofs.util.path_infix.Reads as path-infix-reads
+use Rattle.util.proofs.path_infix.Reads as path-infix-reads
 use Rattle.pat_parts.proofs.leaves.con_path.Reads as con-path-reads
 
 at-requires : tie.Need-at-requires

@@ -8,9 +8,9 @@ use Rattle.pat_parts.proofs.leaves.con_path.Statement.{statement}
 use Rattle.pat_parts.proofs.leaves.con_path.Tie as tie
 use Rattle.pat_parts.proofs.leaves.con_path.Reads as reads
 use Rattle.pat_parts.proofs.leaves.con_path.Lts as lts
-use Rattle.parser.proofs.util.path.Reads as path-reads
-use Rattle.parser.proofs.util.path_no_infix.Reads as path-no-infix-reads
 use Rattle.pat_parts.proofs.cases.reports.Reads as reports-reads
+use Rattle.util.proofs.path.Reads as path-reads
+use Rattle.util.proofs.path_no_infix.Reads as path-no-infix-reads
 
 reports-requires : tie.Need-reports-requires
 reports-requires c κs =

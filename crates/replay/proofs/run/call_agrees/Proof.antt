@@ -2,9 +2,9 @@
 use native.Mathlib.Omega.{arith}
 use mathlib.Core.Path.{_≡_, ap, _∙_}
 use Rattle.grammar.specs.Read.{Call, Result}
-use Rattle.sml_parse.specs.Entry.{served}
-use Rattle.replay.specs.Agree.{agrees}
-use Rattle.replay.specs.Laws.{settings}
+use Rattle.answers.specs.Entry.{served}
+use Rattle.replay_parts.specs.Agree.{agrees}
+use Rattle.replay_parts.specs.Laws.{settings}
 use borrow.Author.Needs.{needs}
 use Rattle.replay.proofs.run.call_agrees.Statement.{statement}
 use Rattle.replay.proofs.run.call_agrees.Tie as tie

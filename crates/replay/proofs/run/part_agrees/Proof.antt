@@ -1,14 +1,14 @@
 -- by hand: parts of buffers, by their lengths.
 use mathlib.Core.Path.{_≡_, ap, _∙_}
 use Rattle.grammar.specs.Read.{Call}
-use Rattle.sml_parse.specs.Entry.{served}
-use Rattle.replay.specs.Agree.{agrees, agreesAt}
-use Rattle.replay.specs.Laws.{called, part-same}
+use Rattle.answers.specs.Entry.{served}
+use Rattle.replay_parts.specs.Agree.{agrees, agreesAt}
+use Rattle.replay_parts.specs.Laws.{called, part-same}
 use Prim.Native.Nat.{ℕ, _+_, _-_}
 use native.Mathlib.Omega.{arith}
 use lib.ListN.{take, length-take}
 use Rattle.sml_fixity.specs.Table.{part}
-use Rattle.replay.specs.Form.{headSize, textFrom, toksFrom, envFrom, textSize, toksSize, envSize, Lent}
+use Rattle.replay_parts.specs.Form.{headSize, textFrom, toksFrom, envFrom, textSize, toksSize, envSize, Lent}
 use borrow.Author.Needs.{needs}
 use Rattle.replay.proofs.run.part_agrees.Statement.{statement}
 use Rattle.replay.proofs.run.part_agrees.Tie as tie

@@ -5,10 +5,11 @@ use native.Mathlib.Omega.{arith}
 use mathlib.Core.Path.{_≡_, refl}
 use mathlib.Core.List.{List, [], _∷_}
 use borrow.Author.Needs.{needs}
-use lib.ListN.{getD, take, drop, length-take, length-drop}
+use lib.ListN.{length, getD, take, drop}
 use Rattle.grammar.specs.Bytes.{ascii}
 use Rattle.grammar.specs.Computing.{computing}
 use Rattle.sml_fixity.specs.Basis.{rankAt, entryBytes, stdEntry, stdPlace}
+use Rattle.sml_fixity.proofs.Parts.{part-length}
 use Rattle.sml_fixity.proofs.basis.Tests.{all-equal, all-below, all-same}
 use Rattle.sml_fixity.proofs.basis.put_name.Statement.{statement}
 use Rattle.sml_fixity.proofs.basis.put_name.Tie as tie
@@ -22,12 +23,23 @@ starts = 0 ∷ 1 ∷ 2 ∷ 3 ∷ 4 ∷ 6 ∷ 8 ∷ 9 ∷ 11 ∷ 13 ∷ 14 ∷ 15
 abbrev rankOf : List ℕ
 rankOf = 0 ∷ 1 ∷ 1 ∷ 0 ∷ 2 ∷ 4 ∷ 3 ∷ 3 ∷ 3 ∷ 3 ∷ 3 ∷ 3 ∷ 2 ∷ 1 ∷ 5 ∷ 0 ∷ 0 ∷ 4 ∷ []
 
+abbrev nameOf : ℕ → List ℕ
+nameOf k = take (getD starts (k + 1) 0 - getD starts k 0) (drop (getD starts k 0) names)
+
 module _ (k : ℕ) (h : k < 18) where
   ordered : getD starts k 0 ≤ getD starts (k + 1) 0
   ordered = all-below (λ (j : ℕ). getD starts j 0) (λ (j : ℕ). getD starts (j + 1) 0) 18 refl k h
 
   within : getD starts (k + 1) 0 ≤ 32
   within = all-below (λ (j : ℕ). getD starts (j + 1) 0) (λ (j : ℕ). 32) 18 refl k h
+
+  -- what `put_entry` requires, stated apart from its answer, where `omega` and `simp` would read all that is known of the code
+  long : length (nameOf k) ≡ getD starts (k + 1) 0 - getD starts k 0
+  unfolding ascii names
+  long = part-length names (getD starts k 0) (getD starts (k + 1) 0 - getD starts k 0) (omega (arith, ordered, within))
+
+  fits : (out : List ℕ) → length out ≡ 104 → (length (nameOf k) < 256) × (getD starts k 0 + 4 * k + length (nameOf k) + 4 ≤ length out)
+  fits out e = let o = ordered in let w = within in let l = long in (omega arith, omega arith)
 
   ranked : getD rankOf k 0 < 6
   ranked = all-below (λ (j : ℕ). suc (getD rankOf j 0)) (λ (j : ℕ). 6) 18 refl k h
@@ -36,11 +48,11 @@ module _ (k : ℕ) (h : k < 18) where
   unfolding computing
   place = all-equal (λ (j : ℕ). getD starts j 0 + 4 * j) stdPlace 18 refl k h
 
-  bytes : entryBytes (take (getD starts (k + 1) 0 - getD starts k 0) (drop (getD starts k 0) names)) (rankAt (getD rankOf k 0)) ≡ stdEntry k
+  bytes : entryBytes (nameOf k) (rankAt (getD rankOf k 0)) ≡ stdEntry k
   unfolding computing names
   bytes =
       all-same
-      (λ (j : ℕ). entryBytes (take (getD starts (j + 1) 0 - getD starts j 0) (drop (getD starts j 0) names)) (rankAt (getD rankOf j 0)))
+      (λ (j : ℕ). entryBytes (nameOf j) (rankAt (getD rankOf j 0)))
       stdEntry 18 refl k h
 
 mul-start : tie.Need-mul-start
@@ -83,11 +95,8 @@ rank-requires : tie.Need-rank-requires
 rank-requires c κs = let s = c .before .before .before .before in ranked (s .args .k) (s .pre .1)
 
 put-entry-requires : tie.Need-put-entry-requires
-put-entry-requires c κs =
-    let s = c .before .before .before .before .before in
-    let o = ordered (s .args .k) (s .pre .1) in
-    let w = within (s .args .k) (s .pre .1) in
-    simp (length-take, length-drop) (omega arith, omega arith)
+unfolding ascii names
+put-entry-requires c κs = let s = c .before .before .before .before .before in fits (s .args .k) (s .pre .1) (s .args .out .now) (s .pre .0)
 
 same-length : tie.Need-same-length
 same-length c = search needs

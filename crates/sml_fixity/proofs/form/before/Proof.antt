@@ -4,7 +4,7 @@ use Prim.Native.Nat.{ℕ, _+_, _-_, _≤_, _<_}
 use native.Mathlib.Numerals.{add-one}
 use native.Mathlib.Nat.{eq-or-lt-of-le}
 use native.Mathlib.Omega.{arith}
-use mathlib.Core.Path.{_≡_}
+use mathlib.Core.Path.{_≡_, sym, _∙_}
 use mathlib.Core.Bool.{false}
 use mathlib.Core.List.{List}
 use mathlib.Core.Logic.{⊎-elim}
@@ -48,7 +48,7 @@ loop-holds c = search needs
 returns : tie.Need-returns Inv-loop μ-loop
 returns c =
     let l = c .before .before in
-    cc (shorter (l .before .args .a .now) (l .before .args .b .now) (l .loop .i) (c .before .loop-test .taken) (c .if1 .taken))
+    sym (shorter (l .before .args .a .now) (l .before .args .b .now) (l .loop .i) (c .before .loop-test .taken) (c .if1 .taken)) ∙ l .loop .inv .2
 
 shared-slice-read-if2 : tie.Need-shared-slice-read-if2 Inv-loop μ-loop
 shared-slice-read-if2 c = search needs
@@ -66,7 +66,7 @@ returns-2 : tie.Need-returns-2 Inv-loop μ-loop
 returns-2 c =
     let t = c .before .before in
     let l = t .before .before .before .before .before in
-    cc (other (l .before .args .a .now) (l .before .args .b .now) (l .loop .i) (omega arith) (omega arith) (t .if2 .taken))
+    sym (other (l .before .args .a .now) (l .before .args .b .now) (l .loop .i) (omega arith) (omega arith) (t .if2 .taken)) ∙ l .loop .inv .2
 
 add-i : tie.Need-add-i Inv-loop μ-loop
 add-i c = search needs
@@ -77,12 +77,12 @@ loop-less c = search needs
 loop-again : tie.Need-loop-again Inv-loop μ-loop
 loop-again c =
     let l = c .before .before .before .before .before in
-    (search needs, search needs, (cc (onward (l .before .args .a .now) (l .before .args .b .now) (l .loop .i) (omega arith) (omega arith) (c .if2 .left))))
+    (search needs, search needs, sym (onward (l .before .args .a .now) (l .before .args .b .now) (l .loop .i) (omega arith) (omega arith) (c .if2 .left)) ∙ l .loop .inv .2)
 
 returns-3 : tie.Need-returns-3 Inv-loop μ-loop
 returns-3 c =
     let l = c .before in
-    cc (ended (l .before .args .a .now) (l .before .args .b .now) (l .loop .i) (omega arith) (omega arith))
+    sym (ended (l .before .args .a .now) (l .before .args .b .now) (l .loop .i) (omega arith) (omega arith)) ∙ l .loop .inv .2
 
 pub before-spec : {M : Type 1} → statement M
 before-spec =

@@ -23,6 +23,10 @@ use Rattle.sml_fixity.proofs.out.next_entry.Tie as tie
 abbrev Held : List ℕ → List ℕ → List ℕ → Type 0
 Held env last best = (before [] best ≡ true → before last best ≡ true) × (before last best ≡ true → count (find best (entriesIn env)) ≡ 1)
 
+-- nothing comes before the empty name
+none-held : (env last : List ℕ) → Held env last []
+none-held env last = (λ h. cc (empty-first []), λ h. cc (empty-first last))
+
 -- a turn: `best` is then the closer of itself and the entry's name
 module _ (env last best : List ℕ) (at : ℕ) (h : at < length env) (r : Rest (λ x. nearer last best x ≡ true) env at) (held : Held env last best) where
   turn : (b : List ℕ) → b ≡ closestOf last best (part env (at + 1) (getD env at 0)) → Rest (λ x. nearer last b x ≡ true) env (at + 1 + getD env at 0 + 3) × Held env last b
@@ -51,7 +55,7 @@ loop-holds : tie.Need-loop-holds Inv-loop μ-loop
 loop-holds c =
     let b = c .before .before .before in
     let a = b .args in
-    (starts (λ x. nearer (a .last .now) [] x ≡ true) (a .env .now) (b .pre), (λ h. cc (empty-first []), λ h. cc (empty-first (a .last .now))))
+    (starts (λ x. nearer (a .last .now) [] x ≡ true) (a .env .now) (b .pre), none-held (a .env .now) (a .last .now))
 
 -- the entry at `at`
 entry : (c : tie.In-loop Inv-loop μ-loop) → Next (c .before .before .before .before .before .args .env .now) (c .before .loop .at) (c .before .loop .inv .0 .es)

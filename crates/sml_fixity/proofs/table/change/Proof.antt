@@ -32,7 +32,8 @@ entries : (c : tie.After-holds2) → let a = start (c .before .before .before .b
 entries c =
     let b = start (c .before .before .before .before .before) in
     let a = b .args in
-    cc (balance (a .text .now) (a .env .now) (a .journal .now) (a .t) (a .start) (a .len) (a .f) (b .pre .0) (b .pre .1), c .holds2 .ensures, c .before .before .holds .ensures, c .before .before .before .find .ensures)
+    balance (a .text .now) (a .env .now) (a .journal .now) (a .t) (a .start) (a .len) (a .f) (b .pre .0) (b .pre .1)
+    (c .before .before .holds .result) (c .holds2 .result) (fixityOf (c .before .before .before .find .result)) (c .before .before .holds .ensures) (c .holds2 .ensures) (c .before .before .before .find .ensures)
 
 holds-requires : tie.Need-holds-requires
 holds-requires c κs = search needs

@@ -63,7 +63,7 @@ same-requires c κs =
 
 -- what the comparison says of the change's name
 compared : (c : tie.After-same Inv-loop μ-loop) → let l = c .before .before .before .before in let a = start l .args in c .same .result ≡ same (part (a .name .now) (a .start) (a .len)) (nameAt (a .text .now) (a .journal .now) (a .t .len - (l .loop .k + 1)))
-compared c = cc (c .same .ensures, c .before .pair2 .ensures, c .before .before .pair .ensures)
+compared c = rw (c .before .before .pair .ensures, c .before .pair2 .ensures) at (c .same .ensures)
 
 mul-read : tie.Need-mul-read Inv-loop μ-loop
 mul-read c = search needs

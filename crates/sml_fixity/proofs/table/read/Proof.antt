@@ -1,6 +1,7 @@
 -- by hand: tests of one byte: the laws of `fixIn`.
 -- `table::read` meets its contract, by what the third byte is.
-use mathlib.Core.Path.{sym}
+use mathlib.Core.Path.{sym, ap, _∙_}
+use mathlib.Core.Option.{some}
 use native.Mathlib.Omega.{arith}
 use lib.Dec.{lit<}
 use Rattle.sml_fixity.proofs.Fixities.{fix-some, fix-none}
@@ -24,7 +25,7 @@ returns : tie.Need-returns
 returns c =
     let a = c .before .before .before .before .before .args in
     let e = c .before .before .before .pair .ensures in
-    cc (c .left .ensures, fix-some (a .b .now) (a .i) _ 0 (sym e) (c .before .if1 .taken) (lit< tt))
+    ap some (c .left .ensures) ∙ sym (fix-some (a .b .now) (a .i) _ 0 (sym e) (c .before .if1 .taken) (lit< tt))
 
 right-requires : tie.Need-right-requires
 right-requires c κs = search needs
@@ -33,7 +34,7 @@ returns-2 : tie.Need-returns-2
 returns-2 c =
     let a = c .before .before .before .before .before .before .args in
     let e = c .before .before .before .before .pair .ensures in
-    cc (c .right .ensures, fix-some (a .b .now) (a .i) _ 1 (sym e) (c .before .if2 .taken) (lit< tt))
+    ap some (c .right .ensures) ∙ sym (fix-some (a .b .now) (a .i) _ 1 (sym e) (c .before .if2 .taken) (lit< tt))
 
 returns-3 : tie.Need-returns-3
 returns-3 c =

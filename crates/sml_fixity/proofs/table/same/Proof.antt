@@ -41,7 +41,7 @@ returns-2 : tie.Need-returns-2 Inv-loop μ-loop
 returns-2 c =
     let l = c .before .before .before .before in
     let a = l .before .before .args in
-    cc (same-differs (a .a .now) (a .b .now) (a .i) (a .j) (a .m) (a .n) (l .loop .k) (omega arith) (omega arith) (omega arith) (omega arith) (c .if2 .taken))
+    sym (same-differs (a .a .now) (a .b .now) (a .i) (a .j) (a .m) (a .n) (l .loop .k) (omega arith) (omega arith) (omega arith) (omega arith) (c .if2 .taken)) ∙ l .loop .inv .1
 
 add-k : tie.Need-add-k Inv-loop μ-loop
 add-k c = search needs
@@ -53,13 +53,13 @@ loop-again : tie.Need-loop-again Inv-loop μ-loop
 loop-again c =
     let l = c .before .before .before .before in
     let a = l .before .before .args in
-    (search needs, (cc (same-next (a .a .now) (a .b .now) (a .i) (a .j) (a .m) (a .n) (l .loop .k) (omega arith) (omega arith) (omega arith) (omega arith) (c .if2 .left))))
+    (search needs, sym (same-next (a .a .now) (a .b .now) (a .i) (a .j) (a .m) (a .n) (l .loop .k) (omega arith) (omega arith) (omega arith) (omega arith) (c .if2 .left)) ∙ l .loop .inv .1)
 
 returns-3 : tie.Need-returns-3 Inv-loop μ-loop
 returns-3 c =
     let l = c .before in
     let a = l .before .before .args in
-    cc (same-none (a .a .now) (a .b .now) (a .i) (a .j) (a .m) (a .n) (l .loop .k) (omega arith) (omega arith))
+    sym (same-none (a .a .now) (a .b .now) (a .i) (a .j) (a .m) (a .n) (l .loop .k) (omega arith) (omega arith)) ∙ l .loop .inv .1
 
 pub same-spec : {M : Type 1} → statement M
 same-spec =

@@ -1,0 +1,3 @@
+pub mod Finds
+pub mod Hands
+pub mod Starts

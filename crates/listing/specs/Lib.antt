@@ -1,2 +1,0 @@
-pub mod File
-pub mod Used

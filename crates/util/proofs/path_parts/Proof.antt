@@ -1,0 +1,82 @@
+-- by tools/prove
+use Rattle.laws.specs.Progress.{path-part-advances}
+use Rattle.parser.specs.View.{mem}
+use Rattle.parser.specs.Runs.{runs-in, Loops, turns, loop-starts, loop-goes, loop-falls, loop-ends}
+use mathlib.Core.Path.{_≡_, refl, _∙_}
+use mathlib.Core.Bool.{true}
+use Rattle.grammar.specs.Util as util
+use borrow.Author.Needs.{needs}
+use lib.ListN.{length}
+use Rattle.util.proofs.path_parts.Statement.{statement}
+use Rattle.util.proofs.path_parts.Tie as tie
+use Rattle.util.proofs.path_parts.Reads as reads
+use Rattle.util.proofs.path_parts.Lts as lts
+use Rattle.util.proofs.path_part.Reads as path-part-reads
+
+abbrev Inv-loop : tie.InvT-loop
+Inv-loop text toks env table scratch₀ finds₀ left b s1₀ scratch finds s1 =
+    Loops left b (util.pathPart {g = true}) (mem text toks env table scratch₀ finds₀ s1₀) (mem text toks env table scratch finds s1) × (length scratch ≡ length scratch₀) × (length finds ≡ length finds₀)
+
+abbrev μ-loop : tie.MeasureT-loop
+μ-loop text toks env table scratch₀ finds₀ left b s1₀ scratch finds s1 = turns (mem text toks env table scratch finds s1)
+
+loop-holds : tie.Need-loop-holds Inv-loop μ-loop
+loop-holds c =
+    let pre0 = c .before .before .before .before .before .before .pre in
+    (loop-starts pre0, refl, refl)
+
+path-part-requires : tie.Need-path-part-requires Inv-loop μ-loop
+path-part-requires c κs =
+    let inv = c .before .before .loop .inv .0 .ok in
+    inv
+
+enum-known-turn : tie.Need-enum-known-turn Inv-loop μ-loop
+enum-known-turn c =
+    let pre0 = c .before .before .before .before .before .before .before .before .before .before .before .before .before .before .before .pre in
+    search needs
+
+loop-less : tie.Need-loop-less Inv-loop μ-loop
+loop-less c =
+    let path-part = rw (c .before .turn .given .1) at (c .before .before .before .before .before .before .before .path-part .ensures) in
+    loop-falls (path-part-advances true _ _) (runs-in {b = 0} path-part)
+
+loop-again : tie.Need-loop-again Inv-loop μ-loop
+loop-again c =
+    let inv = c .before .before .before .before .before .before .before .before .before .before .loop .inv .0 in
+    let path-part = rw (c .before .turn .given .1) at (c .before .before .before .before .before .before .before .path-part .ensures) in
+    (loop-goes (path-part-advances true _ _) inv (runs-in path-part), c .before .before .before .before .before .before .before .path-part .kept .1 .1 .1 .1 .0 ∙ c .before .before .before .before .before .before .before .before .before .before .loop .inv .1, c .before .before .before .before .before .before .before .path-part .kept .1 .1 .1 .1 .1 .0 ∙ c .before .before .before .before .before .before .before .before .before .before .loop .inv .2)
+
+enum-known-turn-2 : tie.Need-enum-known-turn-2 Inv-loop μ-loop
+enum-known-turn-2 c =
+    let pre0 = c .before .before .before .before .before .before .before .before .before .before .before .before .before .before .before .pre in
+    search needs
+
+same-length : tie.Need-same-length Inv-loop μ-loop
+same-length c =
+    c .before .before .before .before .before .before .before .path-part .kept .1 .1 .1 .1 .0 ∙ c .before .before .before .before .before .before .before .before .before .before .loop .inv .1
+
+same-length-2 : tie.Need-same-length-2 Inv-loop μ-loop
+same-length-2 c =
+    c .before .before .before .before .before .before .before .path-part .kept .1 .1 .1 .1 .1 .0 ∙ c .before .before .before .before .before .before .before .before .before .before .loop .inv .2
+
+returns : tie.Need-returns Inv-loop μ-loop
+returns c =
+    let inv = c .before .before .before .before .before .before .before .before .before .before .loop .inv .0 in
+    let path-part = rw (c .before .turn2 .given .1) at (c .before .before .before .before .before .before .before .path-part .ensures) in
+    loop-ends (path-part-advances true _ _) inv (runs-in path-part)
+
+pub path-parts-spec : {M : Type 1} → statement M
+path-parts-spec =
+    tie.close
+    (tie.spec
+    Inv-loop
+    μ-loop
+    loop-holds
+    path-part-requires
+    enum-known-turn
+    loop-less
+    loop-again
+    enum-known-turn-2
+    same-length
+    same-length-2
+    returns)
