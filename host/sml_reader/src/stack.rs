@@ -10,7 +10,7 @@ use std::thread;
 
 /// The bytes of stack that a call may use. At each level of depth a function of
 /// the archive is entered at most once, and the frames of all of them together
-/// take 58,480 bytes: at depth 1,000 that is less. What is used in fact is far
+/// take 57,952 bytes: at depth 1,000 that is less. What is used in fact is far
 /// less again; the test `stack` of `compare` measures it.
 pub const NEED: usize = 64 << 20;
 
