@@ -1,4 +1,4 @@
-// The declarations that hold no expression, structure or signature: dec.rs. They stand apart from dec_parts, which needs no patterns and so is proved beside them.
+// The declarations that hold no expression, structure or signature: dec.rs. They hold imports, and so patterns, which dec_parts does not need.
 use dat_parts::datatype;
 use dat_parts::ty_binds;
 use fix_parts::infix_dec;
