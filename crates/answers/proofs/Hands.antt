@@ -12,9 +12,9 @@ use Rattle.grammar.specs.World.World.{on}
 use Rattle.grammar.specs.Env.{envBytes}
 use Rattle.grammar.specs.Nodes.{nodesOf, nodesBytes, findBytes}
 use Rattle.grammar.specs.Read.{Call, Result, finish, refusal, handed, pad, zeroes, noNodes, noFinal}
-use Rattle.sml_fixity.specs.Out.{Copies}
-use Rattle.sml_fixity.specs.declared.out.Copied.{Copied}
-use Rattle.sml_fixity.specs.declared.out.Copied.the-variants.{Fits, TooLong}
+use Rattle.env_bytes.specs.Out.{Copies}
+use Rattle.env_bytes.specs.declared.out.Copied.{Copied}
+use Rattle.env_bytes.specs.declared.out.Copied.the-variants.{Fits, TooLong}
 use Rattle.sml_fixity.specs.Table.{tableOf}
 use Rattle.parser.specs.View.{mem, nowOf, tableIn, chunks, findOf}
 use Rattle.parser.specs.declared.State.{State}

@@ -12,11 +12,11 @@ use Rattle.grammar.specs.Env.{Entry, envOf}
 use Rattle.grammar.specs.Tokens.{live, listsFit, recordCount}
 use Rattle.grammar.specs.World.World.{on}
 use Rattle.grammar.specs.Read.{start}
-use Rattle.sml_fixity.specs.Form.{countOf}
+use Rattle.env_bytes.specs.Form.{countOf}
 use Rattle.sml_fixity.specs.Table.{Stands, entriesIn}
 use Rattle.sml_fixity.proofs.Scopes.{begins}
 use Rattle.parser.specs.View.{Mem, mem, Sound, Next, seenIn, nowOf, restOf, chunks, tableIn}
-use Rattle.parser.specs.Checks.{records-fit}
+use Rattle.tokens.specs.Checks.{records-fit}
 use Rattle.parser.specs.declared.State.{State}
 use Rattle.answers.specs.Entry.{callOf, Tested}
 

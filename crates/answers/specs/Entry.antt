@@ -10,9 +10,9 @@ use lib.ListN.{length, getD}
 use Rattle.grammar.specs.Env.{envOf}
 use Rattle.grammar.specs.Tokens.{listsFit, recordsFit, recordCount}
 use Rattle.grammar.specs.Read.{Call, Result, read, pad, zeroes}
-use Rattle.sml_fixity.specs.Form.{countOf}
-use Rattle.sml_fixity.specs.declared.out.Copied.{Copied}
-use Rattle.sml_fixity.specs.declared.out.Copied.the-variants.{Fits, TooLong}
+use Rattle.env_bytes.specs.Form.{countOf}
+use Rattle.env_bytes.specs.declared.out.Copied.{Copied}
+use Rattle.env_bytes.specs.declared.out.Copied.the-variants.{Fits, TooLong}
 use Rattle.answers.specs.declared.Answer.{Answer}
 
 -- the call of these settings over what is lent, before it

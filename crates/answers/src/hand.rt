@@ -1,12 +1,12 @@
 // What a call hands out: the nodes, the findings and the final environment, with every other byte cleared.
 use crate::Answer;
 use crate::refusal::refuse_all;
+use env_bytes::out;
+use env_bytes::out::Copied;
 use nodes::clear;
 use nodes::node_count;
 use nodes::write_nodes;
 use parser::State;
-use sml_fixity::out;
-use sml_fixity::out::Copied;
 use sml_fixity::table::Table;
 ghost use mathlib.Core.Path.{_≡_};
 ghost use Prim.Native.Nat.{_+_, _*_, _≤_, _<_};

@@ -1,31 +1,27 @@
-// The parts of dec.rs that hold no expression, structure or signature: type variables, sharing, `where`, paths of structures, starts and ends.
+// The parts of dec.rs that start and end a declaration, and hold no expression, structure or signature.
 use parser::Found;
-use parser::Look;
+use parser::InfixErr;
+use parser::NO_NAME;
 use parser::State;
-use parser::TOO_DEEP;
 use parser::at;
 use parser::bump;
 use parser::close;
+use parser::finding;
 use parser::kind;
-use parser::peek;
-use ty::ty_must;
+use parser::report;
+use pat::pat_must;
+use pat::pat_prec;
+use pat_parts::PatPrec;
 use ty_parts::ty_var_seq;
-use util::bump_if;
-use util::path;
 use util::path_must;
 use util::want;
-ghost use mathlib.Core.Path.{_≡_};
-ghost use mathlib.Core.Bool.{true};
-ghost use Prim.Native.Nat.{suc, _<_};
-ghost use Rattle.grammar.specs.Prog.{Prog};
-ghost use Rattle.grammar.specs.Util as util;
+ghost use Prim.Native.Nat.{_<_};
 ghost use Rattle.grammar.specs.Dec as decl;
-ghost use Rattle.grammar.specs.SyntaxKind as SK;
-ghost use Rattle.parser.specs.View.{Sound, mem, outState, outVal};
+ghost use Rattle.parser.specs.View.{Sound, mem, errOf, outState, outVal};
 ghost use Rattle.parser.specs.Runs.{Runs, RunsIn};
 
-// The least type: `ty` of ty.rs.
-const ARROW: u8 = 0;
+// The least pattern: `pat` of pat.rs.
+const ANY: PatPrec = PatPrec::Min;
 
 // `val` or `fun`, and the type variables behind it.
 pub fn bump_vars(
@@ -44,164 +40,6 @@ pub fn bump_vars(
     let s1 = bump(toks, scratch, s);
     let vars = ty_var_seq(text, toks, env, table, scratch, finds, left, s1);
     vars.state()
-}
-
-// Paths, between `=`.
-// unfolds: util.manyTurn
-// advances: many-turn-advances true SK.Eq SK.PathEq util.pathMust
-fn path_eqs(
-    text: &[u8],
-    toks: &[u8],
-    env: &[u8],
-    table: &[u8],
-    scratch: &mut [u8],
-    finds: &mut [u8],
-    left: usize,
-    b: usize,
-    s: State,
-) -> State
-    requires { ⌜ Sound (mem (now text) (now toks) (now env) (now table) (now scratch) (now finds) s) ⌝ }
-    ensures { λ r. ⌜ RunsIn left b (Prog.loop (util.manyTurn {g = true} SK.Eq SK.PathEq (util.pathMust {g = true}))) (mem (now (text .entry)) (now (toks .entry)) (now (env .entry)) (now (table .entry)) (now (scratch .entry)) (now (finds .entry)) s) (mem (now (text .entry)) (now (toks .entry)) (now (env .entry)) (now (table .entry)) (now (scratch .exit)) (now (finds .exit)) r) 0 ⌝ }
-{
-    let mut s1 = s;
-    loop {
-        if left == 0 {
-            return s1.refuse(TOO_DEEP);
-        }
-        let s2 = s1.mark();
-        let c = s2.len;
-        let item = path_must(text, toks, env, table, scratch, finds, left - 1, s2);
-        match item {
-            Found::Missing(s3) => return s3,
-            Found::At(s3) => {
-                if at(toks, kind::EQ, s3) {
-                    let s4 = bump(toks, scratch, s3);
-                    s1 = close(scratch, kind::PATH_EQ, c, s4);
-                    continue;
-                }
-                return close(scratch, kind::PATH_EQ, c, s3);
-            }
-        }
-    }
-}
-
-// A sharing tail, where one is next.
-// unfolds: util.manySep
-fn sharing_turn(
-    text: &[u8],
-    toks: &[u8],
-    env: &[u8],
-    table: &[u8],
-    scratch: &mut [u8],
-    finds: &mut [u8],
-    left: usize,
-    s: State,
-) -> Found
-    requires { ⌜ Sound (mem (now text) (now toks) (now env) (now table) (now scratch) (now finds) s) ⌝ }
-    ensures { λ r. ⌜ Runs left (decl.sharingTurn {g = true}) (mem (now (text .entry)) (now (toks .entry)) (now (env .entry)) (now (table .entry)) (now (scratch .entry)) (now (finds .entry)) s) (mem (now (text .entry)) (now (toks .entry)) (now (env .entry)) (now (table .entry)) (now (scratch .exit)) (now (finds .exit)) (outState r)) (outVal r) ⌝ }
-{
-    if at(toks, kind::SHARING_KW, s) {
-        if left == 0 {
-            return Found::At(s.refuse(TOO_DEEP));
-        }
-        let s1 = s.mark();
-        let b = s1.len;
-        let s2 = bump(toks, scratch, s1);
-        let s3 = bump_if(toks, scratch, kind::TYPE_KW, s2);
-        let s4 = path_eqs(text, toks, env, table, scratch, finds, left - 1, b, s3);
-        return Found::At(close(scratch, kind::SHARING_TAIL, b, s4));
-    }
-    Found::Missing(s)
-}
-
-// Sharing tails.
-// advances: sharing-advances true
-fn sharing_tails(
-    text: &[u8],
-    toks: &[u8],
-    env: &[u8],
-    table: &[u8],
-    scratch: &mut [u8],
-    finds: &mut [u8],
-    left: usize,
-    b: usize,
-    s: State,
-) -> State
-    requires { ⌜ Sound (mem (now text) (now toks) (now env) (now table) (now scratch) (now finds) s) ⌝ }
-    ensures { λ r. ⌜ RunsIn left b (Prog.loop (decl.sharingTurn {g = true})) (mem (now (text .entry)) (now (toks .entry)) (now (env .entry)) (now (table .entry)) (now (scratch .entry)) (now (finds .entry)) s) (mem (now (text .entry)) (now (toks .entry)) (now (env .entry)) (now (table .entry)) (now (scratch .exit)) (now (finds .exit)) r) 0 ⌝ }
-{
-    let mut s1 = s;
-    loop {
-        let turn = sharing_turn(text, toks, env, table, scratch, finds, left, s1);
-        match turn {
-            Found::At(s2) => s1 = s2,
-            Found::Missing(s2) => return s2,
-        }
-    }
-}
-
-// The sharing tails, where one is next.
-fn sharings(
-    text: &[u8],
-    toks: &[u8],
-    env: &[u8],
-    table: &[u8],
-    scratch: &mut [u8],
-    finds: &mut [u8],
-    left: usize,
-    b: usize,
-    s: State,
-) -> Found
-    requires { ⌜ Sound (mem (now text) (now toks) (now env) (now table) (now scratch) (now finds) s) ⌝ }
-    ensures { λ r. ⌜ RunsIn left b (decl.sharings {g = true}) (mem (now (text .entry)) (now (toks .entry)) (now (env .entry)) (now (table .entry)) (now (scratch .entry)) (now (finds .entry)) s) (mem (now (text .entry)) (now (toks .entry)) (now (env .entry)) (now (table .entry)) (now (scratch .exit)) (now (finds .exit)) (outState r)) (outVal r) ⌝ }
-{
-    if at(toks, kind::SHARING_KW, s) {
-        let s1 = sharing_tails(text, toks, env, table, scratch, finds, left, b, s);
-        return Found::At(s1);
-    }
-    Found::Missing(s)
-}
-
-// The end of declarations where none came. Their node stands also where it is empty.
-pub fn bare_tail(
-    text: &[u8],
-    toks: &[u8],
-    env: &[u8],
-    table: &[u8],
-    scratch: &mut [u8],
-    finds: &mut [u8],
-    left: usize,
-    b: usize,
-    s: State,
-) -> Found
-    requires { ⌜ Sound (mem (now text) (now toks) (now env) (now table) (now scratch) (now finds) s) × (b < 4294967296) ⌝ }
-    ensures { λ r. ⌜ RunsIn left b (decl.bareTail {g = true}) (mem (now (text .entry)) (now (toks .entry)) (now (env .entry)) (now (table .entry)) (now (scratch .entry)) (now (finds .entry)) s) (mem (now (text .entry)) (now (toks .entry)) (now (env .entry)) (now (table .entry)) (now (scratch .exit)) (now (finds .exit)) (outState r)) (outVal r) ⌝ }
-{
-    let more = sharings(text, toks, env, table, scratch, finds, left, b, s);
-    match more {
-        Found::At(s1) => Found::At(close(scratch, kind::DEC_WITH_TAIL, b, s1)),
-        Found::Missing(s1) => Found::Missing(close(scratch, kind::DEC_WITH_TAIL, b, s1)),
-    }
-}
-
-// The end of `dec_with_tail` behind declarations.
-pub fn full_tail(
-    text: &[u8],
-    toks: &[u8],
-    env: &[u8],
-    table: &[u8],
-    scratch: &mut [u8],
-    finds: &mut [u8],
-    left: usize,
-    b: usize,
-    s: State,
-) -> State
-    requires { ⌜ Sound (mem (now text) (now toks) (now env) (now table) (now scratch) (now finds) s) × (b < 4294967296) ⌝ }
-    ensures { λ r. ⌜ RunsIn left b (decl.fullTail {g = true}) (mem (now (text .entry)) (now (toks .entry)) (now (env .entry)) (now (table .entry)) (now (scratch .entry)) (now (finds .entry)) s) (mem (now (text .entry)) (now (toks .entry)) (now (env .entry)) (now (table .entry)) (now (scratch .exit)) (now (finds .exit)) r) 1 ⌝ }
-{
-    let more = sharings(text, toks, env, table, scratch, finds, left, b, s);
-    let s1 = more.state();
-    close(scratch, kind::DEC_WITH_TAIL, b, s1)
 }
 
 // The start of a functor application.
@@ -268,8 +106,8 @@ pub fn str_path(
     Found::At(close(scratch, kind::PATH_STR_EXP, b, s1))
 }
 
-// What is behind `where`, to the end of its node.
-fn where_tail(
+// Behind `val`: a pattern, or `rec` and a pattern.
+pub fn rec_pat(
     text: &[u8],
     toks: &[u8],
     env: &[u8],
@@ -277,93 +115,22 @@ fn where_tail(
     scratch: &mut [u8],
     finds: &mut [u8],
     left: usize,
-    b: usize,
+    e: InfixErr,
     s: State,
-) -> State
-    requires { ⌜ Sound (mem (now text) (now toks) (now env) (now table) (now scratch) (now finds) s) × (b < 4294967296) ⌝ }
-    ensures { λ r. ⌜ RunsIn left b decl.whereTail (mem (now (text .entry)) (now (toks .entry)) (now (env .entry)) (now (table .entry)) (now (scratch .entry)) (now (finds .entry)) s) (mem (now (text .entry)) (now (toks .entry)) (now (env .entry)) (now (table .entry)) (now (scratch .exit)) (now (finds .exit)) r) 0 ⌝ }
+) -> Found
+    requires { ⌜ Sound (mem (now text) (now toks) (now env) (now table) (now scratch) (now finds) s) ⌝ }
+    ensures { λ r. ⌜ Runs left (decl.recPat (errOf e)) (mem (now (text .entry)) (now (toks .entry)) (now (env .entry)) (now (table .entry)) (now (scratch .entry)) (now (finds .entry)) s) (mem (now (text .entry)) (now (toks .entry)) (now (env .entry)) (now (table .entry)) (now (scratch .exit)) (now (finds .exit)) (outState r)) (outVal r) ⌝ }
 {
-    if at(toks, kind::TYPE_KW, s) {
+    if at(toks, kind::REC_KW, s) {
         let s1 = bump(toks, scratch, s);
-        let vars = ty_var_seq(text, toks, env, table, scratch, finds, left, s1);
-        let s2 = vars.state();
-        let name = path_must(text, toks, env, table, scratch, finds, left, s2);
-        let s3 = name.state();
-        let s4 = want(toks, scratch, finds, kind::EQ, s3);
-        let s5 = ty_must(text, toks, env, table, scratch, finds, left, ARROW, s4);
-        return close(scratch, kind::WHERE_TYPE_SIG_EXP, b, s5);
+        let s2 = pat_must(text, toks, env, table, scratch, finds, left, ANY, e, s1);
+        return Found::At(s2);
     }
-    let name = path_must(text, toks, env, table, scratch, finds, left, s);
-    let s1 = name.state();
-    let s2 = want(toks, scratch, finds, kind::EQ, s1);
-    let same = path_must(text, toks, env, table, scratch, finds, left, s2);
-    let s3 = same.state();
-    close(scratch, kind::WHERE_SIG_EXP, b, s3)
-}
-
-// The kinds that `where` goes on at.
-fn where_and(k: u8) -> bool
-    ensures { λ r. ⌜ r ≡ decl.isWhereAnd (suc k) ⌝ }
-{
-    if k == kind::WHERE_KW {
-        return true;
-    }
-    k == kind::AND_KW
-}
-
-// What is behind a signature that started at `b`, between `where` and `and`.
-// unfolds: decl.sigStep
-// advances: sig-step-advances
-fn where_tails(
-    text: &[u8],
-    toks: &[u8],
-    env: &[u8],
-    table: &[u8],
-    scratch: &mut [u8],
-    finds: &mut [u8],
-    left: usize,
-    b: usize,
-    s: State,
-) -> State
-    requires { ⌜ Sound (mem (now text) (now toks) (now env) (now table) (now scratch) (now finds) s) × (b < 4294967296) ⌝ }
-    ensures { λ r. ⌜ RunsIn left b (Prog.loop decl.sigStep) (mem (now (text .entry)) (now (toks .entry)) (now (env .entry)) (now (table .entry)) (now (scratch .entry)) (now (finds .entry)) s) (mem (now (text .entry)) (now (toks .entry)) (now (env .entry)) (now (table .entry)) (now (scratch .exit)) (now (finds .exit)) r) 0 ⌝ }
-{
-    let mut s1 = s;
-    loop {
-        let Look::Kind(k) = peek(toks, s1) else {
-            return s1;
-        };
-        if where_and(k) {
-            if left == 0 {
-                s1 = s1.refuse(TOO_DEEP);
-                continue;
-            }
-            let s2 = s1.mark();
-            let s3 = bump(toks, scratch, s2);
-            s1 = where_tail(text, toks, env, table, scratch, finds, left - 1, b, s3);
-            continue;
+    let got = pat_prec(text, toks, env, table, scratch, finds, left, ANY, e, s);
+    match got {
+        Found::At(s1) => Found::At(s1),
+        Found::Missing(s1) => {
+            Found::Missing(report(finds, finding::EXPECTED, finding::PAT, NO_NAME, s1))
         }
-        return s1;
     }
-}
-
-// The same, where `where` is next.
-pub fn wheres(
-    text: &[u8],
-    toks: &[u8],
-    env: &[u8],
-    table: &[u8],
-    scratch: &mut [u8],
-    finds: &mut [u8],
-    left: usize,
-    b: usize,
-    s: State,
-) -> State
-    requires { ⌜ Sound (mem (now text) (now toks) (now env) (now table) (now scratch) (now finds) s) × (b < 4294967296) ⌝ }
-    ensures { λ r. ⌜ RunsIn left b decl.wheres (mem (now (text .entry)) (now (toks .entry)) (now (env .entry)) (now (table .entry)) (now (scratch .entry)) (now (finds .entry)) s) (mem (now (text .entry)) (now (toks .entry)) (now (env .entry)) (now (table .entry)) (now (scratch .exit)) (now (finds .exit)) r) 0 ⌝ }
-{
-    if at(toks, kind::WHERE_KW, s) {
-        return where_tails(text, toks, env, table, scratch, finds, left, b, s);
-    }
-    s
 }

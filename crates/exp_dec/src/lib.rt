@@ -1,14 +1,12 @@
 // Expressions and declarations: exp.rs and dec.rs, the functions that call one another.
+use bind_parts::op_name;
 use dat_parts::abs_head;
-use dat_parts::op_name;
 use dec_parts::Ending;
 use dec_parts::app_start;
-use dec_parts::bare_tail;
 use dec_parts::bump_vars;
 use dec_parts::end_node;
-use dec_parts::full_tail;
+use dec_parts::rec_pat;
 use dec_parts::str_path;
-use dec_parts::wheres;
 use exp_parts::keyword;
 use exp_parts::leaf;
 use exp_parts::paren_end;
@@ -21,7 +19,6 @@ use exp_prec::is_handle;
 use exp_prec::node_of;
 use exp_prec::should_break_exp;
 use fun_parts::fun_left;
-use fun_parts::rec_pat;
 use leaf_parts::leaf_dec;
 use parser::Found;
 use parser::InfixErr;
@@ -35,15 +32,19 @@ use parser::bump;
 use parser::close;
 use parser::finding;
 use parser::kind;
-use parser::names::fixity_at;
 use parser::peek;
 use parser::report;
 use pat::pat_prec;
 use pat_parts::PatPrec;
+use scopes::leave;
+use sharing_parts::bare_tail;
+use sharing_parts::full_tail;
 use sml_fixity::Fixity;
+use texts::fixity_at;
 use ty::of_ty;
 use ty::ty_annotation;
 use ty::ty_must;
+use ty_prec::ARROW;
 use util::ascription;
 use util::bump_ascription;
 use util::bump_if;
@@ -51,6 +52,7 @@ use util::eat;
 use util::lab;
 use util::name_star_eq;
 use util::want;
+use where_parts::wheres;
 ghost use mathlib.Core.Path.{_≡_};
 ghost use mathlib.Core.Bool.{Bool, true, false};
 ghost use Prim.Native.Nat.{ℕ, suc, _+_, _-_, _*_, _<_};
@@ -65,9 +67,7 @@ ghost use Rattle.exp_prec.specs.Prec.{precOf};
 
 // The names of the functions are short because the proofs of a cycle of calls stand in a folder that is named by all of them.
 
-// The least precedences: with them `ty_prec`, `pat_prec` and `exp_prec` of the source are its `ty`, `pat` and `exp`. And the operators that are no names.
-const ARROW: u8 = 0;
-
+// The least precedences: with them `pat_prec` and `exp_prec` of the source are its `pat` and `exp`. And the operators that are no names.
 const ANY: PatPrec = PatPrec::Min;
 
 const MIN: ExpPrec = ExpPrec::Min;
@@ -736,8 +736,7 @@ fn lex(
 {
     let s1 = bump(toks, scratch, s);
     let s2 = bdy(text, toks, env, table, scratch, finds, left, b, s1);
-    let s3 = s1.give_back(s2);
-    Found::At(close(scratch, kind::LET_EXP, b, s3))
+    Found::At(leave(scratch, kind::LET_EXP, b, s1, s2))
 }
 
 // What stands between `let` and `end`.
@@ -1613,7 +1612,7 @@ fn lo(
     let s2 = bump(toks, scratch, s1);
     let got = dec(text, toks, env, table, scratch, finds, left - 1, e, s2);
     let s3 = got.state();
-    let s4 = close(scratch, kind::LOCAL_DEC_HD, c, s3);
+    let s4 = leave(scratch, kind::LOCAL_DEC_HD, c, s2, s3);
     end(text, toks, env, table, scratch, finds, left, e, b, s4)
 }
 

@@ -1,10 +1,10 @@
 // Precedences of exp.rs, and when a climb ends.
+use breaks::should_break;
 use parser::Found;
 use parser::IMPOSSIBLE;
 use parser::State;
 use parser::kind;
 use sml_fixity::Infix;
-use util::should_break;
 ghost use mathlib.Core.Path.{_≡_};
 ghost use mathlib.Core.Bool.{false};
 ghost use Rattle.grammar.specs.Rule as rules;

@@ -6,7 +6,7 @@ use mathlib.Core.List.{List, []}
 use mathlib.Core.Option.{Option, none, some, Option·getD}
 use lib.ListN.{length}
 use Rattle.grammar.specs.Env.{Entry, Infix, envOf}
-use Rattle.sml_fixity.specs.Form.{countOf}
+use Rattle.env_bytes.specs.Form.{countOf}
 use Rattle.sml_fixity.specs.Table.{Stands, Made, Refused, Begins, Leaves}
 use Rattle.sml_fixity.specs.declared.table.Table.{Table}
 use Rattle.fixity_bench.specs.Bench.{Grown}

@@ -1,11 +1,11 @@
 // Changes, looks and a scope's end on a full table of 256 entries and 1,024 changes. What it finds is held to `stdout`; what it costs is measured from outside, by tools/measure.
+use env_bytes::basis;
+use env_bytes::form;
+use env_bytes::form::Form;
 use libc::STDIN_FILENO;
 use libc::STDOUT_FILENO;
 use sml_fixity::Fixity;
 use sml_fixity::Infix;
-use sml_fixity::basis;
-use sml_fixity::form;
-use sml_fixity::form::Form;
 use sml_fixity::table;
 use sml_fixity::table::Changed;
 use sml_fixity::table::Table;

@@ -1,6 +1,6 @@
 // The declarations that hold no expression, structure or signature: dec.rs. They hold imports, and so patterns, which dec_parts does not need.
+use bind_parts::ty_binds;
 use dat_parts::datatype;
-use dat_parts::ty_binds;
 use fix_parts::infix_dec;
 use fix_parts::infixr_dec;
 use fix_parts::nonfix_dec;

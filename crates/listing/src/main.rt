@@ -1,11 +1,11 @@
 // The listing program: one token file on standard input, its reading as lines on standard output (document 01).
+use env_bytes::basis;
 use libc::STDIN_FILENO;
 use libc::STDOUT_FILENO;
 use listing_parts::TRAILER;
 use listing_parts::is_file;
 use listing_parts::lines::wide;
 use listing_parts::list_answer;
-use sml_fixity::basis;
 use sml_fixity::table::pair;
 ghost use mathlib.Core.Path.{_≡_};
 ghost use mathlib.Core.Bool.{true};

@@ -12,7 +12,7 @@ use lib.Seq.{sets, length-sets, getD-set-same, getD-set-other}
 use Rattle.grammar.specs.Tokens.{Token, live, kindAt, textAt}
 use Rattle.grammar.specs.SyntaxKind as SK
 use Rattle.parser.specs.View.{chunks, chunkSize, bytesOf, putAt}
-use Rattle.parser.specs.Texts.{tokenAt}
+use Rattle.parser.specs.View.{tokenAt}
 
 -- ---- a run of stores
 

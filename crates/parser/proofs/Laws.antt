@@ -21,7 +21,7 @@ use Rattle.parser.specs.declared.State.{State}
 use Rattle.parser.specs.declared.Found.the-variants.{At, Missing}
 use Rattle.parser.specs.View.{Mem, mem, Reads, Logs, Sound, Next, Did, Kept, Saw, Is, Spells, Marks, Bumps, Adds, Tells, chunks, recOf, findOf, putAt, restOf, nowOf, seenIn, refusedBy, sinceOf, tookTag, endedTag}
 use Rattle.parser.specs.Runs.{kept-same, length-chunks, refused-same, ok-refused}
-use Rattle.parser.specs.Texts.{tokenAt}
+use Rattle.parser.specs.View.{tokenAt}
 use Rattle.parser.proofs.Buffers.{live-none, live-token, chunks-put, length-put}
 
 -- ---- the reading

@@ -1,7 +1,5 @@
 pub mod Backs
 pub mod Plans
-pub mod Checks
 pub mod Kinds
 pub mod Runs
-pub mod Texts
 pub mod View

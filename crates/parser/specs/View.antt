@@ -7,7 +7,7 @@ use mathlib.Core.Bool.{Bool, true, false}
 use lib.Dec.{eqb, ltb}
 use lib.ListN.{length, getD}
 use lib.Seq.{sets}
-use Rattle.grammar.specs.Tokens.{Token, live, kindAt, endAt, recordSize, maxRecords}
+use Rattle.grammar.specs.Tokens.{Token, live, kindAt, textAt, endAt, recordSize, maxRecords}
 use Rattle.grammar.specs.World.{World, Now, Rec, Find, ahead, fixityAhead, mark, take1}
 use Rattle.grammar.specs.World.World.{refused, on}
 use Rattle.grammar.specs.World.Rec.{took, ended}
@@ -26,6 +26,10 @@ use Rattle.parser.specs.declared.Found.{Found}
 use Rattle.parser.specs.declared.Found.the-variants.{At, Missing}
 use Rattle.parser.specs.declared.InfixErr.{InfixErr}
 use Rattle.parser.specs.declared.InfixErr.the-variants.{No, Yes}
+
+-- the token of the record i
+abbrev pub tokenAt : List ℕ → List ℕ → ℕ → Token
+tokenAt text toks i = record { index = i; kind = kindAt toks i; text = textAt text toks i }
 
 -- A record of the log or of the findings, 8 bytes: a tag, a kind, a number of four bytes, two zeroes.
 abbrev pub chunkSize : ℕ

@@ -10,8 +10,6 @@ ghost use Rattle.parser.specs.View.{Reads, Logs, Holds, Next, Saw, Is, M
 
 pub mod finding;
 pub mod kind;
-pub mod names;
-pub mod tokens;
 
 // The answers that the operations give.
 pub const TOO_DEEP: usize = 4;

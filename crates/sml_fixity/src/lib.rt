@@ -1,11 +1,8 @@
-// Fixities of infix names: sml-fixity's lib.rs, with the environment's byte form and the table in force in modules of their own.
+// Fixities of infix names: sml-fixity's lib.rs, with the table in force in a module of its own.
 ghost use mathlib.Core.Path.{_≡_};
 ghost use Rattle.grammar.specs.Env.{left, right};
 ghost use Rattle.sml_fixity.specs.Fix.{infixOf};
 
-pub mod basis;
-pub mod form;
-pub mod out;
 pub mod table;
 
 // The associativity of an infix name.

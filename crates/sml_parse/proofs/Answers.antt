@@ -14,7 +14,7 @@ use Rattle.grammar.specs.World.World.{refused, on}
 use Rattle.laws.specs.Choice.{if-both}
 use Rattle.grammar.specs.Tokens.{listsFit, recordsFit, recordCount}
 use Rattle.grammar.specs.Read.{Call, Result, settingsFit, reading, finish, refusal, handed, readWith, read, zeroes, badSettings, badRecords, badEnv}
-use Rattle.sml_fixity.specs.Form.{countOf}
+use Rattle.env_bytes.specs.Form.{countOf}
 use Rattle.sml_fixity.specs.Table.{entriesIn}
 use Rattle.answers.specs.Entry.{resultOf, withScratch, clearedTo, Tested}
 use Rattle.answers.specs.declared.Answer.{Answer}

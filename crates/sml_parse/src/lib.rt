@@ -3,10 +3,11 @@ use answers::Answer;
 use answers::hand::hand_out;
 use answers::refusal::refuse_all;
 use answers::start::start_state;
+use env_bytes::form;
+use env_bytes::form::Form;
 use nodes::clear;
-use parser::tokens;
-use sml_fixity::form;
-use sml_fixity::form::Form;
+use tokens::records_fit;
+use tokens::settings_fit;
 ghost use mathlib.Core.Path.{_≡_};
 ghost use Prim.Native.Nat.{_≤_};
 ghost use lib.ListN.{length};
@@ -99,10 +100,10 @@ fn read_short(
     requires { ⌜ length (now scratch) ≤ 2147483640 ⌝ }
     ensures { λ r. ⌜ resultOf r (now (scratch .exit)) (now (nodes .exit)) (now (finds .exit)) (now (last .exit)) ≡ read (callOf (now (text .entry)) (now (toks .entry)) (now (env .entry)) depth mode (now (scratch .entry)) (now (nodes .entry)) (now (finds .entry)) (now (last .entry))) ⌝ }
 {
-    if !tokens::settings_fit(text, toks, depth, mode) {
+    if !settings_fit(text, toks, depth, mode) {
         return refuse_all(scratch, nodes, finds, last, BAD_SETTINGS);
     }
-    if !tokens::records_fit(text.len(), toks) {
+    if !records_fit(text.len(), toks) {
         return refuse_all(scratch, nodes, finds, last, BAD_RECORDS);
     }
     let Form::Good(entries) = form::form_of(env) else {

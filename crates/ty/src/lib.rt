@@ -11,6 +11,10 @@ use parser::finding;
 use parser::kind;
 use parser::peek;
 use parser::report;
+use ty_prec::APP;
+use ty_prec::ARROW;
+use ty_prec::arrow_ends;
+use ty_prec::star_ends;
 use util::ascription;
 use util::bump_ascription;
 use util::eat;
@@ -26,13 +30,6 @@ ghost use Rattle.grammar.specs.Ty as types;
 ghost use Rattle.grammar.specs.SyntaxKind as SK;
 ghost use Rattle.parser.specs.View.{Sound, mem, outState, outVal};
 ghost use Rattle.parser.specs.Runs.{Always, Runs, RunsIn};
-
-// The derived order of TyPrec.
-pub const ARROW: u8 = 0;
-
-const STAR: u8 = 1;
-
-const APP: u8 = 2;
 
 // `ty_prec`, or the finding that there is no type.
 // measure: 32 * left + 4
@@ -316,13 +313,13 @@ fn ty_step(
         return Found::Missing(s);
     };
     if k == kind::MINUS_GT {
-        if ARROW < min {
+        if arrow_ends(min) {
             return Found::Missing(s);
         }
         return Found::At(ty_arrow(text, toks, env, table, scratch, finds, left, b, s));
     }
     if k == kind::STAR {
-        if STAR < min {
+        if star_ends(min) {
             return Found::Missing(s);
         }
         return Found::At(ty_tuple(text, toks, env, table, scratch, finds, left, b, s));

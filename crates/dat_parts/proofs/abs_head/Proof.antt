@@ -10,7 +10,7 @@ use Rattle.dat_parts.proofs.abs_head.Statement.{statement}
 use Rattle.dat_parts.proofs.abs_head.Tie as tie
 use Rattle.dat_parts.proofs.abs_head.Reads as reads
 use Rattle.dat_parts.proofs.abs_head.Lts as lts
-use Rattle.dat_parts.proofs.dat_binds.Reads as dat-binds-reads
+use Rattle.bind_parts.proofs.dat_binds.Reads as dat-binds-reads
 use Rattle.parser.proofs.bump.Reads as bump-reads
 use Rattle.util.proofs.want.Reads as want-reads
 

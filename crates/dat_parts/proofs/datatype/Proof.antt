@@ -10,7 +10,7 @@ use Rattle.dat_parts.proofs.datatype.Statement.{statement}
 use Rattle.dat_parts.proofs.datatype.Tie as tie
 use Rattle.dat_parts.proofs.datatype.Reads as reads
 use Rattle.dat_parts.proofs.datatype.Lts as lts
-use Rattle.dat_parts.proofs.dat_binds.Reads as dat-binds-reads
+use Rattle.bind_parts.proofs.dat_binds.Reads as dat-binds-reads
 use Rattle.parser.proofs.Found.state.Reads as state-reads
 use Rattle.parser.proofs.at_n.Reads as at-n-reads
 use Rattle.parser.proofs.bump.Reads as bump-reads

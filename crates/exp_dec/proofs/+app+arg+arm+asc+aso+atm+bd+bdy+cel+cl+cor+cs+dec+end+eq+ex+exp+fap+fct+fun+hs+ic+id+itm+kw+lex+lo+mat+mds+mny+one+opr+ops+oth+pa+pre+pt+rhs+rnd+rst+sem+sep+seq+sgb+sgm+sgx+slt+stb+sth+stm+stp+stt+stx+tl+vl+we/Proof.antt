@@ -1,17 +1,13 @@
 -- by tools/prove
 use Rattle.grammar.specs.Prog.{Prog}
 use Rattle.grammar.specs.Rule.{Rule}
-use Rattle.grammar.specs.Util as util
-use Rattle.grammar.specs.Exp as expr
-use Rattle.grammar.specs.Dec as decl
-use Rattle.grammar.specs.Root as root
-use Rattle.laws.specs.Progress.{end-turn-advances, many-turn-advances, semi-turn-advances, exp-step-advances, str-step-advances, sig-exp-advances}
+use Rattle.exp_prec.specs.Prec.{precOf}
+use Rattle.laws.specs.Progress.{many-turn-advances, end-turn-advances, semi-turn-advances, exp-step-advances, str-step-advances, sig-exp-advances}
 use Rattle.parser.specs.View.{mem, errOf}
 use Rattle.parser.specs.Runs.{runs-in, runs-always, kind-at, kind-off, kind-is, kind-not, test-true, test-false, ok-bumps, ok-adds, ok-marks, ok-eats, ok-takes, ok-refused, ok-state, small-len, Loops, turns, loop-starts, loop-goes, loop-falls, loop-ends}
-use Rattle.parser.specs.Plans.{plan, choose, chosen, in-steps, by-steps, s-rule, s-look, s-kind, s-fixed, s-true, s-false, s-first, s-second, s-bump, s-close, s-report, s-mark, s-deep, s-shut, hushed, s-by, s-eats, s-takes, s-run, settled, eats-settled, s-end}
+use Rattle.parser.specs.Plans.{plan, choose, chosen, in-steps, by-steps, s-rule, s-look, s-kind, s-fixed, s-true, s-false, s-bump, s-close, s-report, s-mark, s-deep, s-shut, hushed, s-by, s-eats, s-takes, s-run, settled, eats-settled, s-end, s-first, s-second}
 use borrow.Author.Tests.{eq-eqb, ne-eqb}
 use Rattle.parser.specs.Backs.{s-scoped, ok-back}
-use Rattle.exp_prec.specs.Prec.{precOf}
 use borrow.Author.Needs.{needs}
 use native.Mathlib.Omega.{arith}
 use mathlib.Core.Path.{_≡_, refl, _∙_}
@@ -20,6 +16,11 @@ use lib.ListN.{length}
 use Prim.Native.Nat.{_+_, _-_, _*_}
 use mathlib.Core.Bool.{true}
 use mathlib.Core.Bool.{Bool}
+use Rattle.scopes.proofs.leave.Reads as leave-reads
+use Rattle.grammar.specs.Util as util
+use Rattle.grammar.specs.Exp as expr
+use Rattle.grammar.specs.Dec as decl
+use Rattle.grammar.specs.Root as root
 use Prim.Native.Nat.{ℕ, _<_}
 use borrow.Fn.Kinds.{In}
 use borrow.Fn.PlainCycle.{Measures, is, falls, and}
@@ -192,14 +193,14 @@ use Rattle.exp_dec.proofs.we.Reads as we
 use Rattle.exp_dec.proofs.we.Kinds as we-kinds
 use Rattle.exp_dec.proofs.+app+arg+arm+asc+aso+atm+bd+bdy+cel+cl+cor+cs+dec+end+eq+ex+exp+fap+fct+fun+hs+ic+id+itm+kw+lex+lo+mat+mds+mny+one+opr+ops+oth+pa+pre+pt+rhs+rnd+rst+sem+sep+seq+sgb+sgm+sgx+slt+stb+sth+stm+stp+stt+stx+tl+vl+we.Lts-we as we-lts
 use Rattle.dat_parts.proofs.abs_head.Reads as abs-head-reads
-use Rattle.dat_parts.proofs.op_name.Reads as op-name-reads
+use Rattle.bind_parts.proofs.op_name.Reads as op-name-reads
 use Rattle.dec_parts.proofs.app_start.Reads as app-start-reads
-use Rattle.dec_parts.proofs.bare_tail.Reads as bare-tail-reads
+use Rattle.sharing_parts.proofs.bare_tail.Reads as bare-tail-reads
 use Rattle.dec_parts.proofs.bump_vars.Reads as bump-vars-reads
 use Rattle.dec_parts.proofs.end_node.Reads as end-node-reads
-use Rattle.dec_parts.proofs.full_tail.Reads as full-tail-reads
+use Rattle.sharing_parts.proofs.full_tail.Reads as full-tail-reads
 use Rattle.dec_parts.proofs.str_path.Reads as str-path-reads
-use Rattle.dec_parts.proofs.wheres.Reads as wheres-reads
+use Rattle.where_parts.proofs.wheres.Reads as wheres-reads
 use Rattle.exp_parts.proofs.keyword.Reads as keyword-reads
 use Rattle.exp_parts.proofs.leaf.Reads as leaf-reads
 use Rattle.exp_parts.proofs.paren_end.Reads as paren-end-reads
@@ -211,7 +212,7 @@ use Rattle.exp_prec.proofs.is_handle.Reads as is-handle-reads
 use Rattle.exp_prec.proofs.node_of.Reads as node-of-reads
 use Rattle.exp_prec.proofs.should_break_exp.Reads as should-break-exp-reads
 use Rattle.fun_parts.proofs.fun_left.Reads as fun-left-reads
-use Rattle.fun_parts.proofs.rec_pat.Reads as rec-pat-reads
+use Rattle.dec_parts.proofs.rec_pat.Reads as rec-pat-reads
 use Rattle.leaf_parts.proofs.leaf_dec.Reads as leaf-dec-reads
 use Rattle.parser.proofs.Found.state.Reads as state-reads
 use Rattle.parser.proofs.State.give_back.Reads as give-back-reads
@@ -221,7 +222,7 @@ use Rattle.parser.proofs.at.Reads as at-reads
 use Rattle.parser.proofs.at_n.Reads as at-n-reads
 use Rattle.parser.proofs.bump.Reads as bump-reads
 use Rattle.parser.proofs.close.Reads as close-reads
-use Rattle.parser.proofs.names.fixity_at.Reads as fixity-at-reads
+use Rattle.texts.proofs.fixity_at.Reads as fixity-at-reads
 use Rattle.parser.proofs.peek.Reads as peek-reads
 use Rattle.parser.proofs.report.Reads as report-reads
 use Rattle.pat.proofs.pat_prec.Reads as pat-prec-reads
@@ -822,10 +823,10 @@ abbrev kw-told : ℕ → kw-lts.Claims
 kw-told t = (mat-below t, mat.Post, close-reads.Asked, close-reads.Learnt, exp-below t, exp.Post, we-below t, we.Post, want-reads.Asked, want-reads.Learnt)
 
 abbrev lex-told : ℕ → lex-lts.Claims
-lex-told t = (bump-reads.Asked, bump-reads.Learnt, bdy-below t, bdy.Post, give-back-reads.Asked, give-back-reads.Learnt, close-reads.Asked, close-reads.Learnt)
+lex-told t = (bump-reads.Asked, bump-reads.Learnt, bdy-below t, bdy.Post, leave-reads.Asked, leave-reads.Learnt)
 
 abbrev lo-told : ℕ → lo-lts.Claims
-lo-told t = (refuse-reads.Asked, refuse-reads.Learnt, end-below t, end.Post, mark-reads.Asked, mark-reads.Learnt, bump-reads.Asked, bump-reads.Learnt, dec-below t, dec.Post, state-reads.Asked, state-reads.Learnt, close-reads.Asked, close-reads.Learnt)
+lo-told t = (refuse-reads.Asked, refuse-reads.Learnt, end-below t, end.Post, mark-reads.Asked, mark-reads.Learnt, bump-reads.Asked, bump-reads.Learnt, dec-below t, dec.Post, state-reads.Asked, state-reads.Learnt, leave-reads.Asked, leave-reads.Learnt)
 
 abbrev mat-told : ℕ → mat-lts.Claims
 mat-told t = (refuse-reads.Asked, refuse-reads.Learnt, mark-reads.Asked, mark-reads.Learnt, bump-if-reads.Asked, bump-if-reads.Learnt, bd-below t, bd.Post)
@@ -3277,38 +3278,29 @@ lex-bdy-requires t c κs =
     let bump-ok = ok-bumps bump pre0 in
     (omega arith, bump-ok)
 
-lex-give-back-requires : (t : ℕ) → lex-lts.Need-give-back-requires (lex-told t) (lex-at t) lex.Post
-lex-give-back-requires t c κs =
-    tt
-
-lex-close-requires : (t : ℕ) → lex-lts.Need-close-requires (lex-told t) (lex-at t) lex.Post
-lex-close-requires t c κs =
-    let pre0 = c .before .before .before .before .before .before .before .before .before .before .before .before .before .before .before .before .before .before .before .pre .1 .0 in
-    let pre1 = c .before .before .before .before .before .before .before .before .before .before .before .before .before .before .before .before .before .before .before .pre .1 .1 in
-    let bump = c .before .before .before .before .before .before .before .before .before .before .before .before .bump .ensures in
-    let bump-ok = ok-bumps bump pre0 in
-    let bdy = c .before .before .before .before .before .before .bdy .ensures in
-    let give-back = c .before .give-back .ensures in
-    let give-back-ok = ok-back bdy give-back bump-ok in
-    (give-back-ok .logs, pre1)
+lex-leave-requires : (t : ℕ) → lex-lts.Need-leave-requires (lex-told t) (lex-at t) lex.Post
+lex-leave-requires t c κs =
+    let pre1 = c .before .before .before .before .before .before .before .before .before .before .before .before .before .before .before .before .before .before .pre .1 .1 in
+    let bdy = c .before .before .before .before .before .bdy .ensures in
+    let bdy-ok = bdy .ok in
+    (bdy-ok .logs, pre1)
 
 lex-same-length : (t : ℕ) → lex-lts.Need-same-length (lex-told t) (lex-at t) lex.Post
 lex-same-length t c =
-    c .before .before .close .kept .0 ∙ c .before .before .before .before .before .before .before .before .before .bdy .kept .1 .1 .1 .1 .0 ∙ c .before .before .before .before .before .before .before .before .before .before .before .before .before .before .before .bump .kept .1 .0
+    c .before .before .leave .kept .0 ∙ c .before .before .before .before .before .before .before .before .bdy .kept .1 .1 .1 .1 .0 ∙ c .before .before .before .before .before .before .before .before .before .before .before .before .before .before .bump .kept .1 .0
 
 lex-same-length-2 : (t : ℕ) → lex-lts.Need-same-length-2 (lex-told t) (lex-at t) lex.Post
 lex-same-length-2 t c =
-    c .before .before .before .before .before .before .before .before .before .bdy .kept .1 .1 .1 .1 .1 .0
+    c .before .before .before .before .before .before .before .before .bdy .kept .1 .1 .1 .1 .1 .0
 
 lex-returns : (t : ℕ) → lex-lts.Need-returns (lex-told t) (lex-at t) lex.Post
 unfolding expr.letExp plan choose chosen
 lex-returns t c =
-    let pre0 = c .before .before .before .before .before .before .before .before .before .before .before .before .before .before .before .before .before .before .before .before .before .before .pre .1 .0 in
-    let bump = c .before .before .before .before .before .before .before .before .before .before .before .before .before .before .before .bump .ensures in
-    let bdy = c .before .before .before .before .before .before .before .before .before .bdy .ensures in
-    let give-back = c .before .before .before .before .give-back .ensures in
-    let close = c .before .before .close .ensures in
-    in-steps pre0 (s-bump bump (s-scoped bdy give-back (s-close close s-end)))
+    let pre0 = c .before .before .before .before .before .before .before .before .before .before .before .before .before .before .before .before .before .before .before .before .before .pre .1 .0 in
+    let bump = c .before .before .before .before .before .before .before .before .before .before .before .before .before .before .bump .ensures in
+    let bdy = c .before .before .before .before .before .before .before .before .bdy .ensures in
+    let leave = c .before .before .leave .ensures in
+    in-steps pre0 (s-bump bump (s-scoped bdy refl (s-close leave s-end)))
 
 lo-refuse-requires : (t : ℕ) → lo-lts.Need-refuse-requires (lo-told t) (lo-at t) lo.Post
 lo-refuse-requires t c κs =
@@ -3376,8 +3368,8 @@ lo-state-requires : (t : ℕ) → lo-lts.Need-state-requires (lo-told t) (lo-at 
 lo-state-requires t c κs =
     tt
 
-lo-close-requires : (t : ℕ) → lo-lts.Need-close-requires (lo-told t) (lo-at t) lo.Post
-lo-close-requires t c κs =
+lo-leave-requires : (t : ℕ) → lo-lts.Need-leave-requires (lo-told t) (lo-at t) lo.Post
+lo-leave-requires t c κs =
     let pre0 = c .before .before .before .before .before .before .before .before .before .before .before .before .before .before .before .before .before .before .before .before .before .pre .1 .0 in
     let mark = c .before .before .before .before .before .before .before .before .before .before .before .before .before .before .mark .ensures in
     let mark-ok = ok-marks mark pre0 in
@@ -3396,13 +3388,13 @@ lo-end-requires-2 t c κs =
     let dec-ok = dec .ok in
     let state = c .before .before .before .before .before .before .before .state .ensures in
     let state-ok = ok-state state dec-ok in
-    let close = c .before .before .before .before .before .close .ensures in
-    let close-ok = ok-adds close state-ok in
-    (omega arith, (close-ok, pre1))
+    let leave = c .before .before .before .before .before .leave .ensures in
+    let leave-ok = ok-adds leave state-ok in
+    (omega arith, (leave-ok, pre1))
 
 lo-same-length-3 : (t : ℕ) → lo-lts.Need-same-length-3 (lo-told t) (lo-at t) lo.Post
 lo-same-length-3 t c =
-    c .before .before .before .before .end2 .kept .1 .1 .1 .1 .0 ∙ c .before .before .before .before .before .before .before .before .before .before .close .kept .0 ∙ c .before .before .before .before .before .before .before .before .before .before .before .before .before .before .before .before .before .dec .kept .1 .1 .1 .1 .0 ∙ c .before .before .before .before .before .before .before .before .before .before .before .before .before .before .before .before .before .before .before .before .before .before .before .bump .kept .1 .0
+    c .before .before .before .before .end2 .kept .1 .1 .1 .1 .0 ∙ c .before .before .before .before .before .before .before .before .before .before .leave .kept .0 ∙ c .before .before .before .before .before .before .before .before .before .before .before .before .before .before .before .before .before .dec .kept .1 .1 .1 .1 .0 ∙ c .before .before .before .before .before .before .before .before .before .before .before .before .before .before .before .before .before .before .before .before .before .before .before .bump .kept .1 .0
 
 lo-same-length-4 : (t : ℕ) → lo-lts.Need-same-length-4 (lo-told t) (lo-at t) lo.Post
 lo-same-length-4 t c =
@@ -3417,9 +3409,9 @@ lo-returns-2 t c =
     let bump = c .before .before .before .before .before .before .before .before .before .before .before .before .before .before .before .before .before .before .before .before .before .before .before .bump .ensures in
     let dec = c .before .before .before .before .before .before .before .before .before .before .before .before .before .before .before .before .before .dec .ensures in
     let state = c .before .before .before .before .before .before .before .before .before .before .before .before .state .ensures in
-    let close = c .before .before .before .before .before .before .before .before .before .before .close .ensures in
+    let leave = c .before .before .before .before .before .before .before .before .before .before .leave .ensures in
     let end2 = c .before .before .before .before .end2 .ensures in
-    in-steps pre0 (s-mark if1 mark (s-bump bump (s-run (settled state (runs-in dec)) (s-close close (s-by _ end2 s-end)))))
+    in-steps pre0 (s-mark if1 mark (s-bump bump (s-run (settled state (runs-in dec)) (s-close leave (s-by _ end2 s-end)))))
 
 mat-refuse-requires : (t : ℕ) → mat-lts.Need-refuse-requires (mat-told t) (mat-at t) mat.Post
 mat-refuse-requires t c κs =
@@ -7400,19 +7392,14 @@ pub +app+arg+arm+asc+aso+atm+bd+bdy+cel+cl+cor+cs+dec+end+eq+ex+exp+fap+fct+fun+
     (kw-same-length-9 t)
     (kw-same-length-10 t)
     (kw-returns-5 t))
-    (λ t. lex-lts.spec (lex-told t)
-    (lex-at t)
-    lex.Post
+    (λ t. lex-lts.spec (lex-told t) (lex-at t) lex.Post
     (lex-bump-requires t)
     (lex-bdy-requires t)
-    (lex-give-back-requires t)
-    (lex-close-requires t)
+    (lex-leave-requires t)
     (lex-same-length t)
     (lex-same-length-2 t)
     (lex-returns t))
-    (λ t. lo-lts.spec (lo-told t)
-    (lo-at t)
-    lo.Post
+    (λ t. lo-lts.spec (lo-told t) (lo-at t) lo.Post
     (lo-refuse-requires t)
     (lo-end-requires t)
     (lo-same-length t)
@@ -7423,7 +7410,7 @@ pub +app+arg+arm+asc+aso+atm+bd+bdy+cel+cl+cor+cs+dec+end+eq+ex+exp+fap+fct+fun+
     (lo-sub-dec t)
     (lo-dec-requires t)
     (lo-state-requires t)
-    (lo-close-requires t)
+    (lo-leave-requires t)
     (lo-end-requires-2 t)
     (lo-same-length-3 t)
     (lo-same-length-4 t)

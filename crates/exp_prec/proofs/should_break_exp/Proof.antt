@@ -11,7 +11,7 @@ use Rattle.exp_prec.proofs.should_break_exp.Reads as reads
 use Rattle.exp_prec.proofs.should_break_exp.Lts as lts
 use Rattle.exp_prec.proofs.judge.Reads as judge-reads
 use Rattle.parser.proofs.State.refuse.Reads as refuse-reads
-use Rattle.util.proofs.should_break.Reads as should-break-reads
+use Rattle.breaks.proofs.should_break.Reads as should-break-reads
 
 judge-requires : tie.Need-judge-requires
 judge-requires c κs =

@@ -17,7 +17,7 @@ use Rattle.fix_parts.proofs.fixity_number.Reads as reads
 use Rattle.fix_parts.proofs.fixity_number.Lts as lts
 use Rattle.fix_parts.proofs.large_fixity.Reads as large-fixity-reads
 use Rattle.parser.proofs.bump.Reads as bump-reads
-use Rattle.parser.proofs.names.number_at.Reads as number-at-reads
+use Rattle.texts.proofs.number_at.Reads as number-at-reads
 use Rattle.parser.proofs.report.Reads as report-reads
 
 -- a look gives `valid` more than the number, so neither of the answers that are none

@@ -12,7 +12,7 @@ use Rattle.fix_parts.proofs.names.Statement.{statement}
 use Rattle.fix_parts.proofs.names.Tie as tie
 use Rattle.fix_parts.proofs.names.Reads as reads
 use Rattle.fix_parts.proofs.names.Lts as lts
-use Rattle.parser.proofs.names.take_as.Reads as take-as-reads
+use Rattle.texts.proofs.take_as.Reads as take-as-reads
 use Rattle.parser.proofs.peek.Reads as peek-reads
 use Rattle.util.proofs.name_star_eq.Reads as name-star-eq-reads
 

@@ -9,7 +9,7 @@ use Rattle.fun_parts.proofs.infix_head.Statement.{statement}
 use Rattle.fun_parts.proofs.infix_head.Tie as tie
 use Rattle.fun_parts.proofs.infix_head.Reads as reads
 use Rattle.fun_parts.proofs.infix_head.Lts as lts
-use Rattle.fun_parts.proofs.infix_name.Reads as infix-name-reads
+use Rattle.head_parts.proofs.infix_name.Reads as infix-name-reads
 use Rattle.pat.proofs.at_must.Reads as at-must-reads
 
 at-must-requires : tie.Need-at-must-requires

@@ -11,8 +11,8 @@ use Rattle.fun_parts.proofs.other_head.Tie as tie
 use Rattle.fun_parts.proofs.other_head.Reads as reads
 use Rattle.fun_parts.proofs.other_head.Lts as lts
 use Rattle.fun_parts.proofs.infix_head.Reads as infix-head-reads
-use Rattle.fun_parts.proofs.prefix_name.Reads as prefix-name-reads
-use Rattle.fun_parts.proofs.prefix_op.Reads as prefix-op-reads
+use Rattle.head_parts.proofs.prefix_name.Reads as prefix-name-reads
+use Rattle.head_parts.proofs.prefix_op.Reads as prefix-op-reads
 use Rattle.parser.proofs.bump.Reads as bump-reads
 use Rattle.parser.proofs.close.Reads as close-reads
 use Rattle.parser.proofs.peek.Reads as peek-reads

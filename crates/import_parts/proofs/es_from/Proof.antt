@@ -12,7 +12,7 @@ use Rattle.import_parts.proofs.es_from.Reads as reads
 use Rattle.import_parts.proofs.es_from.Lts as lts
 use Rattle.parser.proofs.at.Reads as at-reads
 use Rattle.parser.proofs.bump.Reads as bump-reads
-use Rattle.parser.proofs.names.says.Reads as says-reads
+use Rattle.texts.proofs.says.Reads as says-reads
 use Rattle.parser.proofs.report.Reads as report-reads
 
 at-requires : tie.Need-at-requires

@@ -11,7 +11,7 @@ use Rattle.leaf_parts.proofs.leaf_dec.Tie as tie
 use Rattle.leaf_parts.proofs.leaf_dec.Reads as reads
 use Rattle.leaf_parts.proofs.leaf_dec.Lts as lts
 use Rattle.dat_parts.proofs.datatype.Reads as datatype-reads
-use Rattle.dat_parts.proofs.ty_binds.Reads as ty-binds-reads
+use Rattle.bind_parts.proofs.ty_binds.Reads as ty-binds-reads
 use Rattle.leaf_parts.proofs.fix_dec.Reads as fix-dec-reads
 use Rattle.leaf_parts.proofs.opens.Reads as opens-reads
 use Rattle.leaf_parts.proofs.type_kw.Reads as type-kw-reads

@@ -110,7 +110,7 @@ use Rattle.parser.proofs.at_n.Reads as at-n-reads
 use Rattle.parser.proofs.bump.Reads as bump-reads
 use Rattle.parser.proofs.close.Reads as close-reads
 use Rattle.parser.proofs.index.Reads as index-reads
-use Rattle.parser.proofs.names.fixity_at.Reads as fixity-at-reads
+use Rattle.texts.proofs.fixity_at.Reads as fixity-at-reads
 use Rattle.parser.proofs.peek.Reads as peek-reads
 use Rattle.parser.proofs.peek_n.Reads as peek-n-reads
 use Rattle.parser.proofs.report.Reads as report-reads

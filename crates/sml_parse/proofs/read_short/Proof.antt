@@ -2,7 +2,7 @@
 use mathlib.Core.Path.{sym, _∙_}
 use borrow.Author.Tests.{not-true, not-false}
 use Rattle.grammar.specs.Read.{refusal}
-use Rattle.parser.specs.Checks.{settings-alone}
+use Rattle.tokens.specs.Checks.{settings-alone}
 use Rattle.answers.specs.Entry.{callOf}
 use Rattle.sml_parse.proofs.Answers.{bad-settings, bad-records, bad-env, was-good, was-tested}
 use borrow.Author.Needs.{needs}

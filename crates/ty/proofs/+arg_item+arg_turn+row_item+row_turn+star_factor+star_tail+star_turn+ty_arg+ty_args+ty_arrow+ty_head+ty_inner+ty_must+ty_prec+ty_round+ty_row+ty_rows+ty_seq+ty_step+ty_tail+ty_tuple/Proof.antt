@@ -1,15 +1,16 @@
 -- by tools/prove
 use Rattle.laws.specs.Progress.{end-turn-advances, star-advances, ty-step-advances}
 use Rattle.parser.specs.View.{mem}
-use Rattle.parser.specs.Runs.{runs-in, kind-at, kind-off, kind-is, kind-not, ok-bumps, ok-marks, ok-eats, ok-takes, ok-state, small-len, Loops, turns, loop-starts, loop-goes, loop-falls, loop-ends}
-use Rattle.parser.specs.Plans.{plan, choose, chosen, in-steps, by-steps, s-rule, s-look, s-kind, s-true, s-false, s-bump, s-close, s-report, s-mark, s-deep, s-by, s-eats, s-takes, s-run, settled, eats-settled, s-end}
-use borrow.Author.Tests.{lt-ltb, le-ltb}
+use Rattle.parser.specs.Runs.{runs-in, kind-at, kind-off, kind-is, kind-not, test-true, test-false, ok-bumps, ok-marks, ok-eats, ok-takes, ok-state, small-len, Loops, turns, loop-starts, loop-goes, loop-falls, loop-ends}
+use Rattle.parser.specs.Plans.{plan, choose, chosen, in-steps, by-steps, s-rule, s-look, s-kind, s-true, s-false, s-bump, s-close, s-report, s-mark, s-shut, hushed, s-by, s-eats, s-takes, s-run, settled, eats-settled, s-end}
 use borrow.Author.Needs.{needs}
 use native.Mathlib.Omega.{arith}
 use mathlib.Core.Path.{_≡_, refl, _∙_}
 use lib.ListN.{length}
 use Prim.Native.Nat.{_+_, _-_, _*_}
 use mathlib.Core.Bool.{true}
+use Rattle.ty_prec.proofs.star_ends.Reads as star-ends-reads
+use Rattle.ty_prec.proofs.arrow_ends.Reads as arrow-ends-reads
 use Rattle.grammar.specs.Util as util
 use Rattle.grammar.specs.Ty as types
 use Rattle.grammar.specs.Root as root
@@ -301,7 +302,6 @@ abbrev ty-tuple-below : ℕ → In 6 ty-tuple-kinds.ps
 ty-tuple-below t =
     and 6 ty-tuple-kinds.ps (falls 6 ty-tuple-kinds.ps _<_ μ-ty-tuple t) ty-tuple.Pre
 
--- what the calls of a function ask and say
 abbrev arg-item-told : ℕ → arg-item-lts.Claims
 arg-item-told t = (refuse-reads.Asked, refuse-reads.Learnt, mark-reads.Asked, mark-reads.Learnt, ty-must-below t, ty-must.Post, at-reads.Asked, at-reads.Learnt, bump-reads.Asked, bump-reads.Learnt, close-reads.Asked, close-reads.Learnt)
 
@@ -357,7 +357,7 @@ abbrev ty-seq-told : ℕ → ty-seq-lts.Claims
 ty-seq-told t = (refuse-reads.Asked, refuse-reads.Learnt, mark-reads.Asked, mark-reads.Learnt, bump-reads.Asked, bump-reads.Learnt, ty-arg-below t, ty-arg.Post, ty-args-below t, ty-args.Post, close-reads.Asked, close-reads.Learnt)
 
 abbrev ty-step-told : ℕ → ty-step-lts.Claims
-ty-step-told t = (peek-reads.Asked, peek-reads.Learnt, ty-arrow-below t, ty-arrow.Post, ty-tuple-below t, ty-tuple.Post, ty-con-reads.Asked, ty-con-reads.Learnt)
+ty-step-told t = (peek-reads.Asked, peek-reads.Learnt, arrow-ends-reads.Asked, arrow-ends-reads.Learnt, ty-arrow-below t, ty-arrow.Post, star-ends-reads.Asked, star-ends-reads.Learnt, ty-tuple-below t, ty-tuple.Post, ty-con-reads.Asked, ty-con-reads.Learnt)
 
 abbrev ty-tail-told : ℕ → ty-tail-lts.Claims
 ty-tail-told t = (ty-step-below t, ty-step.Post)
@@ -370,12 +370,12 @@ arg-item-refuse-requires t c κs =
     tt
 
 arg-item-returns : (t : ℕ) → arg-item-lts.Need-returns (arg-item-told t) (arg-item-at t) arg-item.Post
-unfolding util.endItem plan choose chosen
+unfolding util.endItem plan choose chosen hushed
 arg-item-returns t c =
     let pre0 = c .before .before .before .before .before .before .before .before .pre .1 in
     let if1 = c .before .if1 .taken in
     let refuse = c .refuse .ensures in
-    by-steps pre0 (λ b. s-deep if1 refuse s-end)
+    by-steps pre0 (λ b. s-shut if1 refuse (λ k l. refl))
 
 arg-item-mark-requires : (t : ℕ) → arg-item-lts.Need-mark-requires (arg-item-told t) (arg-item-at t) arg-item.Post
 arg-item-mark-requires t c κs =
@@ -568,12 +568,12 @@ row-item-refuse-requires t c κs =
     tt
 
 row-item-returns : (t : ℕ) → row-item-lts.Need-returns (row-item-told t) (row-item-at t) row-item.Post
-unfolding util.endItem plan choose chosen
+unfolding util.endItem plan choose chosen hushed
 row-item-returns t c =
     let pre0 = c .before .before .before .before .before .before .before .before .pre .1 in
     let if1 = c .before .if1 .taken in
     let refuse = c .refuse .ensures in
-    by-steps pre0 (λ b. s-deep if1 refuse s-end)
+    by-steps pre0 (λ b. s-shut if1 refuse (λ k l. refl))
 
 row-item-mark-requires : (t : ℕ) → row-item-lts.Need-mark-requires (row-item-told t) (row-item-at t) row-item.Post
 row-item-mark-requires t c κs =
@@ -766,12 +766,12 @@ star-factor-refuse-requires t c κs =
     tt
 
 star-factor-returns : (t : ℕ) → star-factor-lts.Need-returns (star-factor-told t) (star-factor-at t) star-factor.Post
-unfolding types.starFactor plan choose chosen
+unfolding types.starFactor plan choose chosen hushed
 star-factor-returns t c =
     let pre0 = c .before .before .before .before .before .before .before .before .pre .1 in
     let if1 = c .before .if1 .taken in
     let refuse = c .refuse .ensures in
-    by-steps pre0 (λ b. s-deep if1 refuse s-end)
+    by-steps pre0 (λ b. s-shut if1 refuse (λ k l. refl))
 
 star-factor-mark-requires : (t : ℕ) → star-factor-lts.Need-mark-requires (star-factor-told t) (star-factor-at t) star-factor.Post
 star-factor-mark-requires t c κs =
@@ -944,12 +944,12 @@ ty-arg-refuse-requires t c κs =
     tt
 
 ty-arg-returns : (t : ℕ) → ty-arg-lts.Need-returns (ty-arg-told t) (ty-arg-at t) ty-arg.Post
-unfolding types.tyArg plan choose chosen
+unfolding types.tyArg plan choose chosen hushed
 ty-arg-returns t c =
     let pre0 = c .before .before .before .before .before .before .before .before .pre .1 in
     let if1 = c .before .if1 .taken in
     let refuse = c .refuse .ensures in
-    by-steps pre0 (λ b. s-deep if1 refuse s-end)
+    by-steps pre0 (λ b. s-shut if1 refuse (λ k l. refl))
 
 ty-arg-mark-requires : (t : ℕ) → ty-arg-lts.Need-mark-requires (ty-arg-told t) (ty-arg-at t) ty-arg.Post
 ty-arg-mark-requires t c κs =
@@ -1129,12 +1129,12 @@ ty-arrow-refuse-requires t c κs =
     tt
 
 ty-arrow-returns : (t : ℕ) → ty-arrow-lts.Need-returns (ty-arrow-told t) (ty-arrow-at t) ty-arrow.Post
-unfolding types.tyArrow plan choose chosen
+unfolding types.tyArrow plan choose chosen hushed
 ty-arrow-returns t c =
     let pre0 = c .before .before .before .before .before .before .before .before .pre .1 .0 in
     let if1 = c .before .if1 .taken in
     let refuse = c .refuse .ensures in
-    in-steps pre0 (s-deep if1 refuse s-end)
+    in-steps pre0 (s-shut if1 refuse (λ k l. refl))
 
 ty-arrow-mark-requires : (t : ℕ) → ty-arrow-lts.Need-mark-requires (ty-arrow-told t) (ty-arrow-at t) ty-arrow.Post
 ty-arrow-mark-requires t c κs =
@@ -1500,13 +1500,13 @@ ty-prec-refuse-requires t c κs =
     tt
 
 ty-prec-returns-2 : (t : ℕ) → ty-prec-lts.Need-returns-2 (ty-prec-told t) (ty-prec-at t) ty-prec.Post
-unfolding root.body types.tyScope plan choose chosen
+unfolding root.body types.tyScope plan choose chosen hushed
 ty-prec-returns-2 t c =
     let pre0 = c .before .before .before .before .before .before .before .before .before .before .before .before .pre .1 in
     let peek = rw (c .before .before .before .k .given .1) at (c .before .before .before .before .before .peek .ensures) in
     let if1 = c .before .if1 .taken in
     let refuse = c .refuse .ensures in
-    by-steps pre0 (λ b. s-rule (s-look peek (s-deep if1 refuse s-end)))
+    by-steps pre0 (λ b. s-rule (s-look peek (s-shut if1 refuse (λ k l. refl))))
 
 ty-prec-sub-ty-head : (t : ℕ) → ty-prec-lts.Need-sub-ty-head (ty-prec-told t) (ty-prec-at t) ty-prec.Post
 ty-prec-sub-ty-head t c =
@@ -1802,12 +1802,12 @@ ty-seq-refuse-requires t c κs =
     tt
 
 ty-seq-returns : (t : ℕ) → ty-seq-lts.Need-returns (ty-seq-told t) (ty-seq-at t) ty-seq.Post
-unfolding types.tySeq util.endSep plan choose chosen
+unfolding types.tySeq util.endSep plan choose chosen hushed
 ty-seq-returns t c =
     let pre0 = c .before .before .before .before .before .before .before .before .pre .1 in
     let if1 = c .before .if1 .taken in
     let refuse = c .refuse .ensures in
-    by-steps pre0 (λ b. s-deep if1 refuse s-end)
+    by-steps pre0 (λ b. s-shut if1 refuse (λ k l. refl))
 
 ty-seq-mark-requires : (t : ℕ) → ty-seq-lts.Need-mark-requires (ty-seq-told t) (ty-seq-at t) ty-seq.Post
 ty-seq-mark-requires t c κs =
@@ -1940,21 +1940,26 @@ ty-step-returns t c =
     let peek = rw (c .enum-told .given .1) at (c .before .before .peek .ensures) in
     in-steps pre0 (s-look peek s-end)
 
+ty-step-arrow-ends-requires : (t : ℕ) → ty-step-lts.Need-arrow-ends-requires (ty-step-told t) (ty-step-at t) ty-step.Post
+ty-step-arrow-ends-requires t c κs =
+    tt
+
 ty-step-returns-2 : (t : ℕ) → ty-step-lts.Need-returns-2 (ty-step-told t) (ty-step-at t) ty-step.Post
 unfolding types.tyStep plan choose chosen
 ty-step-returns-2 t c =
-    let pre0 = c .before .before .before .before .before .before .before .before .before .before .before .before .pre .1 .0 in
-    let peek = rw (c .before .before .before .k .given .1) at (c .before .before .before .before .before .peek .ensures) in
-    let if1 = c .before .if1 .taken in
+    let pre0 = c .before .before .before .before .before .before .before .before .before .before .before .before .before .pre .1 .0 in
+    let peek = rw (c .before .before .before .before .k .given .1) at (c .before .before .before .before .before .before .peek .ensures) in
+    let if1 = c .before .before .if1 .taken in
+    let arrow-ends = c .before .arrow-ends .ensures in
     let if2 = c .if2 .taken in
-    in-steps pre0 (s-look peek (s-true _ _ (kind-is if1) (s-true _ _ (lt-ltb _ _ if2) s-end)))
+    in-steps pre0 (s-look peek (s-true _ _ (kind-is if1) (s-true _ _ (test-true arrow-ends if2) s-end)))
 
 ty-step-ty-arrow-requires : (t : ℕ) → ty-step-lts.Need-ty-arrow-requires (ty-step-told t) (ty-step-at t) ty-step.Post
 ty-step-ty-arrow-requires t c κs =
-    let falls = c .before .before .before .before .before .before .before .before .before .before .before .before .before .before .pre .0 in
-    let pre0 = c .before .before .before .before .before .before .before .before .before .before .before .before .before .before .pre .1 .0 in
-    let pre1 = c .before .before .before .before .before .before .before .before .before .before .before .before .before .before .pre .1 .1 in
-    let if1 = c .before .before .before .if1 .taken in
+    let falls = c .before .before .before .before .before .before .before .before .before .before .before .before .before .before .before .pre .0 in
+    let pre0 = c .before .before .before .before .before .before .before .before .before .before .before .before .before .before .before .pre .1 .0 in
+    let pre1 = c .before .before .before .before .before .before .before .before .before .before .before .before .before .before .before .pre .1 .1 in
+    let if1 = c .before .before .before .before .if1 .taken in
     let if2 = c .before .before .if2 .left in
     (omega arith, (pre0, pre1))
 
@@ -1969,30 +1974,36 @@ ty-step-same-length-2 t c =
 ty-step-returns-3 : (t : ℕ) → ty-step-lts.Need-returns-3 (ty-step-told t) (ty-step-at t) ty-step.Post
 unfolding types.tyStep plan choose chosen
 ty-step-returns-3 t c =
-    let pre0 = c .before .before .before .before .before .before .before .before .before .before .before .before .before .before .before .before .before .before .before .pre .1 .0 in
-    let peek = rw (c .before .before .before .before .before .before .before .before .before .before .k .given .1) at (c .before .before .before .before .before .before .before .before .before .before .before .before .peek .ensures) in
-    let if1 = c .before .before .before .before .before .before .before .before .if1 .taken in
+    let pre0 = c .before .before .before .before .before .before .before .before .before .before .before .before .before .before .before .before .before .before .before .before .pre .1 .0 in
+    let peek = rw (c .before .before .before .before .before .before .before .before .before .before .before .k .given .1) at (c .before .before .before .before .before .before .before .before .before .before .before .before .before .peek .ensures) in
+    let if1 = c .before .before .before .before .before .before .before .before .before .if1 .taken in
+    let arrow-ends = c .before .before .before .before .before .before .before .before .arrow-ends .ensures in
     let if2 = c .before .before .before .before .before .before .before .if2 .left in
     let ty-arrow = c .before .before .before .before .ty-arrow .ensures in
-    in-steps pre0 (s-look peek (s-true _ _ (kind-is if1) (s-false _ _ (le-ltb _ _ if2) (s-by _ ty-arrow s-end))))
+    in-steps pre0 (s-look peek (s-true _ _ (kind-is if1) (s-false _ _ (test-false arrow-ends if2) (s-by _ ty-arrow s-end))))
+
+ty-step-star-ends-requires : (t : ℕ) → ty-step-lts.Need-star-ends-requires (ty-step-told t) (ty-step-at t) ty-step.Post
+ty-step-star-ends-requires t c κs =
+    tt
 
 ty-step-returns-4 : (t : ℕ) → ty-step-lts.Need-returns-4 (ty-step-told t) (ty-step-at t) ty-step.Post
 unfolding types.tyStep plan choose chosen
 ty-step-returns-4 t c =
-    let pre0 = c .before .before .before .before .before .before .before .before .before .before .before .before .before .pre .1 .0 in
-    let peek = rw (c .before .before .before .before .k .given .1) at (c .before .before .before .before .before .before .peek .ensures) in
-    let if1 = c .before .before .if1 .left in
-    let if3 = c .before .if3 .taken in
+    let pre0 = c .before .before .before .before .before .before .before .before .before .before .before .before .before .before .pre .1 .0 in
+    let peek = rw (c .before .before .before .before .before .k .given .1) at (c .before .before .before .before .before .before .before .peek .ensures) in
+    let if1 = c .before .before .before .if1 .left in
+    let if3 = c .before .before .if3 .taken in
+    let star-ends = c .before .star-ends .ensures in
     let if4 = c .if4 .taken in
-    in-steps pre0 (s-look peek (s-false _ _ (kind-not if1) (s-true _ _ (kind-is if3) (s-true _ _ (lt-ltb _ _ if4) s-end))))
+    in-steps pre0 (s-look peek (s-false _ _ (kind-not if1) (s-true _ _ (kind-is if3) (s-true _ _ (test-true star-ends if4) s-end))))
 
 ty-step-ty-tuple-requires : (t : ℕ) → ty-step-lts.Need-ty-tuple-requires (ty-step-told t) (ty-step-at t) ty-step.Post
 ty-step-ty-tuple-requires t c κs =
-    let falls = c .before .before .before .before .before .before .before .before .before .before .before .before .before .before .before .pre .0 in
-    let pre0 = c .before .before .before .before .before .before .before .before .before .before .before .before .before .before .before .pre .1 .0 in
-    let pre1 = c .before .before .before .before .before .before .before .before .before .before .before .before .before .before .before .pre .1 .1 in
-    let if1 = c .before .before .before .before .if1 .left in
-    let if3 = c .before .before .before .if3 .taken in
+    let falls = c .before .before .before .before .before .before .before .before .before .before .before .before .before .before .before .before .pre .0 in
+    let pre0 = c .before .before .before .before .before .before .before .before .before .before .before .before .before .before .before .before .pre .1 .0 in
+    let pre1 = c .before .before .before .before .before .before .before .before .before .before .before .before .before .before .before .before .pre .1 .1 in
+    let if1 = c .before .before .before .before .before .if1 .left in
+    let if3 = c .before .before .before .before .if3 .taken in
     let if4 = c .before .before .if4 .left in
     (omega arith, (pre0, pre1))
 
@@ -2007,13 +2018,14 @@ ty-step-same-length-4 t c =
 ty-step-returns-5 : (t : ℕ) → ty-step-lts.Need-returns-5 (ty-step-told t) (ty-step-at t) ty-step.Post
 unfolding types.tyStep plan choose chosen
 ty-step-returns-5 t c =
-    let pre0 = c .before .before .before .before .before .before .before .before .before .before .before .before .before .before .before .before .before .before .before .before .pre .1 .0 in
-    let peek = rw (c .before .before .before .before .before .before .before .before .before .before .before .k .given .1) at (c .before .before .before .before .before .before .before .before .before .before .before .before .before .peek .ensures) in
-    let if1 = c .before .before .before .before .before .before .before .before .before .if1 .left in
-    let if3 = c .before .before .before .before .before .before .before .before .if3 .taken in
+    let pre0 = c .before .before .before .before .before .before .before .before .before .before .before .before .before .before .before .before .before .before .before .before .before .pre .1 .0 in
+    let peek = rw (c .before .before .before .before .before .before .before .before .before .before .before .before .k .given .1) at (c .before .before .before .before .before .before .before .before .before .before .before .before .before .before .peek .ensures) in
+    let if1 = c .before .before .before .before .before .before .before .before .before .before .if1 .left in
+    let if3 = c .before .before .before .before .before .before .before .before .before .if3 .taken in
+    let star-ends = c .before .before .before .before .before .before .before .before .star-ends .ensures in
     let if4 = c .before .before .before .before .before .before .before .if4 .left in
     let ty-tuple = c .before .before .before .before .ty-tuple .ensures in
-    in-steps pre0 (s-look peek (s-false _ _ (kind-not if1) (s-true _ _ (kind-is if3) (s-false _ _ (le-ltb _ _ if4) (s-by _ ty-tuple s-end)))))
+    in-steps pre0 (s-look peek (s-false _ _ (kind-not if1) (s-true _ _ (kind-is if3) (s-false _ _ (test-false star-ends if4) (s-by _ ty-tuple s-end)))))
 
 ty-step-ty-con-requires : (t : ℕ) → ty-step-lts.Need-ty-con-requires (ty-step-told t) (ty-step-at t) ty-step.Post
 ty-step-ty-con-requires t c κs =
@@ -2139,12 +2151,12 @@ ty-tuple-refuse-requires t c κs =
     tt
 
 ty-tuple-returns : (t : ℕ) → ty-tuple-lts.Need-returns (ty-tuple-told t) (ty-tuple-at t) ty-tuple.Post
-unfolding types.tyTuple plan choose chosen
+unfolding types.tyTuple plan choose chosen hushed
 ty-tuple-returns t c =
     let pre0 = c .before .before .before .before .before .before .before .before .pre .1 .0 in
     let if1 = c .before .if1 .taken in
     let refuse = c .refuse .ensures in
-    in-steps pre0 (s-deep if1 refuse s-end)
+    in-steps pre0 (s-shut if1 refuse (λ k l. refl))
 
 ty-tuple-sub-star-tail : (t : ℕ) → ty-tuple-lts.Need-sub-star-tail (ty-tuple-told t) (ty-tuple-at t) ty-tuple.Post
 ty-tuple-sub-star-tail t c =
@@ -2504,18 +2516,18 @@ pub +arg-item+arg-turn+row-item+row-turn+star-factor+star-tail+star-turn+ty-arg+
     (ty-seq-same-length-3 t)
     (ty-seq-same-length-4 t)
     (ty-seq-returns-3 t))
-    (λ t. ty-step-lts.spec (ty-step-told t)
-    (ty-step-at t)
-    ty-step.Post
+    (λ t. ty-step-lts.spec (ty-step-told t) (ty-step-at t) ty-step.Post
     (ty-step-peek-requires t)
     (ty-step-enum-known-k t)
     (ty-step-enum-told t)
     (ty-step-returns t)
+    (ty-step-arrow-ends-requires t)
     (ty-step-returns-2 t)
     (ty-step-ty-arrow-requires t)
     (ty-step-same-length t)
     (ty-step-same-length-2 t)
     (ty-step-returns-3 t)
+    (ty-step-star-ends-requires t)
     (ty-step-returns-4 t)
     (ty-step-ty-tuple-requires t)
     (ty-step-same-length-3 t)

@@ -1,6 +1,6 @@
 -- by tools/prove
 use Rattle.parser.specs.Runs.{runs-in, kind-at, kind-off, ok-bumps, ok-marks, small-len}
-use Rattle.parser.specs.Plans.{plan, choose, chosen, by-steps, s-kind, s-true, s-false, s-bump, s-close, s-mark, s-deep, s-by, s-end}
+use Rattle.parser.specs.Plans.{plan, choose, chosen, by-steps, s-kind, s-true, s-false, s-bump, s-close, s-mark, s-shut, hushed, s-by, s-end}
 use mathlib.Core.Path.{_≡_, refl, _∙_}
 use Rattle.grammar.specs.Ty as types
 use lib.ListN.{length}
@@ -26,14 +26,14 @@ refuse-requires c κs =
     tt
 
 returns : tie.Need-returns
-unfolding types.ofTy plan choose chosen
+unfolding types.ofTy plan choose chosen hushed
 returns c =
     let pre0 = c .before .before .before .before .before .before .before .before .before .before .pre in
     let at = c .before .before .before .at .ensures in
     let if1 = c .before .before .if1 .taken in
     let if2 = c .before .if2 .taken in
     let refuse = c .refuse .ensures in
-    by-steps pre0 (λ b. s-kind (s-true _ _ (kind-at _ _ _ _ at if1) (s-deep if2 refuse s-end)))
+    by-steps pre0 (λ b. s-kind (s-true _ _ (kind-at _ _ _ _ at if1) (s-shut if2 refuse (λ k l. refl))))
 
 mark-requires : tie.Need-mark-requires
 mark-requires c κs =

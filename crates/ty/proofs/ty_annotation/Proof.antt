@@ -1,6 +1,6 @@
 -- by tools/prove
 use Rattle.parser.specs.Runs.{runs-in, test-true, test-false, ok-bumps, ok-marks, small-len}
-use Rattle.parser.specs.Plans.{plan, choose, chosen, by-steps, s-look, s-true, s-false, s-bump, s-close, s-mark, s-deep, s-by, s-end}
+use Rattle.parser.specs.Plans.{plan, choose, chosen, by-steps, s-look, s-true, s-false, s-bump, s-close, s-mark, s-shut, hushed, s-by, s-end}
 use mathlib.Core.Path.{_≡_, refl, _∙_}
 use Rattle.grammar.specs.Ty as types
 use lib.ListN.{length}
@@ -48,7 +48,7 @@ refuse-requires c κs =
     tt
 
 returns-2 : tie.Need-returns-2
-unfolding types.tyAnnotation plan choose chosen
+unfolding types.tyAnnotation plan choose chosen hushed
 returns-2 c =
     let pre0 = c .before .before .before .before .before .before .before .before .before .before .before .before .before .before .pre in
     let peek = rw (c .before .before .before .before .before .k .given .1) at (c .before .before .before .before .before .before .before .peek .ensures) in
@@ -56,7 +56,7 @@ returns-2 c =
     let if1 = c .before .before .if1 .taken in
     let if2 = c .before .if2 .taken in
     let refuse = c .refuse .ensures in
-    by-steps pre0 (λ b. s-look peek (s-true _ _ (test-true ascription if1) (s-deep if2 refuse s-end)))
+    by-steps pre0 (λ b. s-look peek (s-true _ _ (test-true ascription if1) (s-shut if2 refuse (λ k l. refl))))
 
 mark-requires : tie.Need-mark-requires
 mark-requires c κs =

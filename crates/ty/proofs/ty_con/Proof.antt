@@ -1,6 +1,6 @@
 -- by tools/prove
 use Rattle.parser.specs.Runs.{runs-in, ok-marks, ok-state}
-use Rattle.parser.specs.Plans.{plan, choose, chosen, in-steps, s-close, s-mark, s-deep, s-by, settled, s-end}
+use Rattle.parser.specs.Plans.{plan, choose, chosen, in-steps, s-close, s-mark, s-shut, hushed, s-by, settled, s-end}
 use mathlib.Core.Path.{_≡_, refl, _∙_}
 use Rattle.grammar.specs.Ty as types
 use lib.ListN.{length}
@@ -20,12 +20,12 @@ refuse-requires c κs =
     tt
 
 returns : tie.Need-returns
-unfolding types.tyCon plan choose chosen
+unfolding types.tyCon plan choose chosen hushed
 returns c =
     let pre0 = c .before .before .before .before .before .before .before .before .pre .0 in
     let if1 = c .before .if1 .taken in
     let refuse = c .refuse .ensures in
-    in-steps pre0 (s-deep if1 refuse s-end)
+    in-steps pre0 (s-shut if1 refuse (λ k l. refl))
 
 sub-path-must : tie.Need-sub-path-must
 sub-path-must c =

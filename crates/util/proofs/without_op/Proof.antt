@@ -11,7 +11,7 @@ use Rattle.util.proofs.without_op.Reads as reads
 use Rattle.util.proofs.without_op.Lts as lts
 use Rattle.parser.proofs.at_n.Reads as at-n-reads
 use Rattle.parser.proofs.index.Reads as index-reads
-use Rattle.parser.proofs.names.fixity_at.Reads as fixity-at-reads
+use Rattle.texts.proofs.fixity_at.Reads as fixity-at-reads
 use Rattle.parser.proofs.peek.Reads as peek-reads
 use Rattle.parser.proofs.report.Reads as report-reads
 use Rattle.util.proofs.name_star_eq.Reads as name-star-eq-reads

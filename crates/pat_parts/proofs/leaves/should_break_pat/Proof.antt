@@ -8,7 +8,7 @@ use Rattle.pat_parts.proofs.leaves.should_break_pat.Statement.{statemen
 use Rattle.pat_parts.proofs.leaves.should_break_pat.Tie as tie
 use Rattle.pat_parts.proofs.leaves.should_break_pat.Reads as reads
 use Rattle.pat_parts.proofs.leaves.should_break_pat.Lts as lts
-use Rattle.util.proofs.should_break.Reads as should-break-reads
+use Rattle.breaks.proofs.should_break.Reads as should-break-reads
 
 enum-told : tie.Need-enum-told
 enum-told c =
