@@ -3,7 +3,7 @@ use Rattle.grammar.specs.Prog.{Prog}
 use Rattle.grammar.specs.Rule.{Rule}
 use Rattle.exp_prec.specs.Prec.{precOf}
 use Rattle.laws.specs.Progress.{many-turn-advances, end-turn-advances, semi-turn-advances, exp-step-advances, str-step-advances, sig-exp-advances}
-use Rattle.parser.specs.View.{mem, errOf}
+use Rattle.parser.specs.View.{mem, errOf, outState}
 use Rattle.parser.specs.Runs.{runs-in, runs-always, kind-at, kind-off, kind-is, kind-not, test-true, test-false, ok-bumps, ok-adds, ok-marks, ok-eats, ok-takes, ok-refused, ok-state, small-len, Loops, turns, loop-starts, loop-goes, loop-falls, loop-ends}
 use Rattle.parser.specs.Plans.{plan, choose, chosen, in-steps, by-steps, s-rule, s-look, s-kind, s-fixed, s-true, s-false, s-bump, s-close, s-report, s-mark, s-deep, s-shut, hushed, s-by, s-eats, s-takes, s-run, settled, eats-settled, s-end, s-first, s-second}
 use borrow.Author.Tests.{eq-eqb, ne-eqb}
@@ -922,10 +922,15 @@ app-refuse-requires t c κs =
 app-returns : (t : ℕ) → app-lts.Need-returns (app-told t) (app-at t) app.Post
 unfolding expr.appExp plan choose chosen hushed
 app-returns t c =
-    let pre0 = c .before .before .before .before .before .before .before .pre .1 .0 in
-    let if1 = c .before .if1 .taken in
-    let refuse = c .refuse .ensures in
-    in-steps pre0 (s-shut if1 refuse (λ k l. refl))
+    let X0 = c .before .before .before .before .before .before .before .args .text .now in
+    let T0 = c .before .before .before .before .before .before .before .args .toks .now in
+    let N0 = c .before .before .before .before .before .before .before .args .env .now in
+    let J0 = c .before .before .before .before .before .before .before .args .table .now in
+    let L0 = c .before .before .before .before .before .before .before .args .scratch .now in
+    let H0 = c .before .before .before .before .before .before .before .args .finds .now in
+    let S0 = c .before .before .before .before .before .before .before .args .s in
+    let S2 = c .refuse .result in
+    in-steps {m = (mem X0 T0 N0 J0 L0 H0 S0)} {m' = (mem X0 T0 N0 J0 L0 H0 S2)} (c .before .before .before .before .before .before .before .pre .1 .0) (s-shut (c .before .if1 .taken) (c .refuse .ensures) (λ k l. refl))
 
 app-mark-requires : (t : ℕ) → app-lts.Need-mark-requires (app-told t) (app-at t) app.Post
 app-mark-requires t c κs =
@@ -967,12 +972,21 @@ app-same-length-2 t c =
 app-returns-2 : (t : ℕ) → app-lts.Need-returns-2 (app-told t) (app-at t) app.Post
 unfolding expr.appExp plan choose chosen
 app-returns-2 t c =
-    let pre0 = c .before .before .before .before .before .before .before .before .before .before .before .before .before .before .before .before .before .before .before .pre .1 .0 in
-    let if1 = c .before .before .before .before .before .before .before .before .before .before .before .before .before .if1 .left in
-    let mark = c .before .before .before .before .before .before .before .before .before .before .before .before .mark .ensures in
-    let arg = c .before .before .before .before .before .before .before .before .arg .ensures in
-    let close = c .before .before .close .ensures in
-    in-steps pre0 (s-mark if1 mark (s-by _ (runs-in arg) (s-close close s-end)))
+    let X0 = c .before .before .before .before .before .before .before .before .before .before .before .before .before .before .before .before .before .before .before .args .text .now in
+    let T0 = c .before .before .before .before .before .before .before .before .before .before .before .before .before .before .before .before .before .before .before .args .toks .now in
+    let N0 = c .before .before .before .before .before .before .before .before .before .before .before .before .before .before .before .before .before .before .before .args .env .now in
+    let J0 = c .before .before .before .before .before .before .before .before .before .before .before .before .before .before .before .before .before .before .before .args .table .now in
+    let L0 = c .before .before .before .before .before .before .before .before .before .before .before .before .before .before .before .before .before .before .before .args .scratch .now in
+    let H0 = c .before .before .before .before .before .before .before .before .before .before .before .before .before .before .before .before .before .before .before .args .finds .now in
+    let S0 = c .before .before .before .before .before .before .before .before .before .before .before .before .before .before .before .before .before .before .before .args .s in
+    let S2 = c .before .before .before .before .before .before .before .before .before .before .before .before .mark .result in
+    let J3 = c .before .before .before .before .before .before .before .before .arg .last .1 .1 .1 .0 in
+    let L3 = c .before .before .before .before .before .before .before .before .arg .last .1 .1 .1 .1 .0 in
+    let H3 = c .before .before .before .before .before .before .before .before .arg .last .1 .1 .1 .1 .1 .0 in
+    let S3 = c .before .before .before .before .before .before .before .before .arg .result in
+    let L4 = c .before .before .close .last .0 in
+    let S4 = c .before .before .close .result in
+    in-steps {m = (mem X0 T0 N0 J0 L0 H0 S0)} {m' = (mem X0 T0 N0 J3 L4 H3 S4)} (c .before .before .before .before .before .before .before .before .before .before .before .before .before .before .before .before .before .before .before .pre .1 .0) (s-mark {e = (mem X0 T0 N0 J3 L4 H3 S4)} {x = X0} {t = T0} {n = N0} {j = J0} {l = L0} {h = H0} {s = S0} {s' = S2} (c .before .before .before .before .before .before .before .before .before .before .before .before .before .if1 .left) (c .before .before .before .before .before .before .before .before .before .before .before .before .mark .ensures) (s-by {a = (mem X0 T0 N0 J0 L0 H0 S2)} {c = (mem X0 T0 N0 J3 L3 H3 S3)} {e = (mem X0 T0 N0 J3 L4 H3 S4)} _ (runs-in {a = (mem X0 T0 N0 J0 L0 H0 S2)} {c = (mem X0 T0 N0 J3 L3 H3 S3)} (c .before .before .before .before .before .before .before .before .arg .ensures)) (s-close {e = (mem X0 T0 N0 J3 L4 H3 S4)} {x = X0} {t = T0} {n = N0} {j = J3} {l = L3} {h = H3} {s = S3} {s' = S4} {l' = L4} (c .before .before .close .ensures) s-end)))
 
 arg-peek-requires : (t : ℕ) → arg-lts.Need-peek-requires (arg-told t) (arg-at t) arg.Post
 arg-peek-requires t c κs =
@@ -1004,10 +1018,16 @@ arg-same-length t c =
 arg-returns : (t : ℕ) → arg-lts.Need-returns (arg-told t) (arg-at t) arg.Post
 unfolding expr.atExpMust expr.atExp plan choose chosen
 arg-returns t c =
-    let pre0 = c .before .before .before .before .before .before .before .before .before .before .before .before .pre .1 in
-    let peek = rw (c .before .before .before .before .enum-told .given .1) at (c .before .before .before .before .before .before .peek .ensures) in
-    let report = c .before .before .report .ensures in
-    by-steps pre0 (λ b. s-look peek (s-report report s-end))
+    let X0 = c .before .before .before .before .before .before .before .before .before .before .before .before .args .text .now in
+    let T0 = c .before .before .before .before .before .before .before .before .before .before .before .before .args .toks .now in
+    let N0 = c .before .before .before .before .before .before .before .before .before .before .before .before .args .env .now in
+    let J0 = c .before .before .before .before .before .before .before .before .before .before .before .before .args .table .now in
+    let L0 = c .before .before .before .before .before .before .before .before .before .before .before .before .args .scratch .now in
+    let H0 = c .before .before .before .before .before .before .before .before .before .before .before .before .args .finds .now in
+    let S0 = c .before .before .before .before .before .before .before .before .before .before .before .before .args .s in
+    let H2 = c .before .before .report .last .0 in
+    let S2 = c .before .before .report .result in
+    by-steps {m = (mem X0 T0 N0 J0 L0 H0 S0)} {m' = (mem X0 T0 N0 J0 L0 H2 S2)} (c .before .before .before .before .before .before .before .before .before .before .before .before .pre .1) (λ b. s-look {a = (mem X0 T0 N0 J0 L0 H0 S0)} {e = (mem X0 T0 N0 J0 L0 H2 S2)} (rw (c .before .before .before .before .enum-told .given .1) at (c .before .before .before .before .before .before .peek .ensures)) (s-report {e = (mem X0 T0 N0 J0 L0 H2 S2)} {x = X0} {t = T0} {n = N0} {j = J0} {l = L0} {h = H0} {s = S0} {s' = S2} {h' = H2} (c .before .before .report .ensures) s-end))
 
 arg-refuse-requires : (t : ℕ) → arg-lts.Need-refuse-requires (arg-told t) (arg-at t) arg.Post
 arg-refuse-requires t c κs =
@@ -1016,11 +1036,15 @@ arg-refuse-requires t c κs =
 arg-returns-2 : (t : ℕ) → arg-lts.Need-returns-2 (arg-told t) (arg-at t) arg.Post
 unfolding expr.atExpMust expr.atExp plan choose chosen hushed
 arg-returns-2 t c =
-    let pre0 = c .before .before .before .before .before .before .before .before .before .before .before .pre .1 in
-    let peek = rw (c .before .before .before .k .given .1) at (c .before .before .before .before .before .peek .ensures) in
-    let if1 = c .before .if1 .taken in
-    let refuse = c .refuse .ensures in
-    by-steps pre0 (λ b. s-look peek (s-shut if1 refuse (λ k l. refl)))
+    let X0 = c .before .before .before .before .before .before .before .before .before .before .before .args .text .now in
+    let T0 = c .before .before .before .before .before .before .before .before .before .before .before .args .toks .now in
+    let N0 = c .before .before .before .before .before .before .before .before .before .before .before .args .env .now in
+    let J0 = c .before .before .before .before .before .before .before .before .before .before .before .args .table .now in
+    let L0 = c .before .before .before .before .before .before .before .before .before .before .before .args .scratch .now in
+    let H0 = c .before .before .before .before .before .before .before .before .before .before .before .args .finds .now in
+    let S0 = c .before .before .before .before .before .before .before .before .before .before .before .args .s in
+    let S3 = c .refuse .result in
+    by-steps {m = (mem X0 T0 N0 J0 L0 H0 S0)} {m' = (mem X0 T0 N0 J0 L0 H0 S3)} (c .before .before .before .before .before .before .before .before .before .before .before .pre .1) (λ b. s-look {a = (mem X0 T0 N0 J0 L0 H0 S0)} {e = (mem X0 T0 N0 J0 L0 H0 S3)} (rw (c .before .before .before .k .given .1) at (c .before .before .before .before .before .peek .ensures)) (s-shut (c .before .if1 .taken) (c .refuse .ensures) (λ k l. refl)))
 
 arg-mark-requires : (t : ℕ) → arg-lts.Need-mark-requires (arg-told t) (arg-at t) arg.Post
 arg-mark-requires t c κs =
@@ -1075,12 +1099,19 @@ arg-same-length-3 t c =
 arg-returns-3 : (t : ℕ) → arg-lts.Need-returns-3 (arg-told t) (arg-at t) arg.Post
 unfolding expr.atExpMust expr.atExp plan choose chosen
 arg-returns-3 t c =
-    let pre0 = c .before .before .before .before .before .before .before .before .before .before .before .before .before .before .before .before .before .before .before .before .before .before .pre .1 in
-    let peek = rw (c .before .before .before .before .before .before .before .before .before .before .before .before .before .before .k .given .1) at (c .before .before .before .before .before .before .before .before .before .before .before .before .before .before .before .before .peek .ensures) in
-    let if1 = c .before .before .before .before .before .before .before .before .before .before .before .before .if1 .left in
-    let mark = c .before .before .before .before .before .before .before .before .before .before .before .mark .ensures in
-    let atm = rw (c .before .got .given .1) at (c .before .before .before .before .before .before .before .atm .ensures) in
-    by-steps pre0 (λ b. s-look peek (s-mark if1 mark (s-by _ atm s-end)))
+    let X0 = c .before .before .before .before .before .before .before .before .before .before .before .before .before .before .before .before .before .before .before .before .before .before .args .text .now in
+    let T0 = c .before .before .before .before .before .before .before .before .before .before .before .before .before .before .before .before .before .before .before .before .before .before .args .toks .now in
+    let N0 = c .before .before .before .before .before .before .before .before .before .before .before .before .before .before .before .before .before .before .before .before .before .before .args .env .now in
+    let J0 = c .before .before .before .before .before .before .before .before .before .before .before .before .before .before .before .before .before .before .before .before .before .before .args .table .now in
+    let L0 = c .before .before .before .before .before .before .before .before .before .before .before .before .before .before .before .before .before .before .before .before .before .before .args .scratch .now in
+    let H0 = c .before .before .before .before .before .before .before .before .before .before .before .before .before .before .before .before .before .before .before .before .before .before .args .finds .now in
+    let S0 = c .before .before .before .before .before .before .before .before .before .before .before .before .before .before .before .before .before .before .before .before .before .before .args .s in
+    let S3 = c .before .before .before .before .before .before .before .before .before .before .before .mark .result in
+    let J4 = c .before .before .before .before .before .before .before .atm .last .1 .1 .1 .0 in
+    let L4 = c .before .before .before .before .before .before .before .atm .last .1 .1 .1 .1 .0 in
+    let H4 = c .before .before .before .before .before .before .before .atm .last .1 .1 .1 .1 .1 .0 in
+    let S4 = c .before .got .given .0 .0 in
+    by-steps {m = (mem X0 T0 N0 J0 L0 H0 S0)} {m' = (mem X0 T0 N0 J4 L4 H4 S4)} (c .before .before .before .before .before .before .before .before .before .before .before .before .before .before .before .before .before .before .before .before .before .before .pre .1) (λ b. s-look {a = (mem X0 T0 N0 J0 L0 H0 S0)} {e = (mem X0 T0 N0 J4 L4 H4 S4)} (rw (c .before .before .before .before .before .before .before .before .before .before .before .before .before .before .k .given .1) at (c .before .before .before .before .before .before .before .before .before .before .before .before .before .before .before .before .peek .ensures)) (s-mark {e = (mem X0 T0 N0 J4 L4 H4 S4)} {x = X0} {t = T0} {n = N0} {j = J0} {l = L0} {h = H0} {s = S0} {s' = S3} (c .before .before .before .before .before .before .before .before .before .before .before .before .if1 .left) (c .before .before .before .before .before .before .before .before .before .before .before .mark .ensures) (s-by {a = (mem X0 T0 N0 J0 L0 H0 S3)} {c = (mem X0 T0 N0 J4 L4 H4 S4)} {e = (mem X0 T0 N0 J4 L4 H4 S4)} _ (rw (c .before .got .given .1) at (c .before .before .before .before .before .before .before .atm .ensures)) s-end)))
 
 arg-same-length-4 : (t : ℕ) → arg-lts.Need-same-length-4 (arg-told t) (arg-at t) arg.Post
 arg-same-length-4 t c =
@@ -1093,13 +1124,21 @@ arg-same-length-5 t c =
 arg-returns-4 : (t : ℕ) → arg-lts.Need-returns-4 (arg-told t) (arg-at t) arg.Post
 unfolding expr.atExpMust expr.atExp plan choose chosen
 arg-returns-4 t c =
-    let pre0 = c .before .before .before .before .before .before .before .before .before .before .before .before .before .before .before .before .before .before .before .before .before .before .before .before .before .before .pre .1 in
-    let peek = rw (c .before .before .before .before .before .before .before .before .before .before .before .before .before .before .before .before .before .before .k .given .1) at (c .before .before .before .before .before .before .before .before .before .before .before .before .before .before .before .before .before .before .before .before .peek .ensures) in
-    let if1 = c .before .before .before .before .before .before .before .before .before .before .before .before .before .before .before .before .if1 .left in
-    let mark = c .before .before .before .before .before .before .before .before .before .before .before .before .before .before .before .mark .ensures in
-    let atm = rw (c .before .before .before .before .before .got2 .given .1) at (c .before .before .before .before .before .before .before .before .before .before .before .atm .ensures) in
-    let report2 = c .before .before .report2 .ensures in
-    by-steps pre0 (λ b. s-look peek (s-mark if1 mark (s-by _ atm (s-report report2 s-end))))
+    let X0 = c .before .before .before .before .before .before .before .before .before .before .before .before .before .before .before .before .before .before .before .before .before .before .before .before .before .before .args .text .now in
+    let T0 = c .before .before .before .before .before .before .before .before .before .before .before .before .before .before .before .before .before .before .before .before .before .before .before .before .before .before .args .toks .now in
+    let N0 = c .before .before .before .before .before .before .before .before .before .before .before .before .before .before .before .before .before .before .before .before .before .before .before .before .before .before .args .env .now in
+    let J0 = c .before .before .before .before .before .before .before .before .before .before .before .before .before .before .before .before .before .before .before .before .before .before .before .before .before .before .args .table .now in
+    let L0 = c .before .before .before .before .before .before .before .before .before .before .before .before .before .before .before .before .before .before .before .before .before .before .before .before .before .before .args .scratch .now in
+    let H0 = c .before .before .before .before .before .before .before .before .before .before .before .before .before .before .before .before .before .before .before .before .before .before .before .before .before .before .args .finds .now in
+    let S0 = c .before .before .before .before .before .before .before .before .before .before .before .before .before .before .before .before .before .before .before .before .before .before .before .before .before .before .args .s in
+    let S3 = c .before .before .before .before .before .before .before .before .before .before .before .before .before .before .before .mark .result in
+    let J4 = c .before .before .before .before .before .before .before .before .before .before .before .atm .last .1 .1 .1 .0 in
+    let L4 = c .before .before .before .before .before .before .before .before .before .before .before .atm .last .1 .1 .1 .1 .0 in
+    let H4 = c .before .before .before .before .before .before .before .before .before .before .before .atm .last .1 .1 .1 .1 .1 .0 in
+    let S4 = c .before .before .before .before .before .got2 .given .0 .0 in
+    let H5 = c .before .before .report2 .last .0 in
+    let S5 = c .before .before .report2 .result in
+    by-steps {m = (mem X0 T0 N0 J0 L0 H0 S0)} {m' = (mem X0 T0 N0 J4 L4 H5 S5)} (c .before .before .before .before .before .before .before .before .before .before .before .before .before .before .before .before .before .before .before .before .before .before .before .before .before .before .pre .1) (λ b. s-look {a = (mem X0 T0 N0 J0 L0 H0 S0)} {e = (mem X0 T0 N0 J4 L4 H5 S5)} (rw (c .before .before .before .before .before .before .before .before .before .before .before .before .before .before .before .before .before .before .k .given .1) at (c .before .before .before .before .before .before .before .before .before .before .before .before .before .before .before .before .before .before .before .before .peek .ensures)) (s-mark {e = (mem X0 T0 N0 J4 L4 H5 S5)} {x = X0} {t = T0} {n = N0} {j = J0} {l = L0} {h = H0} {s = S0} {s' = S3} (c .before .before .before .before .before .before .before .before .before .before .before .before .before .before .before .before .if1 .left) (c .before .before .before .before .before .before .before .before .before .before .before .before .before .before .before .mark .ensures) (s-by {a = (mem X0 T0 N0 J0 L0 H0 S3)} {c = (mem X0 T0 N0 J4 L4 H4 S4)} {e = (mem X0 T0 N0 J4 L4 H5 S5)} _ (rw (c .before .before .before .before .before .got2 .given .1) at (c .before .before .before .before .before .before .before .before .before .before .before .atm .ensures)) (s-report {e = (mem X0 T0 N0 J4 L4 H5 S5)} {x = X0} {t = T0} {n = N0} {j = J4} {l = L4} {h = H4} {s = S4} {s' = S5} {h' = H5} (c .before .before .report2 .ensures) s-end))))
 
 arm-pat-prec-requires : (t : ℕ) → arm-lts.Need-pat-prec-requires (arm-told t) (arm-at t) arm.Post
 arm-pat-prec-requires t c κs =
@@ -1143,10 +1182,19 @@ arm-same-length-2 t c =
 arm-returns : (t : ℕ) → arm-lts.Need-returns (arm-told t) (arm-at t) arm.Post
 unfolding expr.arm plan choose chosen
 arm-returns t c =
-    let pre0 = c .before .before .before .before .before .before .before .before .before .before .before .before .before .before .before .before .before .before .before .before .before .pre .1 in
-    let pat-prec = rw (c .before .before .before .before .before .got .given .1) at (c .before .before .before .before .before .before .before .before .before .before .before .pat-prec .ensures) in
-    let report = c .before .before .report .ensures in
-    by-steps pre0 (λ b. s-run (runs-in pat-prec) (s-report report s-end))
+    let X0 = c .before .before .before .before .before .before .before .before .before .before .before .before .before .before .before .before .before .before .before .before .before .args .text .now in
+    let T0 = c .before .before .before .before .before .before .before .before .before .before .before .before .before .before .before .before .before .before .before .before .before .args .toks .now in
+    let N0 = c .before .before .before .before .before .before .before .before .before .before .before .before .before .before .before .before .before .before .before .before .before .args .env .now in
+    let J0 = c .before .before .before .before .before .before .before .before .before .before .before .before .before .before .before .before .before .before .before .before .before .args .table .now in
+    let L0 = c .before .before .before .before .before .before .before .before .before .before .before .before .before .before .before .before .before .before .before .before .before .args .scratch .now in
+    let H0 = c .before .before .before .before .before .before .before .before .before .before .before .before .before .before .before .before .before .before .before .before .before .args .finds .now in
+    let S0 = c .before .before .before .before .before .before .before .before .before .before .before .before .before .before .before .before .before .before .before .before .before .args .s in
+    let L1 = c .before .before .before .before .before .before .before .before .before .before .before .pat-prec .last .1 .1 .1 .1 .0 in
+    let H1 = c .before .before .before .before .before .before .before .before .before .before .before .pat-prec .last .1 .1 .1 .1 .1 .0 in
+    let S1 = c .before .before .before .before .before .got .given .0 .0 in
+    let H2 = c .before .before .report .last .0 in
+    let S2 = c .before .before .report .result in
+    by-steps {m = (mem X0 T0 N0 J0 L0 H0 S0)} {m' = (mem X0 T0 N0 J0 L1 H2 S2)} (c .before .before .before .before .before .before .before .before .before .before .before .before .before .before .before .before .before .before .before .before .before .pre .1) (λ b. s-run {a = (mem X0 T0 N0 J0 L0 H0 S0)} {c = (mem X0 T0 N0 J0 L1 H1 S1)} {e = (mem X0 T0 N0 J0 L1 H2 S2)} (runs-in {a = (mem X0 T0 N0 J0 L0 H0 S0)} {c = (mem X0 T0 N0 J0 L1 H1 S1)} (rw (c .before .before .before .before .before .got .given .1) at (c .before .before .before .before .before .before .before .before .before .before .before .pat-prec .ensures))) (s-report {e = (mem X0 T0 N0 J0 L1 H2 S2)} {x = X0} {t = T0} {n = N0} {j = J0} {l = L1} {h = H1} {s = S1} {s' = S2} {h' = H2} (c .before .before .report .ensures) s-end))
 
 arm-same-length-3 : (t : ℕ) → arm-lts.Need-same-length-3 (arm-told t) (arm-at t) arm.Post
 arm-same-length-3 t c =
@@ -1159,10 +1207,21 @@ arm-same-length-4 t c =
 arm-returns-2 : (t : ℕ) → arm-lts.Need-returns-2 (arm-told t) (arm-at t) arm.Post
 unfolding expr.arm plan choose chosen
 arm-returns-2 t c =
-    let pre0 = c .before .before .before .before .before .before .before .before .before .before .before .before .before .before .before .before .before .before .before .before .before .before .before .before .before .pre .1 in
-    let pat-prec = rw (c .before .before .before .before .before .before .before .before .before .got2 .given .1) at (c .before .before .before .before .before .before .before .before .before .before .before .before .before .before .before .pat-prec .ensures) in
-    let we = c .before .before .before .before .we .ensures in
-    by-steps pre0 (λ b. s-run (runs-in pat-prec) (s-by _ (runs-in we) s-end))
+    let X0 = c .before .before .before .before .before .before .before .before .before .before .before .before .before .before .before .before .before .before .before .before .before .before .before .before .before .args .text .now in
+    let T0 = c .before .before .before .before .before .before .before .before .before .before .before .before .before .before .before .before .before .before .before .before .before .before .before .before .before .args .toks .now in
+    let N0 = c .before .before .before .before .before .before .before .before .before .before .before .before .before .before .before .before .before .before .before .before .before .before .before .before .before .args .env .now in
+    let J0 = c .before .before .before .before .before .before .before .before .before .before .before .before .before .before .before .before .before .before .before .before .before .before .before .before .before .args .table .now in
+    let L0 = c .before .before .before .before .before .before .before .before .before .before .before .before .before .before .before .before .before .before .before .before .before .before .before .before .before .args .scratch .now in
+    let H0 = c .before .before .before .before .before .before .before .before .before .before .before .before .before .before .before .before .before .before .before .before .before .before .before .before .before .args .finds .now in
+    let S0 = c .before .before .before .before .before .before .before .before .before .before .before .before .before .before .before .before .before .before .before .before .before .before .before .before .before .args .s in
+    let L1 = c .before .before .before .before .before .before .before .before .before .before .before .before .before .before .before .pat-prec .last .1 .1 .1 .1 .0 in
+    let H1 = c .before .before .before .before .before .before .before .before .before .before .before .before .before .before .before .pat-prec .last .1 .1 .1 .1 .1 .0 in
+    let S1 = c .before .before .before .before .before .before .before .before .before .got2 .given .0 .0 in
+    let J2 = c .before .before .before .before .we .last .1 .1 .1 .0 in
+    let L2 = c .before .before .before .before .we .last .1 .1 .1 .1 .0 in
+    let H2 = c .before .before .before .before .we .last .1 .1 .1 .1 .1 .0 in
+    let S2 = c .before .before .before .before .we .result in
+    by-steps {m = (mem X0 T0 N0 J0 L0 H0 S0)} {m' = (mem X0 T0 N0 J2 L2 H2 S2)} (c .before .before .before .before .before .before .before .before .before .before .before .before .before .before .before .before .before .before .before .before .before .before .before .before .before .pre .1) (λ b. s-run {a = (mem X0 T0 N0 J0 L0 H0 S0)} {c = (mem X0 T0 N0 J0 L1 H1 S1)} {e = (mem X0 T0 N0 J2 L2 H2 S2)} (runs-in {a = (mem X0 T0 N0 J0 L0 H0 S0)} {c = (mem X0 T0 N0 J0 L1 H1 S1)} (rw (c .before .before .before .before .before .before .before .before .before .got2 .given .1) at (c .before .before .before .before .before .before .before .before .before .before .before .before .before .before .before .pat-prec .ensures))) (s-by {a = (mem X0 T0 N0 J0 L1 H1 S1)} {c = (mem X0 T0 N0 J2 L2 H2 S2)} {e = (mem X0 T0 N0 J2 L2 H2 S2)} _ (runs-in {a = (mem X0 T0 N0 J0 L1 H1 S1)} {c = (mem X0 T0 N0 J2 L2 H2 S2)} (c .before .before .before .before .we .ensures)) s-end))
 
 asc-refuse-requires : (t : ℕ) → asc-lts.Need-refuse-requires (asc-told t) (asc-at t) asc.Post
 asc-refuse-requires t c κs =
@@ -1171,10 +1230,15 @@ asc-refuse-requires t c κs =
 asc-returns : (t : ℕ) → asc-lts.Need-returns (asc-told t) (asc-at t) asc.Post
 unfolding decl.ascriptionTail plan choose chosen hushed
 asc-returns t c =
-    let pre0 = c .before .before .before .before .before .before .before .pre .1 in
-    let if1 = c .before .if1 .taken in
-    let refuse = c .refuse .ensures in
-    by-steps pre0 (λ b. s-shut if1 refuse (λ k l. refl))
+    let X0 = c .before .before .before .before .before .before .before .args .text .now in
+    let T0 = c .before .before .before .before .before .before .before .args .toks .now in
+    let N0 = c .before .before .before .before .before .before .before .args .env .now in
+    let J0 = c .before .before .before .before .before .before .before .args .table .now in
+    let L0 = c .before .before .before .before .before .before .before .args .scratch .now in
+    let H0 = c .before .before .before .before .before .before .before .args .finds .now in
+    let S0 = c .before .before .before .before .before .before .before .args .s in
+    let S2 = c .refuse .result in
+    by-steps {m = (mem X0 T0 N0 J0 L0 H0 S0)} {m' = (mem X0 T0 N0 J0 L0 H0 S2)} (c .before .before .before .before .before .before .before .pre .1) (λ b. s-shut (c .before .if1 .taken) (c .refuse .ensures) (λ k l. refl))
 
 asc-mark-requires : (t : ℕ) → asc-lts.Need-mark-requires (asc-told t) (asc-at t) asc.Post
 asc-mark-requires t c κs =
@@ -1225,13 +1289,23 @@ asc-same-length-2 t c =
 asc-returns-2 : (t : ℕ) → asc-lts.Need-returns-2 (asc-told t) (asc-at t) asc.Post
 unfolding decl.ascriptionTail plan choose chosen
 asc-returns-2 t c =
-    let pre0 = c .before .before .before .before .before .before .before .before .before .before .before .before .before .before .before .before .before .before .before .before .before .before .before .pre .1 in
-    let if1 = c .before .before .before .before .before .before .before .before .before .before .before .before .before .before .before .before .before .if1 .left in
-    let mark = c .before .before .before .before .before .before .before .before .before .before .before .before .before .before .before .before .mark .ensures in
-    let bump = c .before .before .before .before .before .before .before .before .before .before .before .before .before .before .bump .ensures in
-    let sgm = c .before .before .before .before .before .before .before .before .sgm .ensures in
-    let close = c .before .before .close .ensures in
-    by-steps pre0 (λ b. s-mark if1 mark (s-bump bump (s-by _ (runs-in sgm) (s-close close s-end))))
+    let X0 = c .before .before .before .before .before .before .before .before .before .before .before .before .before .before .before .before .before .before .before .before .before .before .before .args .text .now in
+    let T0 = c .before .before .before .before .before .before .before .before .before .before .before .before .before .before .before .before .before .before .before .before .before .before .before .args .toks .now in
+    let N0 = c .before .before .before .before .before .before .before .before .before .before .before .before .before .before .before .before .before .before .before .before .before .before .before .args .env .now in
+    let J0 = c .before .before .before .before .before .before .before .before .before .before .before .before .before .before .before .before .before .before .before .before .before .before .before .args .table .now in
+    let L0 = c .before .before .before .before .before .before .before .before .before .before .before .before .before .before .before .before .before .before .before .before .before .before .before .args .scratch .now in
+    let H0 = c .before .before .before .before .before .before .before .before .before .before .before .before .before .before .before .before .before .before .before .before .before .before .before .args .finds .now in
+    let S0 = c .before .before .before .before .before .before .before .before .before .before .before .before .before .before .before .before .before .before .before .before .before .before .before .args .s in
+    let S2 = c .before .before .before .before .before .before .before .before .before .before .before .before .before .before .before .before .mark .result in
+    let L3 = c .before .before .before .before .before .before .before .before .before .before .before .before .before .before .bump .last .1 .0 in
+    let S3 = c .before .before .before .before .before .before .before .before .before .before .before .before .before .before .bump .result in
+    let J4 = c .before .before .before .before .before .before .before .before .sgm .last .1 .1 .1 .0 in
+    let L4 = c .before .before .before .before .before .before .before .before .sgm .last .1 .1 .1 .1 .0 in
+    let H4 = c .before .before .before .before .before .before .before .before .sgm .last .1 .1 .1 .1 .1 .0 in
+    let S4 = c .before .before .before .before .before .before .before .before .sgm .result in
+    let L5 = c .before .before .close .last .0 in
+    let S5 = c .before .before .close .result in
+    by-steps {m = (mem X0 T0 N0 J0 L0 H0 S0)} {m' = (mem X0 T0 N0 J4 L5 H4 S5)} (c .before .before .before .before .before .before .before .before .before .before .before .before .before .before .before .before .before .before .before .before .before .before .before .pre .1) (λ b. s-mark {e = (mem X0 T0 N0 J4 L5 H4 S5)} {x = X0} {t = T0} {n = N0} {j = J0} {l = L0} {h = H0} {s = S0} {s' = S2} (c .before .before .before .before .before .before .before .before .before .before .before .before .before .before .before .before .before .if1 .left) (c .before .before .before .before .before .before .before .before .before .before .before .before .before .before .before .before .mark .ensures) (s-bump {e = (mem X0 T0 N0 J4 L5 H4 S5)} {x = X0} {t = T0} {n = N0} {j = J0} {l = L0} {h = H0} {s = S2} {s' = S3} {l' = L3} (c .before .before .before .before .before .before .before .before .before .before .before .before .before .before .bump .ensures) (s-by {a = (mem X0 T0 N0 J0 L3 H0 S3)} {c = (mem X0 T0 N0 J4 L4 H4 S4)} {e = (mem X0 T0 N0 J4 L5 H4 S5)} _ (runs-in {a = (mem X0 T0 N0 J0 L3 H0 S3)} {c = (mem X0 T0 N0 J4 L4 H4 S4)} (c .before .before .before .before .before .before .before .before .sgm .ensures)) (s-close {e = (mem X0 T0 N0 J4 L5 H4 S5)} {x = X0} {t = T0} {n = N0} {j = J4} {l = L4} {h = H4} {s = S4} {s' = S5} {l' = L5} (c .before .before .close .ensures) s-end))))
 
 aso-peek-requires : (t : ℕ) → aso-lts.Need-peek-requires (aso-told t) (aso-at t) aso.Post
 aso-peek-requires t c κs =
@@ -1253,9 +1327,14 @@ aso-enum-told t c =
 aso-returns : (t : ℕ) → aso-lts.Need-returns (aso-told t) (aso-at t) aso.Post
 unfolding decl.ascriptionOpt plan choose chosen
 aso-returns t c =
-    let pre0 = c .before .before .before .before .before .before .before .before .pre .1 in
-    let peek = rw (c .enum-told .given .1) at (c .before .before .peek .ensures) in
-    by-steps pre0 (λ b. s-look peek s-end)
+    let X0 = c .before .before .before .before .before .before .before .before .args .text .now in
+    let T0 = c .before .before .before .before .before .before .before .before .args .toks .now in
+    let N0 = c .before .before .before .before .before .before .before .before .args .env .now in
+    let J0 = c .before .before .before .before .before .before .before .before .args .table .now in
+    let L0 = c .before .before .before .before .before .before .before .before .args .scratch .now in
+    let H0 = c .before .before .before .before .before .before .before .before .args .finds .now in
+    let S0 = c .before .before .before .before .before .before .before .before .args .s in
+    by-steps {m = (mem X0 T0 N0 J0 L0 H0 S0)} {m' = (mem X0 T0 N0 J0 L0 H0 S0)} (c .before .before .before .before .before .before .before .before .pre .1) (λ b. s-look {a = (mem X0 T0 N0 J0 L0 H0 S0)} {e = (mem X0 T0 N0 J0 L0 H0 S0)} (rw (c .enum-told .given .1) at (c .before .before .peek .ensures)) s-end)
 
 aso-ascription-requires : (t : ℕ) → aso-lts.Need-ascription-requires (aso-told t) (aso-at t) aso.Post
 aso-ascription-requires t c κs =
@@ -1279,21 +1358,30 @@ aso-same-length-2 t c =
 aso-returns-2 : (t : ℕ) → aso-lts.Need-returns-2 (aso-told t) (aso-at t) aso.Post
 unfolding decl.ascriptionOpt plan choose chosen
 aso-returns-2 t c =
-    let pre0 = c .before .before .before .before .before .before .before .before .before .before .before .before .before .before .before .before .before .before .before .pre .1 in
-    let peek = rw (c .before .before .before .before .before .before .before .before .before .before .before .k .given .1) at (c .before .before .before .before .before .before .before .before .before .before .before .before .before .peek .ensures) in
-    let ascription = c .before .before .before .before .before .before .before .before .before .ascription .ensures in
-    let if1 = c .before .before .before .before .before .before .before .before .if1 .taken in
-    let asc = c .before .before .before .before .asc .ensures in
-    by-steps pre0 (λ b. s-look peek (s-true _ _ (test-true ascription if1) (s-by _ (runs-in asc) s-end)))
+    let X0 = c .before .before .before .before .before .before .before .before .before .before .before .before .before .before .before .before .before .before .before .args .text .now in
+    let T0 = c .before .before .before .before .before .before .before .before .before .before .before .before .before .before .before .before .before .before .before .args .toks .now in
+    let N0 = c .before .before .before .before .before .before .before .before .before .before .before .before .before .before .before .before .before .before .before .args .env .now in
+    let J0 = c .before .before .before .before .before .before .before .before .before .before .before .before .before .before .before .before .before .before .before .args .table .now in
+    let L0 = c .before .before .before .before .before .before .before .before .before .before .before .before .before .before .before .before .before .before .before .args .scratch .now in
+    let H0 = c .before .before .before .before .before .before .before .before .before .before .before .before .before .before .before .before .before .before .before .args .finds .now in
+    let S0 = c .before .before .before .before .before .before .before .before .before .before .before .before .before .before .before .before .before .before .before .args .s in
+    let J4 = c .before .before .before .before .asc .last .1 .1 .1 .0 in
+    let L4 = c .before .before .before .before .asc .last .1 .1 .1 .1 .0 in
+    let H4 = c .before .before .before .before .asc .last .1 .1 .1 .1 .1 .0 in
+    let S4 = c .before .before .before .before .asc .result in
+    by-steps {m = (mem X0 T0 N0 J0 L0 H0 S0)} {m' = (mem X0 T0 N0 J4 L4 H4 S4)} (c .before .before .before .before .before .before .before .before .before .before .before .before .before .before .before .before .before .before .before .pre .1) (λ b. s-look {a = (mem X0 T0 N0 J0 L0 H0 S0)} {e = (mem X0 T0 N0 J4 L4 H4 S4)} (rw (c .before .before .before .before .before .before .before .before .before .before .before .k .given .1) at (c .before .before .before .before .before .before .before .before .before .before .before .before .before .peek .ensures)) (s-true {a = (mem X0 T0 N0 J0 L0 H0 S0)} {e = (mem X0 T0 N0 J4 L4 H4 S4)} _ _ (test-true (c .before .before .before .before .before .before .before .before .before .ascription .ensures) (c .before .before .before .before .before .before .before .before .if1 .taken)) (s-by {a = (mem X0 T0 N0 J0 L0 H0 S0)} {c = (mem X0 T0 N0 J4 L4 H4 S4)} {e = (mem X0 T0 N0 J4 L4 H4 S4)} _ (runs-in {a = (mem X0 T0 N0 J0 L0 H0 S0)} {c = (mem X0 T0 N0 J4 L4 H4 S4)} (c .before .before .before .before .asc .ensures)) s-end)))
 
 aso-returns-3 : (t : ℕ) → aso-lts.Need-returns-3 (aso-told t) (aso-at t) aso.Post
 unfolding decl.ascriptionOpt plan choose chosen
 aso-returns-3 t c =
-    let pre0 = c .before .before .before .before .before .before .before .before .before .before .before .pre .1 in
-    let peek = rw (c .before .before .before .k .given .1) at (c .before .before .before .before .before .peek .ensures) in
-    let ascription = c .before .ascription .ensures in
-    let if1 = c .if1 .left in
-    by-steps pre0 (λ b. s-look peek (s-false _ _ (test-false ascription if1) s-end))
+    let X0 = c .before .before .before .before .before .before .before .before .before .before .before .args .text .now in
+    let T0 = c .before .before .before .before .before .before .before .before .before .before .before .args .toks .now in
+    let N0 = c .before .before .before .before .before .before .before .before .before .before .before .args .env .now in
+    let J0 = c .before .before .before .before .before .before .before .before .before .before .before .args .table .now in
+    let L0 = c .before .before .before .before .before .before .before .before .before .before .before .args .scratch .now in
+    let H0 = c .before .before .before .before .before .before .before .before .before .before .before .args .finds .now in
+    let S0 = c .before .before .before .before .before .before .before .before .before .before .before .args .s in
+    by-steps {m = (mem X0 T0 N0 J0 L0 H0 S0)} {m' = (mem X0 T0 N0 J0 L0 H0 S0)} (c .before .before .before .before .before .before .before .before .before .before .before .pre .1) (λ b. s-look {a = (mem X0 T0 N0 J0 L0 H0 S0)} {e = (mem X0 T0 N0 J0 L0 H0 S0)} (rw (c .before .before .before .k .given .1) at (c .before .before .before .before .before .peek .ensures)) (s-false {a = (mem X0 T0 N0 J0 L0 H0 S0)} {e = (mem X0 T0 N0 J0 L0 H0 S0)} _ _ (test-false (c .before .ascription .ensures) (c .if1 .left)) s-end))
 
 atm-record-start-requires : (t : ℕ) → atm-lts.Need-record-start-requires (atm-told t) (atm-at t) atm.Post
 atm-record-start-requires t c κs =
@@ -1320,11 +1408,21 @@ atm-same-length-2 t c =
 atm-returns : (t : ℕ) → atm-lts.Need-returns (atm-told t) (atm-at t) atm.Post
 unfolding expr.atExpHead expr.endClosure util.choose plan choose chosen
 atm-returns t c =
-    let pre0 = c .before .before .before .before .before .before .before .before .before .before .before .before .before .before .before .before .before .before .before .before .before .before .before .pre .1 .0 in
-    let if1 = c .before .before .before .before .before .before .before .before .before .before .before .before .before .before .before .before .before .if1 .taken in
-    let record-start = c .before .before .before .before .before .before .before .before .before .before .before .before .record-start .ensures in
-    let cl = c .before .before .before .before .cl .ensures in
-    in-steps pre0 (s-true _ _ (kind-is if1) (s-by _ (runs-in record-start) (s-by _ cl s-end)))
+    let X0 = c .before .before .before .before .before .before .before .before .before .before .before .before .before .before .before .before .before .before .before .before .before .before .before .args .text .now in
+    let T0 = c .before .before .before .before .before .before .before .before .before .before .before .before .before .before .before .before .before .before .before .before .before .before .before .args .toks .now in
+    let N0 = c .before .before .before .before .before .before .before .before .before .before .before .before .before .before .before .before .before .before .before .before .before .before .before .args .env .now in
+    let J0 = c .before .before .before .before .before .before .before .before .before .before .before .before .before .before .before .before .before .before .before .before .before .before .before .args .table .now in
+    let L0 = c .before .before .before .before .before .before .before .before .before .before .before .before .before .before .before .before .before .before .before .before .before .before .before .args .scratch .now in
+    let H0 = c .before .before .before .before .before .before .before .before .before .before .before .before .before .before .before .before .before .before .before .before .before .before .before .args .finds .now in
+    let S0 = c .before .before .before .before .before .before .before .before .before .before .before .before .before .before .before .before .before .before .before .before .before .before .before .args .s in
+    let L2 = c .before .before .before .before .before .before .before .before .before .before .before .before .record-start .last .1 .1 .1 .1 .0 in
+    let H2 = c .before .before .before .before .before .before .before .before .before .before .before .before .record-start .last .1 .1 .1 .1 .1 .0 in
+    let S2 = c .before .before .before .before .before .before .before .before .before .before .before .before .record-start .result in
+    let J3 = c .before .before .before .before .cl .last .1 .1 .1 .0 in
+    let L3 = c .before .before .before .before .cl .last .1 .1 .1 .1 .0 in
+    let H3 = c .before .before .before .before .cl .last .1 .1 .1 .1 .1 .0 in
+    let S3 = c .before .before .before .before .cl .result in
+    in-steps {m = (mem X0 T0 N0 J0 L0 H0 S0)} {m' = (mem X0 T0 N0 J3 L3 H3 S3)} (c .before .before .before .before .before .before .before .before .before .before .before .before .before .before .before .before .before .before .before .before .before .before .before .pre .1 .0) (s-true {a = (mem X0 T0 N0 J0 L0 H0 S0)} {e = (mem X0 T0 N0 J3 L3 H3 S3)} _ _ (kind-is (c .before .before .before .before .before .before .before .before .before .before .before .before .before .before .before .before .before .if1 .taken)) (s-by {a = (mem X0 T0 N0 J0 L0 H0 S0)} {c = (mem X0 T0 N0 J0 L2 H2 S2)} {e = (mem X0 T0 N0 J3 L3 H3 S3)} _ (runs-in {a = (mem X0 T0 N0 J0 L0 H0 S0)} {c = (mem X0 T0 N0 J0 L2 H2 S2)} (c .before .before .before .before .before .before .before .before .before .before .before .before .record-start .ensures)) (s-by {a = (mem X0 T0 N0 J0 L2 H2 S2)} {c = (mem X0 T0 N0 J3 L3 H3 S3)} {e = (mem X0 T0 N0 J3 L3 H3 S3)} _ (c .before .before .before .before .cl .ensures) s-end)))
 
 atm-hs-requires : (t : ℕ) → atm-lts.Need-hs-requires (atm-told t) (atm-at t) atm.Post
 atm-hs-requires t c κs =
@@ -1346,11 +1444,18 @@ atm-same-length-4 t c =
 atm-returns-2 : (t : ℕ) → atm-lts.Need-returns-2 (atm-told t) (atm-at t) atm.Post
 unfolding expr.atExpHead expr.endClosure util.choose plan choose chosen
 atm-returns-2 t c =
-    let pre0 = c .before .before .before .before .before .before .before .before .before .before .before .before .before .before .before .pre .1 .0 in
-    let if1 = c .before .before .before .before .before .before .before .before .before .if1 .left in
-    let if2 = c .before .before .before .before .before .before .before .before .if2 .taken in
-    let hs = c .before .before .before .before .hs .ensures in
-    in-steps pre0 (s-false _ _ (kind-not if1) (s-true _ _ (kind-is if2) (s-by _ hs s-end)))
+    let X0 = c .before .before .before .before .before .before .before .before .before .before .before .before .before .before .before .args .text .now in
+    let T0 = c .before .before .before .before .before .before .before .before .before .before .before .before .before .before .before .args .toks .now in
+    let N0 = c .before .before .before .before .before .before .before .before .before .before .before .before .before .before .before .args .env .now in
+    let J0 = c .before .before .before .before .before .before .before .before .before .before .before .before .before .before .before .args .table .now in
+    let L0 = c .before .before .before .before .before .before .before .before .before .before .before .before .before .before .before .args .scratch .now in
+    let H0 = c .before .before .before .before .before .before .before .before .before .before .before .before .before .before .before .args .finds .now in
+    let S0 = c .before .before .before .before .before .before .before .before .before .before .before .before .before .before .before .args .s in
+    let J3 = c .before .before .before .before .hs .last .1 .1 .1 .0 in
+    let L3 = c .before .before .before .before .hs .last .1 .1 .1 .1 .0 in
+    let H3 = c .before .before .before .before .hs .last .1 .1 .1 .1 .1 .0 in
+    let S3 = outState (c .before .before .before .before .hs .result) in
+    in-steps {m = (mem X0 T0 N0 J0 L0 H0 S0)} {m' = (mem X0 T0 N0 J3 L3 H3 S3)} (c .before .before .before .before .before .before .before .before .before .before .before .before .before .before .before .pre .1 .0) (s-false {a = (mem X0 T0 N0 J0 L0 H0 S0)} {e = (mem X0 T0 N0 J3 L3 H3 S3)} _ _ (kind-not (c .before .before .before .before .before .before .before .before .before .if1 .left)) (s-true {a = (mem X0 T0 N0 J0 L0 H0 S0)} {e = (mem X0 T0 N0 J3 L3 H3 S3)} _ _ (kind-is (c .before .before .before .before .before .before .before .before .if2 .taken)) (s-by {a = (mem X0 T0 N0 J0 L0 H0 S0)} {c = (mem X0 T0 N0 J3 L3 H3 S3)} {e = (mem X0 T0 N0 J3 L3 H3 S3)} _ (c .before .before .before .before .hs .ensures) s-end)))
 
 atm-bump-requires : (t : ℕ) → atm-lts.Need-bump-requires (atm-told t) (atm-at t) atm.Post
 atm-bump-requires t c κs =
@@ -1380,13 +1485,20 @@ atm-same-length-6 t c =
 atm-returns-3 : (t : ℕ) → atm-lts.Need-returns-3 (atm-told t) (atm-at t) atm.Post
 unfolding expr.atExpHead expr.endClosure util.choose plan choose chosen
 atm-returns-3 t c =
-    let pre0 = c .before .before .before .before .before .before .before .before .before .before .before .before .before .before .before .before .before .before .before .before .pre .1 .0 in
-    let if1 = c .before .before .before .before .before .before .before .before .before .before .before .before .before .before .if1 .left in
-    let if2 = c .before .before .before .before .before .before .before .before .before .before .before .before .before .if2 .left in
-    let if3 = c .before .before .before .before .before .before .before .before .before .before .before .before .if3 .taken in
-    let bump = c .before .before .before .before .before .before .before .before .before .before .bump .ensures in
-    let rnd = c .before .before .before .before .rnd .ensures in
-    in-steps pre0 (s-false _ _ (kind-not if1) (s-false _ _ (kind-not if2) (s-true _ _ (kind-is if3) (s-bump bump (s-by _ rnd s-end)))))
+    let X0 = c .before .before .before .before .before .before .before .before .before .before .before .before .before .before .before .before .before .before .before .before .args .text .now in
+    let T0 = c .before .before .before .before .before .before .before .before .before .before .before .before .before .before .before .before .before .before .before .before .args .toks .now in
+    let N0 = c .before .before .before .before .before .before .before .before .before .before .before .before .before .before .before .before .before .before .before .before .args .env .now in
+    let J0 = c .before .before .before .before .before .before .before .before .before .before .before .before .before .before .before .before .before .before .before .before .args .table .now in
+    let L0 = c .before .before .before .before .before .before .before .before .before .before .before .before .before .before .before .before .before .before .before .before .args .scratch .now in
+    let H0 = c .before .before .before .before .before .before .before .before .before .before .before .before .before .before .before .before .before .before .before .before .args .finds .now in
+    let S0 = c .before .before .before .before .before .before .before .before .before .before .before .before .before .before .before .before .before .before .before .before .args .s in
+    let L4 = c .before .before .before .before .before .before .before .before .before .before .bump .last .1 .0 in
+    let S4 = c .before .before .before .before .before .before .before .before .before .before .bump .result in
+    let J5 = c .before .before .before .before .rnd .last .1 .1 .1 .0 in
+    let L5 = c .before .before .before .before .rnd .last .1 .1 .1 .1 .0 in
+    let H5 = c .before .before .before .before .rnd .last .1 .1 .1 .1 .1 .0 in
+    let S5 = outState (c .before .before .before .before .rnd .result) in
+    in-steps {m = (mem X0 T0 N0 J0 L0 H0 S0)} {m' = (mem X0 T0 N0 J5 L5 H5 S5)} (c .before .before .before .before .before .before .before .before .before .before .before .before .before .before .before .before .before .before .before .before .pre .1 .0) (s-false {a = (mem X0 T0 N0 J0 L0 H0 S0)} {e = (mem X0 T0 N0 J5 L5 H5 S5)} _ _ (kind-not (c .before .before .before .before .before .before .before .before .before .before .before .before .before .before .if1 .left)) (s-false {a = (mem X0 T0 N0 J0 L0 H0 S0)} {e = (mem X0 T0 N0 J5 L5 H5 S5)} _ _ (kind-not (c .before .before .before .before .before .before .before .before .before .before .before .before .before .if2 .left)) (s-true {a = (mem X0 T0 N0 J0 L0 H0 S0)} {e = (mem X0 T0 N0 J5 L5 H5 S5)} _ _ (kind-is (c .before .before .before .before .before .before .before .before .before .before .before .before .if3 .taken)) (s-bump {e = (mem X0 T0 N0 J5 L5 H5 S5)} {x = X0} {t = T0} {n = N0} {j = J0} {l = L0} {h = H0} {s = S0} {s' = S4} {l' = L4} (c .before .before .before .before .before .before .before .before .before .before .bump .ensures) (s-by {a = (mem X0 T0 N0 J0 L4 H0 S4)} {c = (mem X0 T0 N0 J5 L5 H5 S5)} {e = (mem X0 T0 N0 J5 L5 H5 S5)} _ (c .before .before .before .before .rnd .ensures) s-end)))))
 
 atm-bump-requires-2 : (t : ℕ) → atm-lts.Need-bump-requires-2 (atm-told t) (atm-at t) atm.Post
 atm-bump-requires-2 t c κs =
@@ -1417,14 +1529,20 @@ atm-same-length-8 t c =
 atm-returns-4 : (t : ℕ) → atm-lts.Need-returns-4 (atm-told t) (atm-at t) atm.Post
 unfolding expr.atExpHead expr.endClosure util.choose plan choose chosen
 atm-returns-4 t c =
-    let pre0 = c .before .before .before .before .before .before .before .before .before .before .before .before .before .before .before .before .before .before .before .before .before .pre .1 .0 in
-    let if1 = c .before .before .before .before .before .before .before .before .before .before .before .before .before .before .before .if1 .left in
-    let if2 = c .before .before .before .before .before .before .before .before .before .before .before .before .before .before .if2 .left in
-    let if3 = c .before .before .before .before .before .before .before .before .before .before .before .before .before .if3 .left in
-    let if4 = c .before .before .before .before .before .before .before .before .before .before .before .before .if4 .taken in
-    let bump2 = c .before .before .before .before .before .before .before .before .before .before .bump2 .ensures in
-    let cl2 = c .before .before .before .before .cl2 .ensures in
-    in-steps pre0 (s-false _ _ (kind-not if1) (s-false _ _ (kind-not if2) (s-false _ _ (kind-not if3) (s-true _ _ (kind-is if4) (s-bump bump2 (s-by _ cl2 s-end))))))
+    let X0 = c .before .before .before .before .before .before .before .before .before .before .before .before .before .before .before .before .before .before .before .before .before .args .text .now in
+    let T0 = c .before .before .before .before .before .before .before .before .before .before .before .before .before .before .before .before .before .before .before .before .before .args .toks .now in
+    let N0 = c .before .before .before .before .before .before .before .before .before .before .before .before .before .before .before .before .before .before .before .before .before .args .env .now in
+    let J0 = c .before .before .before .before .before .before .before .before .before .before .before .before .before .before .before .before .before .before .before .before .before .args .table .now in
+    let L0 = c .before .before .before .before .before .before .before .before .before .before .before .before .before .before .before .before .before .before .before .before .before .args .scratch .now in
+    let H0 = c .before .before .before .before .before .before .before .before .before .before .before .before .before .before .before .before .before .before .before .before .before .args .finds .now in
+    let S0 = c .before .before .before .before .before .before .before .before .before .before .before .before .before .before .before .before .before .before .before .before .before .args .s in
+    let L5 = c .before .before .before .before .before .before .before .before .before .before .bump2 .last .1 .0 in
+    let S5 = c .before .before .before .before .before .before .before .before .before .before .bump2 .result in
+    let J6 = c .before .before .before .before .cl2 .last .1 .1 .1 .0 in
+    let L6 = c .before .before .before .before .cl2 .last .1 .1 .1 .1 .0 in
+    let H6 = c .before .before .before .before .cl2 .last .1 .1 .1 .1 .1 .0 in
+    let S6 = c .before .before .before .before .cl2 .result in
+    in-steps {m = (mem X0 T0 N0 J0 L0 H0 S0)} {m' = (mem X0 T0 N0 J6 L6 H6 S6)} (c .before .before .before .before .before .before .before .before .before .before .before .before .before .before .before .before .before .before .before .before .before .pre .1 .0) (s-false {a = (mem X0 T0 N0 J0 L0 H0 S0)} {e = (mem X0 T0 N0 J6 L6 H6 S6)} _ _ (kind-not (c .before .before .before .before .before .before .before .before .before .before .before .before .before .before .before .if1 .left)) (s-false {a = (mem X0 T0 N0 J0 L0 H0 S0)} {e = (mem X0 T0 N0 J6 L6 H6 S6)} _ _ (kind-not (c .before .before .before .before .before .before .before .before .before .before .before .before .before .before .if2 .left)) (s-false {a = (mem X0 T0 N0 J0 L0 H0 S0)} {e = (mem X0 T0 N0 J6 L6 H6 S6)} _ _ (kind-not (c .before .before .before .before .before .before .before .before .before .before .before .before .before .if3 .left)) (s-true {a = (mem X0 T0 N0 J0 L0 H0 S0)} {e = (mem X0 T0 N0 J6 L6 H6 S6)} _ _ (kind-is (c .before .before .before .before .before .before .before .before .before .before .before .before .if4 .taken)) (s-bump {e = (mem X0 T0 N0 J6 L6 H6 S6)} {x = X0} {t = T0} {n = N0} {j = J0} {l = L0} {h = H0} {s = S0} {s' = S5} {l' = L5} (c .before .before .before .before .before .before .before .before .before .before .bump2 .ensures) (s-by {a = (mem X0 T0 N0 J0 L5 H0 S5)} {c = (mem X0 T0 N0 J6 L6 H6 S6)} {e = (mem X0 T0 N0 J6 L6 H6 S6)} _ (c .before .before .before .before .cl2 .ensures) s-end))))))
 
 atm-lex-requires : (t : ℕ) → atm-lts.Need-lex-requires (atm-told t) (atm-at t) atm.Post
 atm-lex-requires t c κs =
@@ -1449,14 +1567,18 @@ atm-same-length-10 t c =
 atm-returns-5 : (t : ℕ) → atm-lts.Need-returns-5 (atm-told t) (atm-at t) atm.Post
 unfolding expr.atExpHead expr.endClosure util.choose plan choose chosen
 atm-returns-5 t c =
-    let pre0 = c .before .before .before .before .before .before .before .before .before .before .before .before .before .before .before .before .before .before .pre .1 .0 in
-    let if1 = c .before .before .before .before .before .before .before .before .before .before .before .before .if1 .left in
-    let if2 = c .before .before .before .before .before .before .before .before .before .before .before .if2 .left in
-    let if3 = c .before .before .before .before .before .before .before .before .before .before .if3 .left in
-    let if4 = c .before .before .before .before .before .before .before .before .before .if4 .left in
-    let if5 = c .before .before .before .before .before .before .before .before .if5 .taken in
-    let lex = c .before .before .before .before .lex .ensures in
-    in-steps pre0 (s-false _ _ (kind-not if1) (s-false _ _ (kind-not if2) (s-false _ _ (kind-not if3) (s-false _ _ (kind-not if4) (s-true _ _ (kind-is if5) (s-by _ lex s-end))))))
+    let X0 = c .before .before .before .before .before .before .before .before .before .before .before .before .before .before .before .before .before .before .args .text .now in
+    let T0 = c .before .before .before .before .before .before .before .before .before .before .before .before .before .before .before .before .before .before .args .toks .now in
+    let N0 = c .before .before .before .before .before .before .before .before .before .before .before .before .before .before .before .before .before .before .args .env .now in
+    let J0 = c .before .before .before .before .before .before .before .before .before .before .before .before .before .before .before .before .before .before .args .table .now in
+    let L0 = c .before .before .before .before .before .before .before .before .before .before .before .before .before .before .before .before .before .before .args .scratch .now in
+    let H0 = c .before .before .before .before .before .before .before .before .before .before .before .before .before .before .before .before .before .before .args .finds .now in
+    let S0 = c .before .before .before .before .before .before .before .before .before .before .before .before .before .before .before .before .before .before .args .s in
+    let J6 = c .before .before .before .before .lex .last .1 .1 .1 .0 in
+    let L6 = c .before .before .before .before .lex .last .1 .1 .1 .1 .0 in
+    let H6 = c .before .before .before .before .lex .last .1 .1 .1 .1 .1 .0 in
+    let S6 = outState (c .before .before .before .before .lex .result) in
+    in-steps {m = (mem X0 T0 N0 J0 L0 H0 S0)} {m' = (mem X0 T0 N0 J6 L6 H6 S6)} (c .before .before .before .before .before .before .before .before .before .before .before .before .before .before .before .before .before .before .pre .1 .0) (s-false {a = (mem X0 T0 N0 J0 L0 H0 S0)} {e = (mem X0 T0 N0 J6 L6 H6 S6)} _ _ (kind-not (c .before .before .before .before .before .before .before .before .before .before .before .before .if1 .left)) (s-false {a = (mem X0 T0 N0 J0 L0 H0 S0)} {e = (mem X0 T0 N0 J6 L6 H6 S6)} _ _ (kind-not (c .before .before .before .before .before .before .before .before .before .before .before .if2 .left)) (s-false {a = (mem X0 T0 N0 J0 L0 H0 S0)} {e = (mem X0 T0 N0 J6 L6 H6 S6)} _ _ (kind-not (c .before .before .before .before .before .before .before .before .before .before .if3 .left)) (s-false {a = (mem X0 T0 N0 J0 L0 H0 S0)} {e = (mem X0 T0 N0 J6 L6 H6 S6)} _ _ (kind-not (c .before .before .before .before .before .before .before .before .before .if4 .left)) (s-true {a = (mem X0 T0 N0 J0 L0 H0 S0)} {e = (mem X0 T0 N0 J6 L6 H6 S6)} _ _ (kind-is (c .before .before .before .before .before .before .before .before .if5 .taken)) (s-by {a = (mem X0 T0 N0 J0 L0 H0 S0)} {c = (mem X0 T0 N0 J6 L6 H6 S6)} {e = (mem X0 T0 N0 J6 L6 H6 S6)} _ (c .before .before .before .before .lex .ensures) s-end))))))
 
 atm-leaf-requires : (t : ℕ) → atm-lts.Need-leaf-requires (atm-told t) (atm-at t) atm.Post
 atm-leaf-requires t c κs =
@@ -1475,14 +1597,17 @@ atm-same-length-12 t c =
 atm-returns-6 : (t : ℕ) → atm-lts.Need-returns-6 (atm-told t) (atm-at t) atm.Post
 unfolding expr.atExpHead expr.endClosure util.choose plan choose chosen
 atm-returns-6 t c =
-    let pre0 = c .before .before .before .before .before .before .before .before .before .before .before .before .before .before .before .before .before .before .before .pre .1 .0 in
-    let if1 = c .before .before .before .before .before .before .before .before .before .before .before .before .before .if1 .left in
-    let if2 = c .before .before .before .before .before .before .before .before .before .before .before .before .if2 .left in
-    let if3 = c .before .before .before .before .before .before .before .before .before .before .before .if3 .left in
-    let if4 = c .before .before .before .before .before .before .before .before .before .before .if4 .left in
-    let if5 = c .before .before .before .before .before .before .before .before .before .if5 .left in
-    let leaf = c .before .before .before .before .leaf .ensures in
-    in-steps pre0 (s-false _ _ (kind-not if1) (s-false _ _ (kind-not if2) (s-false _ _ (kind-not if3) (s-false _ _ (kind-not if4) (s-false _ _ (kind-not if5) (s-by _ leaf s-end))))))
+    let X0 = c .before .before .before .before .before .before .before .before .before .before .before .before .before .before .before .before .before .before .before .args .text .now in
+    let T0 = c .before .before .before .before .before .before .before .before .before .before .before .before .before .before .before .before .before .before .before .args .toks .now in
+    let N0 = c .before .before .before .before .before .before .before .before .before .before .before .before .before .before .before .before .before .before .before .args .env .now in
+    let J0 = c .before .before .before .before .before .before .before .before .before .before .before .before .before .before .before .before .before .before .before .args .table .now in
+    let L0 = c .before .before .before .before .before .before .before .before .before .before .before .before .before .before .before .before .before .before .before .args .scratch .now in
+    let H0 = c .before .before .before .before .before .before .before .before .before .before .before .before .before .before .before .before .before .before .before .args .finds .now in
+    let S0 = c .before .before .before .before .before .before .before .before .before .before .before .before .before .before .before .before .before .before .before .args .s in
+    let L6 = c .before .before .before .before .leaf .last .1 .1 .1 .1 .0 in
+    let H6 = c .before .before .before .before .leaf .last .1 .1 .1 .1 .1 .0 in
+    let S6 = outState (c .before .before .before .before .leaf .result) in
+    in-steps {m = (mem X0 T0 N0 J0 L0 H0 S0)} {m' = (mem X0 T0 N0 J0 L6 H6 S6)} (c .before .before .before .before .before .before .before .before .before .before .before .before .before .before .before .before .before .before .before .pre .1 .0) (s-false {a = (mem X0 T0 N0 J0 L0 H0 S0)} {e = (mem X0 T0 N0 J0 L6 H6 S6)} _ _ (kind-not (c .before .before .before .before .before .before .before .before .before .before .before .before .before .if1 .left)) (s-false {a = (mem X0 T0 N0 J0 L0 H0 S0)} {e = (mem X0 T0 N0 J0 L6 H6 S6)} _ _ (kind-not (c .before .before .before .before .before .before .before .before .before .before .before .before .if2 .left)) (s-false {a = (mem X0 T0 N0 J0 L0 H0 S0)} {e = (mem X0 T0 N0 J0 L6 H6 S6)} _ _ (kind-not (c .before .before .before .before .before .before .before .before .before .before .before .if3 .left)) (s-false {a = (mem X0 T0 N0 J0 L0 H0 S0)} {e = (mem X0 T0 N0 J0 L6 H6 S6)} _ _ (kind-not (c .before .before .before .before .before .before .before .before .before .before .if4 .left)) (s-false {a = (mem X0 T0 N0 J0 L0 H0 S0)} {e = (mem X0 T0 N0 J0 L6 H6 S6)} _ _ (kind-not (c .before .before .before .before .before .before .before .before .before .if5 .left)) (s-by {a = (mem X0 T0 N0 J0 L0 H0 S0)} {c = (mem X0 T0 N0 J0 L6 H6 S6)} {e = (mem X0 T0 N0 J0 L6 H6 S6)} _ (c .before .before .before .before .leaf .ensures) s-end))))))
 
 bd-mny-requires : (t : ℕ) → bd-lts.Need-mny-requires (bd-told t) (bd-at t) bd.Post
 bd-mny-requires t c κs =
@@ -1509,10 +1634,20 @@ bd-same-length-2 t c =
 bd-returns : (t : ℕ) → bd-lts.Need-returns (bd-told t) (bd-at t) bd.Post
 unfolding util.manySepNode util.manySep plan choose chosen
 bd-returns t c =
-    let pre0 = c .before .before .before .before .before .before .before .before .before .before .before .before .before .before .before .before .before .pre .1 .0 in
-    let mny = c .before .before .before .before .before .before .before .before .mny .ensures in
-    let close = c .before .before .close .ensures in
-    in-steps pre0 (s-run mny (s-close close s-end))
+    let X0 = c .before .before .before .before .before .before .before .before .before .before .before .before .before .before .before .before .before .args .text .now in
+    let T0 = c .before .before .before .before .before .before .before .before .before .before .before .before .before .before .before .before .before .args .toks .now in
+    let N0 = c .before .before .before .before .before .before .before .before .before .before .before .before .before .before .before .before .before .args .env .now in
+    let J0 = c .before .before .before .before .before .before .before .before .before .before .before .before .before .before .before .before .before .args .table .now in
+    let L0 = c .before .before .before .before .before .before .before .before .before .before .before .before .before .before .before .before .before .args .scratch .now in
+    let H0 = c .before .before .before .before .before .before .before .before .before .before .before .before .before .before .before .before .before .args .finds .now in
+    let S0 = c .before .before .before .before .before .before .before .before .before .before .before .before .before .before .before .before .before .args .s in
+    let J1 = c .before .before .before .before .before .before .before .before .mny .last .1 .1 .1 .0 in
+    let L1 = c .before .before .before .before .before .before .before .before .mny .last .1 .1 .1 .1 .0 in
+    let H1 = c .before .before .before .before .before .before .before .before .mny .last .1 .1 .1 .1 .1 .0 in
+    let S1 = c .before .before .before .before .before .before .before .before .mny .result in
+    let L2 = c .before .before .close .last .0 in
+    let S2 = c .before .before .close .result in
+    in-steps {m = (mem X0 T0 N0 J0 L0 H0 S0)} {m' = (mem X0 T0 N0 J1 L2 H1 S2)} (c .before .before .before .before .before .before .before .before .before .before .before .before .before .before .before .before .before .pre .1 .0) (s-run {a = (mem X0 T0 N0 J0 L0 H0 S0)} {c = (mem X0 T0 N0 J1 L1 H1 S1)} {e = (mem X0 T0 N0 J1 L2 H1 S2)} (c .before .before .before .before .before .before .before .before .mny .ensures) (s-close {e = (mem X0 T0 N0 J1 L2 H1 S2)} {x = X0} {t = T0} {n = N0} {j = J1} {l = L1} {h = H1} {s = S1} {s' = S2} {l' = L2} (c .before .before .close .ensures) s-end))
 
 bdy-dec-requires : (t : ℕ) → bdy-lts.Need-dec-requires (bdy-told t) (bdy-at t) bdy.Post
 bdy-dec-requires t c κs =
@@ -1555,12 +1690,26 @@ bdy-same-length-2 t c =
 bdy-returns : (t : ℕ) → bdy-lts.Need-returns (bdy-told t) (bdy-at t) bdy.Post
 unfolding expr.letBody util.endSep expr.endClosure util.choose plan choose chosen
 bdy-returns t c =
-    let pre0 = c .before .before .before .before .before .before .before .before .before .before .before .before .before .before .before .before .before .before .before .before .before .before .before .before .before .before .before .before .before .pre .1 in
-    let dec = c .before .before .before .before .before .before .before .before .before .before .before .before .before .before .before .before .before .before .before .before .dec .ensures in
-    let state = c .before .before .before .before .before .before .before .before .before .before .before .before .before .before .before .state .ensures in
-    let want = c .before .before .before .before .before .before .before .before .before .before .before .before .want .ensures in
-    let sep = c .before .before .before .before .sep .ensures in
-    in-steps pre0 (s-run (settled state (runs-in dec)) (s-eats _ _ _ want (s-run sep s-end)))
+    let X0 = c .before .before .before .before .before .before .before .before .before .before .before .before .before .before .before .before .before .before .before .before .before .before .before .before .before .before .before .before .before .args .text .now in
+    let T0 = c .before .before .before .before .before .before .before .before .before .before .before .before .before .before .before .before .before .before .before .before .before .before .before .before .before .before .before .before .before .args .toks .now in
+    let N0 = c .before .before .before .before .before .before .before .before .before .before .before .before .before .before .before .before .before .before .before .before .before .before .before .before .before .before .before .before .before .args .env .now in
+    let J0 = c .before .before .before .before .before .before .before .before .before .before .before .before .before .before .before .before .before .before .before .before .before .before .before .before .before .before .before .before .before .args .table .now in
+    let L0 = c .before .before .before .before .before .before .before .before .before .before .before .before .before .before .before .before .before .before .before .before .before .before .before .before .before .before .before .before .before .args .scratch .now in
+    let H0 = c .before .before .before .before .before .before .before .before .before .before .before .before .before .before .before .before .before .before .before .before .before .before .before .before .before .before .before .before .before .args .finds .now in
+    let S0 = c .before .before .before .before .before .before .before .before .before .before .before .before .before .before .before .before .before .before .before .before .before .before .before .before .before .before .before .before .before .args .s in
+    let J1 = c .before .before .before .before .before .before .before .before .before .before .before .before .before .before .before .before .before .before .before .before .dec .last .1 .1 .1 .0 in
+    let L1 = c .before .before .before .before .before .before .before .before .before .before .before .before .before .before .before .before .before .before .before .before .dec .last .1 .1 .1 .1 .0 in
+    let H1 = c .before .before .before .before .before .before .before .before .before .before .before .before .before .before .before .before .before .before .before .before .dec .last .1 .1 .1 .1 .1 .0 in
+    let S1 = outState (c .before .before .before .before .before .before .before .before .before .before .before .before .before .before .before .before .before .before .before .before .dec .result) in
+    let S2 = c .before .before .before .before .before .before .before .before .before .before .before .before .before .before .before .state .result in
+    let L3 = c .before .before .before .before .before .before .before .before .before .before .before .before .want .last .1 .0 in
+    let H3 = c .before .before .before .before .before .before .before .before .before .before .before .before .want .last .1 .1 .0 in
+    let S3 = c .before .before .before .before .before .before .before .before .before .before .before .before .want .result in
+    let J4 = c .before .before .before .before .sep .last .1 .1 .1 .0 in
+    let L4 = c .before .before .before .before .sep .last .1 .1 .1 .1 .0 in
+    let H4 = c .before .before .before .before .sep .last .1 .1 .1 .1 .1 .0 in
+    let S4 = c .before .before .before .before .sep .result in
+    in-steps {m = (mem X0 T0 N0 J0 L0 H0 S0)} {m' = (mem X0 T0 N0 J4 L4 H4 S4)} (c .before .before .before .before .before .before .before .before .before .before .before .before .before .before .before .before .before .before .before .before .before .before .before .before .before .before .before .before .before .pre .1) (s-run {a = (mem X0 T0 N0 J0 L0 H0 S0)} {c = (mem X0 T0 N0 J1 L1 H1 S2)} {e = (mem X0 T0 N0 J4 L4 H4 S4)} (settled (c .before .before .before .before .before .before .before .before .before .before .before .before .before .before .before .state .ensures) (runs-in {a = (mem X0 T0 N0 J0 L0 H0 S0)} {c = (mem X0 T0 N0 J1 L1 H1 S1)} (c .before .before .before .before .before .before .before .before .before .before .before .before .before .before .before .before .before .before .before .before .dec .ensures))) (s-eats _ _ {x = X0} {t = T0} {n = N0} {j = J1} {l = L1} {h = H1} {l' = L3} {s = S2} {s' = S3} {e = (mem X0 T0 N0 J4 L4 H4 S4)} _ {h' = H3} (c .before .before .before .before .before .before .before .before .before .before .before .before .want .ensures) (s-run {a = (mem X0 T0 N0 J1 L3 H3 S3)} {c = (mem X0 T0 N0 J4 L4 H4 S4)} {e = (mem X0 T0 N0 J4 L4 H4 S4)} (c .before .before .before .before .sep .ensures) s-end)))
 
 cel-lab-requires : (t : ℕ) → cel-lts.Need-lab-requires (cel-told t) (cel-at t) cel.Post
 cel-lab-requires t c κs =
@@ -1587,11 +1736,21 @@ cel-same-length-2 t c =
 cel-returns : (t : ℕ) → cel-lts.Need-returns (cel-told t) (cel-at t) cel.Post
 unfolding expr.endClosure expr.expRow plan choose chosen
 cel-returns t c =
-    let pre0 = c .before .before .before .before .before .before .before .before .before .before .before .before .before .before .before .before .before .before .before .before .before .before .pre .1 in
-    let if1 = c .before .before .before .before .before .before .before .before .before .before .before .before .before .before .before .if1 .taken in
-    let lab = c .before .before .before .before .before .before .before .before .before .before .before .before .lab .ensures in
-    let eq = c .before .before .before .before .eq .ensures in
-    by-steps pre0 (λ b. s-first _ _ _ _ _ _ (eq-eqb _ _ if1) (s-eats _ _ _ lab (s-by _ (runs-in eq) s-end)))
+    let X0 = c .before .before .before .before .before .before .before .before .before .before .before .before .before .before .before .before .before .before .before .before .before .before .args .text .now in
+    let T0 = c .before .before .before .before .before .before .before .before .before .before .before .before .before .before .before .before .before .before .before .before .before .before .args .toks .now in
+    let N0 = c .before .before .before .before .before .before .before .before .before .before .before .before .before .before .before .before .before .before .before .before .before .before .args .env .now in
+    let J0 = c .before .before .before .before .before .before .before .before .before .before .before .before .before .before .before .before .before .before .before .before .before .before .args .table .now in
+    let L0 = c .before .before .before .before .before .before .before .before .before .before .before .before .before .before .before .before .before .before .before .before .before .before .args .scratch .now in
+    let H0 = c .before .before .before .before .before .before .before .before .before .before .before .before .before .before .before .before .before .before .before .before .before .before .args .finds .now in
+    let S0 = c .before .before .before .before .before .before .before .before .before .before .before .before .before .before .before .before .before .before .before .before .before .before .args .s in
+    let L2 = c .before .before .before .before .before .before .before .before .before .before .before .before .lab .last .1 .0 in
+    let H2 = c .before .before .before .before .before .before .before .before .before .before .before .before .lab .last .1 .1 .0 in
+    let S2 = c .before .before .before .before .before .before .before .before .before .before .before .before .lab .result in
+    let J3 = c .before .before .before .before .eq .last .1 .1 .1 .0 in
+    let L3 = c .before .before .before .before .eq .last .1 .1 .1 .1 .0 in
+    let H3 = c .before .before .before .before .eq .last .1 .1 .1 .1 .1 .0 in
+    let S3 = c .before .before .before .before .eq .result in
+    by-steps {m = (mem X0 T0 N0 J0 L0 H0 S0)} {m' = (mem X0 T0 N0 J3 L3 H3 S3)} (c .before .before .before .before .before .before .before .before .before .before .before .before .before .before .before .before .before .before .before .before .before .before .pre .1) (λ b. s-first {a = (mem X0 T0 N0 J0 L0 H0 S0)} {e = (mem X0 T0 N0 J3 L3 H3 S3)} _ _ _ _ _ _ (eq-eqb _ _ (c .before .before .before .before .before .before .before .before .before .before .before .before .before .before .before .if1 .taken)) (s-eats _ _ {x = X0} {t = T0} {n = N0} {j = J0} {l = L0} {h = H0} {l' = L2} {s = S0} {s' = S2} {e = (mem X0 T0 N0 J3 L3 H3 S3)} _ {h' = H2} (c .before .before .before .before .before .before .before .before .before .before .before .before .lab .ensures) (s-by {a = (mem X0 T0 N0 J0 L2 H2 S2)} {c = (mem X0 T0 N0 J3 L3 H3 S3)} {e = (mem X0 T0 N0 J3 L3 H3 S3)} _ (runs-in {a = (mem X0 T0 N0 J0 L2 H2 S2)} {c = (mem X0 T0 N0 J3 L3 H3 S3)} (c .before .before .before .before .eq .ensures)) s-end)))
 
 cel-exp-requires : (t : ℕ) → cel-lts.Need-exp-requires (cel-told t) (cel-at t) cel.Post
 cel-exp-requires t c κs =
@@ -1611,10 +1770,18 @@ cel-same-length-4 t c =
 cel-returns-2 : (t : ℕ) → cel-lts.Need-returns-2 (cel-told t) (cel-at t) cel.Post
 unfolding expr.endClosure expr.expRow plan choose chosen
 cel-returns-2 t c =
-    let pre0 = c .before .before .before .before .before .before .before .before .before .before .before .before .before .before .before .pre .1 in
-    let if1 = c .before .before .before .before .before .before .before .before .if1 .left in
-    let exp = c .before .before .before .before .exp .ensures in
-    by-steps pre0 (λ b. s-second _ _ _ _ _ _ (ne-eqb _ _ if1) (s-by _ (runs-in exp) s-end))
+    let X0 = c .before .before .before .before .before .before .before .before .before .before .before .before .before .before .before .args .text .now in
+    let T0 = c .before .before .before .before .before .before .before .before .before .before .before .before .before .before .before .args .toks .now in
+    let N0 = c .before .before .before .before .before .before .before .before .before .before .before .before .before .before .before .args .env .now in
+    let J0 = c .before .before .before .before .before .before .before .before .before .before .before .before .before .before .before .args .table .now in
+    let L0 = c .before .before .before .before .before .before .before .before .before .before .before .before .before .before .before .args .scratch .now in
+    let H0 = c .before .before .before .before .before .before .before .before .before .before .before .before .before .before .before .args .finds .now in
+    let S0 = c .before .before .before .before .before .before .before .before .before .before .before .before .before .before .before .args .s in
+    let J2 = c .before .before .before .before .exp .last .1 .1 .1 .0 in
+    let L2 = c .before .before .before .before .exp .last .1 .1 .1 .1 .0 in
+    let H2 = c .before .before .before .before .exp .last .1 .1 .1 .1 .1 .0 in
+    let S2 = c .before .before .before .before .exp .result in
+    by-steps {m = (mem X0 T0 N0 J0 L0 H0 S0)} {m' = (mem X0 T0 N0 J2 L2 H2 S2)} (c .before .before .before .before .before .before .before .before .before .before .before .before .before .before .before .pre .1) (λ b. s-second {a = (mem X0 T0 N0 J0 L0 H0 S0)} {e = (mem X0 T0 N0 J2 L2 H2 S2)} _ _ _ _ _ _ (ne-eqb _ _ (c .before .before .before .before .before .before .before .before .if1 .left)) (s-by {a = (mem X0 T0 N0 J0 L0 H0 S0)} {c = (mem X0 T0 N0 J2 L2 H2 S2)} {e = (mem X0 T0 N0 J2 L2 H2 S2)} _ (runs-in {a = (mem X0 T0 N0 J0 L0 H0 S0)} {c = (mem X0 T0 N0 J2 L2 H2 S2)} (c .before .before .before .before .exp .ensures)) s-end))
 
 cl-sep-requires : (t : ℕ) → cl-lts.Need-sep-requires (cl-told t) (cl-at t) cl.Post
 cl-sep-requires t c κs =
@@ -1642,10 +1809,20 @@ cl-same-length-2 t c =
 cl-returns : (t : ℕ) → cl-lts.Need-returns (cl-told t) (cl-at t) cl.Post
 unfolding util.endSepNode util.endSep plan choose chosen
 cl-returns t c =
-    let pre0 = c .before .before .before .before .before .before .before .before .before .before .before .before .before .before .before .before .before .pre .1 .0 in
-    let sep = c .before .before .before .before .before .before .before .before .sep .ensures in
-    let close = c .before .before .close .ensures in
-    in-steps pre0 (s-run sep (s-close close s-end))
+    let X0 = c .before .before .before .before .before .before .before .before .before .before .before .before .before .before .before .before .before .args .text .now in
+    let T0 = c .before .before .before .before .before .before .before .before .before .before .before .before .before .before .before .before .before .args .toks .now in
+    let N0 = c .before .before .before .before .before .before .before .before .before .before .before .before .before .before .before .before .before .args .env .now in
+    let J0 = c .before .before .before .before .before .before .before .before .before .before .before .before .before .before .before .before .before .args .table .now in
+    let L0 = c .before .before .before .before .before .before .before .before .before .before .before .before .before .before .before .before .before .args .scratch .now in
+    let H0 = c .before .before .before .before .before .before .before .before .before .before .before .before .before .before .before .before .before .args .finds .now in
+    let S0 = c .before .before .before .before .before .before .before .before .before .before .before .before .before .before .before .before .before .args .s in
+    let J1 = c .before .before .before .before .before .before .before .before .sep .last .1 .1 .1 .0 in
+    let L1 = c .before .before .before .before .before .before .before .before .sep .last .1 .1 .1 .1 .0 in
+    let H1 = c .before .before .before .before .before .before .before .before .sep .last .1 .1 .1 .1 .1 .0 in
+    let S1 = c .before .before .before .before .before .before .before .before .sep .result in
+    let L2 = c .before .before .close .last .0 in
+    let S2 = c .before .before .close .result in
+    in-steps {m = (mem X0 T0 N0 J0 L0 H0 S0)} {m' = (mem X0 T0 N0 J1 L2 H1 S2)} (c .before .before .before .before .before .before .before .before .before .before .before .before .before .before .before .before .before .pre .1 .0) (s-run {a = (mem X0 T0 N0 J0 L0 H0 S0)} {c = (mem X0 T0 N0 J1 L1 H1 S1)} {e = (mem X0 T0 N0 J1 L2 H1 S2)} (c .before .before .before .before .before .before .before .before .sep .ensures) (s-close {e = (mem X0 T0 N0 J1 L2 H1 S2)} {x = X0} {t = T0} {n = N0} {j = J1} {l = L1} {h = H1} {s = S1} {s' = S2} {l' = L2} (c .before .before .close .ensures) s-end))
 
 cor-bump-vars-requires : (t : ℕ) → cor-lts.Need-bump-vars-requires (cor-told t) (cor-at t) cor.Post
 cor-bump-vars-requires t c κs =
@@ -1672,11 +1849,21 @@ cor-same-length-2 t c =
 cor-returns : (t : ℕ) → cor-lts.Need-returns (cor-told t) (cor-at t) cor.Post
 unfolding decl.coreDec decl.manyClosure util.choose plan choose chosen
 cor-returns t c =
-    let pre0 = c .before .before .before .before .before .before .before .before .before .before .before .before .before .before .before .before .before .before .before .before .before .before .before .pre .1 .0 in
-    let if1 = c .before .before .before .before .before .before .before .before .before .before .before .before .before .before .before .before .before .if1 .taken in
-    let bump-vars = c .before .before .before .before .before .before .before .before .before .before .before .before .bump-vars .ensures in
-    let bd = c .before .before .before .before .bd .ensures in
-    in-steps pre0 (s-true _ _ (kind-is if1) (s-by _ (runs-in bump-vars) (s-by _ bd s-end)))
+    let X0 = c .before .before .before .before .before .before .before .before .before .before .before .before .before .before .before .before .before .before .before .before .before .before .before .args .text .now in
+    let T0 = c .before .before .before .before .before .before .before .before .before .before .before .before .before .before .before .before .before .before .before .before .before .before .before .args .toks .now in
+    let N0 = c .before .before .before .before .before .before .before .before .before .before .before .before .before .before .before .before .before .before .before .before .before .before .before .args .env .now in
+    let J0 = c .before .before .before .before .before .before .before .before .before .before .before .before .before .before .before .before .before .before .before .before .before .before .before .args .table .now in
+    let L0 = c .before .before .before .before .before .before .before .before .before .before .before .before .before .before .before .before .before .before .before .before .before .before .before .args .scratch .now in
+    let H0 = c .before .before .before .before .before .before .before .before .before .before .before .before .before .before .before .before .before .before .before .before .before .before .before .args .finds .now in
+    let S0 = c .before .before .before .before .before .before .before .before .before .before .before .before .before .before .before .before .before .before .before .before .before .before .before .args .s in
+    let L2 = c .before .before .before .before .before .before .before .before .before .before .before .before .bump-vars .last .1 .1 .1 .1 .0 in
+    let H2 = c .before .before .before .before .before .before .before .before .before .before .before .before .bump-vars .last .1 .1 .1 .1 .1 .0 in
+    let S2 = c .before .before .before .before .before .before .before .before .before .before .before .before .bump-vars .result in
+    let J3 = c .before .before .before .before .bd .last .1 .1 .1 .0 in
+    let L3 = c .before .before .before .before .bd .last .1 .1 .1 .1 .0 in
+    let H3 = c .before .before .before .before .bd .last .1 .1 .1 .1 .1 .0 in
+    let S3 = c .before .before .before .before .bd .result in
+    in-steps {m = (mem X0 T0 N0 J0 L0 H0 S0)} {m' = (mem X0 T0 N0 J3 L3 H3 S3)} (c .before .before .before .before .before .before .before .before .before .before .before .before .before .before .before .before .before .before .before .before .before .before .before .pre .1 .0) (s-true {a = (mem X0 T0 N0 J0 L0 H0 S0)} {e = (mem X0 T0 N0 J3 L3 H3 S3)} _ _ (kind-is (c .before .before .before .before .before .before .before .before .before .before .before .before .before .before .before .before .before .if1 .taken)) (s-by {a = (mem X0 T0 N0 J0 L0 H0 S0)} {c = (mem X0 T0 N0 J0 L2 H2 S2)} {e = (mem X0 T0 N0 J3 L3 H3 S3)} _ (runs-in {a = (mem X0 T0 N0 J0 L0 H0 S0)} {c = (mem X0 T0 N0 J0 L2 H2 S2)} (c .before .before .before .before .before .before .before .before .before .before .before .before .bump-vars .ensures)) (s-by {a = (mem X0 T0 N0 J0 L2 H2 S2)} {c = (mem X0 T0 N0 J3 L3 H3 S3)} {e = (mem X0 T0 N0 J3 L3 H3 S3)} _ (c .before .before .before .before .bd .ensures) s-end)))
 
 cor-bump-vars-requires-2 : (t : ℕ) → cor-lts.Need-bump-vars-requires-2 (cor-told t) (cor-at t) cor.Post
 cor-bump-vars-requires-2 t c κs =
@@ -1704,12 +1891,21 @@ cor-same-length-4 t c =
 cor-returns-2 : (t : ℕ) → cor-lts.Need-returns-2 (cor-told t) (cor-at t) cor.Post
 unfolding decl.coreDec decl.manyClosure util.choose plan choose chosen
 cor-returns-2 t c =
-    let pre0 = c .before .before .before .before .before .before .before .before .before .before .before .before .before .before .before .before .before .before .before .before .before .before .before .before .pre .1 .0 in
-    let if1 = c .before .before .before .before .before .before .before .before .before .before .before .before .before .before .before .before .before .before .if1 .left in
-    let if2 = c .before .before .before .before .before .before .before .before .before .before .before .before .before .before .before .before .before .if2 .taken in
-    let bump-vars2 = c .before .before .before .before .before .before .before .before .before .before .before .before .bump-vars2 .ensures in
-    let bd2 = c .before .before .before .before .bd2 .ensures in
-    in-steps pre0 (s-false _ _ (kind-not if1) (s-true _ _ (kind-is if2) (s-by _ (runs-in bump-vars2) (s-by _ bd2 s-end))))
+    let X0 = c .before .before .before .before .before .before .before .before .before .before .before .before .before .before .before .before .before .before .before .before .before .before .before .before .args .text .now in
+    let T0 = c .before .before .before .before .before .before .before .before .before .before .before .before .before .before .before .before .before .before .before .before .before .before .before .before .args .toks .now in
+    let N0 = c .before .before .before .before .before .before .before .before .before .before .before .before .before .before .before .before .before .before .before .before .before .before .before .before .args .env .now in
+    let J0 = c .before .before .before .before .before .before .before .before .before .before .before .before .before .before .before .before .before .before .before .before .before .before .before .before .args .table .now in
+    let L0 = c .before .before .before .before .before .before .before .before .before .before .before .before .before .before .before .before .before .before .before .before .before .before .before .before .args .scratch .now in
+    let H0 = c .before .before .before .before .before .before .before .before .before .before .before .before .before .before .before .before .before .before .before .before .before .before .before .before .args .finds .now in
+    let S0 = c .before .before .before .before .before .before .before .before .before .before .before .before .before .before .before .before .before .before .before .before .before .before .before .before .args .s in
+    let L3 = c .before .before .before .before .before .before .before .before .before .before .before .before .bump-vars2 .last .1 .1 .1 .1 .0 in
+    let H3 = c .before .before .before .before .before .before .before .before .before .before .before .before .bump-vars2 .last .1 .1 .1 .1 .1 .0 in
+    let S3 = c .before .before .before .before .before .before .before .before .before .before .before .before .bump-vars2 .result in
+    let J4 = c .before .before .before .before .bd2 .last .1 .1 .1 .0 in
+    let L4 = c .before .before .before .before .bd2 .last .1 .1 .1 .1 .0 in
+    let H4 = c .before .before .before .before .bd2 .last .1 .1 .1 .1 .1 .0 in
+    let S4 = c .before .before .before .before .bd2 .result in
+    in-steps {m = (mem X0 T0 N0 J0 L0 H0 S0)} {m' = (mem X0 T0 N0 J4 L4 H4 S4)} (c .before .before .before .before .before .before .before .before .before .before .before .before .before .before .before .before .before .before .before .before .before .before .before .before .pre .1 .0) (s-false {a = (mem X0 T0 N0 J0 L0 H0 S0)} {e = (mem X0 T0 N0 J4 L4 H4 S4)} _ _ (kind-not (c .before .before .before .before .before .before .before .before .before .before .before .before .before .before .before .before .before .before .if1 .left)) (s-true {a = (mem X0 T0 N0 J0 L0 H0 S0)} {e = (mem X0 T0 N0 J4 L4 H4 S4)} _ _ (kind-is (c .before .before .before .before .before .before .before .before .before .before .before .before .before .before .before .before .before .if2 .taken)) (s-by {a = (mem X0 T0 N0 J0 L0 H0 S0)} {c = (mem X0 T0 N0 J0 L3 H3 S3)} {e = (mem X0 T0 N0 J4 L4 H4 S4)} _ (runs-in {a = (mem X0 T0 N0 J0 L0 H0 S0)} {c = (mem X0 T0 N0 J0 L3 H3 S3)} (c .before .before .before .before .before .before .before .before .before .before .before .before .bump-vars2 .ensures)) (s-by {a = (mem X0 T0 N0 J0 L3 H3 S3)} {c = (mem X0 T0 N0 J4 L4 H4 S4)} {e = (mem X0 T0 N0 J4 L4 H4 S4)} _ (c .before .before .before .before .bd2 .ensures) s-end))))
 
 cor-bump-requires : (t : ℕ) → cor-lts.Need-bump-requires (cor-told t) (cor-at t) cor.Post
 cor-bump-requires t c κs =
@@ -1739,13 +1935,20 @@ cor-same-length-6 t c =
 cor-returns-3 : (t : ℕ) → cor-lts.Need-returns-3 (cor-told t) (cor-at t) cor.Post
 unfolding decl.coreDec decl.manyClosure util.choose plan choose chosen
 cor-returns-3 t c =
-    let pre0 = c .before .before .before .before .before .before .before .before .before .before .before .before .before .before .before .before .before .before .before .before .pre .1 .0 in
-    let if1 = c .before .before .before .before .before .before .before .before .before .before .before .before .before .before .if1 .left in
-    let if2 = c .before .before .before .before .before .before .before .before .before .before .before .before .before .if2 .left in
-    let if3 = c .before .before .before .before .before .before .before .before .before .before .before .before .if3 .taken in
-    let bump = c .before .before .before .before .before .before .before .before .before .before .bump .ensures in
-    let bd3 = c .before .before .before .before .bd3 .ensures in
-    in-steps pre0 (s-false _ _ (kind-not if1) (s-false _ _ (kind-not if2) (s-true _ _ (kind-is if3) (s-bump bump (s-by _ bd3 s-end)))))
+    let X0 = c .before .before .before .before .before .before .before .before .before .before .before .before .before .before .before .before .before .before .before .before .args .text .now in
+    let T0 = c .before .before .before .before .before .before .before .before .before .before .before .before .before .before .before .before .before .before .before .before .args .toks .now in
+    let N0 = c .before .before .before .before .before .before .before .before .before .before .before .before .before .before .before .before .before .before .before .before .args .env .now in
+    let J0 = c .before .before .before .before .before .before .before .before .before .before .before .before .before .before .before .before .before .before .before .before .args .table .now in
+    let L0 = c .before .before .before .before .before .before .before .before .before .before .before .before .before .before .before .before .before .before .before .before .args .scratch .now in
+    let H0 = c .before .before .before .before .before .before .before .before .before .before .before .before .before .before .before .before .before .before .before .before .args .finds .now in
+    let S0 = c .before .before .before .before .before .before .before .before .before .before .before .before .before .before .before .before .before .before .before .before .args .s in
+    let L4 = c .before .before .before .before .before .before .before .before .before .before .bump .last .1 .0 in
+    let S4 = c .before .before .before .before .before .before .before .before .before .before .bump .result in
+    let J5 = c .before .before .before .before .bd3 .last .1 .1 .1 .0 in
+    let L5 = c .before .before .before .before .bd3 .last .1 .1 .1 .1 .0 in
+    let H5 = c .before .before .before .before .bd3 .last .1 .1 .1 .1 .1 .0 in
+    let S5 = c .before .before .before .before .bd3 .result in
+    in-steps {m = (mem X0 T0 N0 J0 L0 H0 S0)} {m' = (mem X0 T0 N0 J5 L5 H5 S5)} (c .before .before .before .before .before .before .before .before .before .before .before .before .before .before .before .before .before .before .before .before .pre .1 .0) (s-false {a = (mem X0 T0 N0 J0 L0 H0 S0)} {e = (mem X0 T0 N0 J5 L5 H5 S5)} _ _ (kind-not (c .before .before .before .before .before .before .before .before .before .before .before .before .before .before .if1 .left)) (s-false {a = (mem X0 T0 N0 J0 L0 H0 S0)} {e = (mem X0 T0 N0 J5 L5 H5 S5)} _ _ (kind-not (c .before .before .before .before .before .before .before .before .before .before .before .before .before .if2 .left)) (s-true {a = (mem X0 T0 N0 J0 L0 H0 S0)} {e = (mem X0 T0 N0 J5 L5 H5 S5)} _ _ (kind-is (c .before .before .before .before .before .before .before .before .before .before .before .before .if3 .taken)) (s-bump {e = (mem X0 T0 N0 J5 L5 H5 S5)} {x = X0} {t = T0} {n = N0} {j = J0} {l = L0} {h = H0} {s = S0} {s' = S4} {l' = L4} (c .before .before .before .before .before .before .before .before .before .before .bump .ensures) (s-by {a = (mem X0 T0 N0 J0 L4 H0 S4)} {c = (mem X0 T0 N0 J5 L5 H5 S5)} {e = (mem X0 T0 N0 J5 L5 H5 S5)} _ (c .before .before .before .before .bd3 .ensures) s-end)))))
 
 cor-bump-requires-2 : (t : ℕ) → cor-lts.Need-bump-requires-2 (cor-told t) (cor-at t) cor.Post
 cor-bump-requires-2 t c κs =
@@ -1783,15 +1986,22 @@ cor-same-length-8 t c =
 cor-returns-4 : (t : ℕ) → cor-lts.Need-returns-4 (cor-told t) (cor-at t) cor.Post
 unfolding decl.coreDec decl.manyClosure util.choose plan choose chosen
 cor-returns-4 t c =
-    let pre0 = c .before .before .before .before .before .before .before .before .before .before .before .before .before .before .before .before .before .before .before .before .before .before .before .before .before .pre .1 .0 in
-    let if1 = c .before .before .before .before .before .before .before .before .before .before .before .before .before .before .before .before .before .before .before .if1 .left in
-    let if2 = c .before .before .before .before .before .before .before .before .before .before .before .before .before .before .before .before .before .before .if2 .left in
-    let if3 = c .before .before .before .before .before .before .before .before .before .before .before .before .before .before .before .before .before .if3 .left in
-    let if4 = c .before .before .before .before .before .before .before .before .before .before .before .before .before .before .before .before .if4 .taken in
-    let bump2 = c .before .before .before .before .before .before .before .before .before .before .before .before .before .before .bump2 .ensures in
-    let exp = c .before .before .before .before .before .before .before .before .exp .ensures in
-    let close = c .before .before .close .ensures in
-    in-steps pre0 (s-false _ _ (kind-not if1) (s-false _ _ (kind-not if2) (s-false _ _ (kind-not if3) (s-true _ _ (kind-is if4) (s-bump bump2 (s-by _ (runs-in exp) (s-close close s-end)))))))
+    let X0 = c .before .before .before .before .before .before .before .before .before .before .before .before .before .before .before .before .before .before .before .before .before .before .before .before .before .args .text .now in
+    let T0 = c .before .before .before .before .before .before .before .before .before .before .before .before .before .before .before .before .before .before .before .before .before .before .before .before .before .args .toks .now in
+    let N0 = c .before .before .before .before .before .before .before .before .before .before .before .before .before .before .before .before .before .before .before .before .before .before .before .before .before .args .env .now in
+    let J0 = c .before .before .before .before .before .before .before .before .before .before .before .before .before .before .before .before .before .before .before .before .before .before .before .before .before .args .table .now in
+    let L0 = c .before .before .before .before .before .before .before .before .before .before .before .before .before .before .before .before .before .before .before .before .before .before .before .before .before .args .scratch .now in
+    let H0 = c .before .before .before .before .before .before .before .before .before .before .before .before .before .before .before .before .before .before .before .before .before .before .before .before .before .args .finds .now in
+    let S0 = c .before .before .before .before .before .before .before .before .before .before .before .before .before .before .before .before .before .before .before .before .before .before .before .before .before .args .s in
+    let L5 = c .before .before .before .before .before .before .before .before .before .before .before .before .before .before .bump2 .last .1 .0 in
+    let S5 = c .before .before .before .before .before .before .before .before .before .before .before .before .before .before .bump2 .result in
+    let J6 = c .before .before .before .before .before .before .before .before .exp .last .1 .1 .1 .0 in
+    let L6 = c .before .before .before .before .before .before .before .before .exp .last .1 .1 .1 .1 .0 in
+    let H6 = c .before .before .before .before .before .before .before .before .exp .last .1 .1 .1 .1 .1 .0 in
+    let S6 = c .before .before .before .before .before .before .before .before .exp .result in
+    let L7 = c .before .before .close .last .0 in
+    let S7 = c .before .before .close .result in
+    in-steps {m = (mem X0 T0 N0 J0 L0 H0 S0)} {m' = (mem X0 T0 N0 J6 L7 H6 S7)} (c .before .before .before .before .before .before .before .before .before .before .before .before .before .before .before .before .before .before .before .before .before .before .before .before .before .pre .1 .0) (s-false {a = (mem X0 T0 N0 J0 L0 H0 S0)} {e = (mem X0 T0 N0 J6 L7 H6 S7)} _ _ (kind-not (c .before .before .before .before .before .before .before .before .before .before .before .before .before .before .before .before .before .before .before .if1 .left)) (s-false {a = (mem X0 T0 N0 J0 L0 H0 S0)} {e = (mem X0 T0 N0 J6 L7 H6 S7)} _ _ (kind-not (c .before .before .before .before .before .before .before .before .before .before .before .before .before .before .before .before .before .before .if2 .left)) (s-false {a = (mem X0 T0 N0 J0 L0 H0 S0)} {e = (mem X0 T0 N0 J6 L7 H6 S7)} _ _ (kind-not (c .before .before .before .before .before .before .before .before .before .before .before .before .before .before .before .before .before .if3 .left)) (s-true {a = (mem X0 T0 N0 J0 L0 H0 S0)} {e = (mem X0 T0 N0 J6 L7 H6 S7)} _ _ (kind-is (c .before .before .before .before .before .before .before .before .before .before .before .before .before .before .before .before .if4 .taken)) (s-bump {e = (mem X0 T0 N0 J6 L7 H6 S7)} {x = X0} {t = T0} {n = N0} {j = J0} {l = L0} {h = H0} {s = S0} {s' = S5} {l' = L5} (c .before .before .before .before .before .before .before .before .before .before .before .before .before .before .bump2 .ensures) (s-by {a = (mem X0 T0 N0 J0 L5 H0 S5)} {c = (mem X0 T0 N0 J6 L6 H6 S6)} {e = (mem X0 T0 N0 J6 L7 H6 S7)} _ (runs-in {a = (mem X0 T0 N0 J0 L5 H0 S5)} {c = (mem X0 T0 N0 J6 L6 H6 S6)} (c .before .before .before .before .before .before .before .before .exp .ensures)) (s-close {e = (mem X0 T0 N0 J6 L7 H6 S7)} {x = X0} {t = T0} {n = N0} {j = J6} {l = L6} {h = H6} {s = S6} {s' = S7} {l' = L7} (c .before .before .close .ensures) s-end)))))))
 
 cor-mds-requires : (t : ℕ) → cor-lts.Need-mds-requires (cor-told t) (cor-at t) cor.Post
 cor-mds-requires t c κs =
@@ -1815,13 +2025,18 @@ cor-same-length-10 t c =
 cor-returns-5 : (t : ℕ) → cor-lts.Need-returns-5 (cor-told t) (cor-at t) cor.Post
 unfolding decl.coreDec decl.manyClosure util.choose plan choose chosen
 cor-returns-5 t c =
-    let pre0 = c .before .before .before .before .before .before .before .before .before .before .before .before .before .before .before .before .before .pre .1 .0 in
-    let if1 = c .before .before .before .before .before .before .before .before .before .before .before .if1 .left in
-    let if2 = c .before .before .before .before .before .before .before .before .before .before .if2 .left in
-    let if3 = c .before .before .before .before .before .before .before .before .before .if3 .left in
-    let if4 = c .before .before .before .before .before .before .before .before .if4 .left in
-    let mds = c .before .before .before .before .mds .ensures in
-    in-steps pre0 (s-false _ _ (kind-not if1) (s-false _ _ (kind-not if2) (s-false _ _ (kind-not if3) (s-false _ _ (kind-not if4) (s-by _ mds s-end)))))
+    let X0 = c .before .before .before .before .before .before .before .before .before .before .before .before .before .before .before .before .before .args .text .now in
+    let T0 = c .before .before .before .before .before .before .before .before .before .before .before .before .before .before .before .before .before .args .toks .now in
+    let N0 = c .before .before .before .before .before .before .before .before .before .before .before .before .before .before .before .before .before .args .env .now in
+    let J0 = c .before .before .before .before .before .before .before .before .before .before .before .before .before .before .before .before .before .args .table .now in
+    let L0 = c .before .before .before .before .before .before .before .before .before .before .before .before .before .before .before .before .before .args .scratch .now in
+    let H0 = c .before .before .before .before .before .before .before .before .before .before .before .before .before .before .before .before .before .args .finds .now in
+    let S0 = c .before .before .before .before .before .before .before .before .before .before .before .before .before .before .before .before .before .args .s in
+    let J5 = c .before .before .before .before .mds .last .1 .1 .1 .0 in
+    let L5 = c .before .before .before .before .mds .last .1 .1 .1 .1 .0 in
+    let H5 = c .before .before .before .before .mds .last .1 .1 .1 .1 .1 .0 in
+    let S5 = outState (c .before .before .before .before .mds .result) in
+    in-steps {m = (mem X0 T0 N0 J0 L0 H0 S0)} {m' = (mem X0 T0 N0 J5 L5 H5 S5)} (c .before .before .before .before .before .before .before .before .before .before .before .before .before .before .before .before .before .pre .1 .0) (s-false {a = (mem X0 T0 N0 J0 L0 H0 S0)} {e = (mem X0 T0 N0 J5 L5 H5 S5)} _ _ (kind-not (c .before .before .before .before .before .before .before .before .before .before .before .if1 .left)) (s-false {a = (mem X0 T0 N0 J0 L0 H0 S0)} {e = (mem X0 T0 N0 J5 L5 H5 S5)} _ _ (kind-not (c .before .before .before .before .before .before .before .before .before .before .if2 .left)) (s-false {a = (mem X0 T0 N0 J0 L0 H0 S0)} {e = (mem X0 T0 N0 J5 L5 H5 S5)} _ _ (kind-not (c .before .before .before .before .before .before .before .before .before .if3 .left)) (s-false {a = (mem X0 T0 N0 J0 L0 H0 S0)} {e = (mem X0 T0 N0 J5 L5 H5 S5)} _ _ (kind-not (c .before .before .before .before .before .before .before .before .if4 .left)) (s-by {a = (mem X0 T0 N0 J0 L0 H0 S0)} {c = (mem X0 T0 N0 J5 L5 H5 S5)} {e = (mem X0 T0 N0 J5 L5 H5 S5)} _ (c .before .before .before .before .mds .ensures) s-end)))))
 
 cs-fun-left-requires : (t : ℕ) → cs-lts.Need-fun-left-requires (cs-told t) (cs-at t) cs.Post
 cs-fun-left-requires t c κs =
@@ -1858,12 +2073,25 @@ cs-same-length-2 t c =
 cs-returns : (t : ℕ) → cs-lts.Need-returns (cs-told t) (cs-at t) cs.Post
 unfolding decl.funCase plan choose chosen
 cs-returns t c =
-    let pre0 = c .before .before .before .before .before .before .before .before .before .before .before .before .before .before .before .before .before .before .before .before .before .before .before .before .before .before .before .before .before .before .before .before .pre .1 in
-    let fun-left = c .before .before .before .before .before .before .before .before .before .before .before .before .before .before .before .before .before .before .before .before .before .before .fun-left .ensures in
-    let ty-annotation = c .before .before .before .before .before .before .before .before .before .before .before .before .before .ty-annotation .ensures in
-    let state = c .before .before .before .before .before .before .before .before .state .ensures in
-    let eq = c .before .before .before .before .eq .ensures in
-    by-steps pre0 (λ b. s-by _ (runs-in fun-left) (s-by _ (settled state (runs-in ty-annotation)) (s-by _ (runs-in eq) s-end)))
+    let X0 = c .before .before .before .before .before .before .before .before .before .before .before .before .before .before .before .before .before .before .before .before .before .before .before .before .before .before .before .before .before .before .before .before .args .text .now in
+    let T0 = c .before .before .before .before .before .before .before .before .before .before .before .before .before .before .before .before .before .before .before .before .before .before .before .before .before .before .before .before .before .before .before .before .args .toks .now in
+    let N0 = c .before .before .before .before .before .before .before .before .before .before .before .before .before .before .before .before .before .before .before .before .before .before .before .before .before .before .before .before .before .before .before .before .args .env .now in
+    let J0 = c .before .before .before .before .before .before .before .before .before .before .before .before .before .before .before .before .before .before .before .before .before .before .before .before .before .before .before .before .before .before .before .before .args .table .now in
+    let L0 = c .before .before .before .before .before .before .before .before .before .before .before .before .before .before .before .before .before .before .before .before .before .before .before .before .before .before .before .before .before .before .before .before .args .scratch .now in
+    let H0 = c .before .before .before .before .before .before .before .before .before .before .before .before .before .before .before .before .before .before .before .before .before .before .before .before .before .before .before .before .before .before .before .before .args .finds .now in
+    let S0 = c .before .before .before .before .before .before .before .before .before .before .before .before .before .before .before .before .before .before .before .before .before .before .before .before .before .before .before .before .before .before .before .before .args .s in
+    let L1 = c .before .before .before .before .before .before .before .before .before .before .before .before .before .before .before .before .before .before .before .before .before .before .fun-left .last .1 .1 .1 .1 .0 in
+    let H1 = c .before .before .before .before .before .before .before .before .before .before .before .before .before .before .before .before .before .before .before .before .before .before .fun-left .last .1 .1 .1 .1 .1 .0 in
+    let S1 = c .before .before .before .before .before .before .before .before .before .before .before .before .before .before .before .before .before .before .before .before .before .before .fun-left .result in
+    let L2 = c .before .before .before .before .before .before .before .before .before .before .before .before .before .ty-annotation .last .1 .1 .1 .1 .0 in
+    let H2 = c .before .before .before .before .before .before .before .before .before .before .before .before .before .ty-annotation .last .1 .1 .1 .1 .1 .0 in
+    let S2 = outState (c .before .before .before .before .before .before .before .before .before .before .before .before .before .ty-annotation .result) in
+    let S3 = c .before .before .before .before .before .before .before .before .state .result in
+    let J4 = c .before .before .before .before .eq .last .1 .1 .1 .0 in
+    let L4 = c .before .before .before .before .eq .last .1 .1 .1 .1 .0 in
+    let H4 = c .before .before .before .before .eq .last .1 .1 .1 .1 .1 .0 in
+    let S4 = c .before .before .before .before .eq .result in
+    by-steps {m = (mem X0 T0 N0 J0 L0 H0 S0)} {m' = (mem X0 T0 N0 J4 L4 H4 S4)} (c .before .before .before .before .before .before .before .before .before .before .before .before .before .before .before .before .before .before .before .before .before .before .before .before .before .before .before .before .before .before .before .before .pre .1) (λ b. s-by {a = (mem X0 T0 N0 J0 L0 H0 S0)} {c = (mem X0 T0 N0 J0 L1 H1 S1)} {e = (mem X0 T0 N0 J4 L4 H4 S4)} _ (runs-in {a = (mem X0 T0 N0 J0 L0 H0 S0)} {c = (mem X0 T0 N0 J0 L1 H1 S1)} (c .before .before .before .before .before .before .before .before .before .before .before .before .before .before .before .before .before .before .before .before .before .before .fun-left .ensures)) (s-by {a = (mem X0 T0 N0 J0 L1 H1 S1)} {c = (mem X0 T0 N0 J0 L2 H2 S3)} {e = (mem X0 T0 N0 J4 L4 H4 S4)} _ (settled (c .before .before .before .before .before .before .before .before .state .ensures) (runs-in {a = (mem X0 T0 N0 J0 L1 H1 S1)} {c = (mem X0 T0 N0 J0 L2 H2 S2)} (c .before .before .before .before .before .before .before .before .before .before .before .before .before .ty-annotation .ensures))) (s-by {a = (mem X0 T0 N0 J0 L2 H2 S3)} {c = (mem X0 T0 N0 J4 L4 H4 S4)} {e = (mem X0 T0 N0 J4 L4 H4 S4)} _ (runs-in {a = (mem X0 T0 N0 J0 L2 H2 S3)} {c = (mem X0 T0 N0 J4 L4 H4 S4)} (c .before .before .before .before .eq .ensures)) s-end)))
 
 dec-sem-requires : (t : ℕ) → dec-lts.Need-sem-requires (dec-told t) (dec-at t) dec.Post
 dec-sem-requires t c κs =
@@ -1903,9 +2131,18 @@ dec-returns :
     dec-lts.Need-returns (dec-told t) (dec-at t) dec.Post
 unfolding root.body decl.decs util.maybeSemiSep decl.semiClosure util.choose plan choose chosen
 dec-returns t c =
-    let pre0 = c .before .before .before .before .before .before .before .before .before .before .before .before .before .before .before .before .pre .1 in
-    let sem = rw (c .before .turn .given .1) at (c .before .before .before .before .before .before .before .sem .ensures) in
-    by-steps pre0 (λ b. s-rule (s-by _ (runs-in (sem _)) s-end))
+    let X0 = c .before .before .before .before .before .before .before .before .before .before .before .before .before .before .before .before .args .text .now in
+    let T0 = c .before .before .before .before .before .before .before .before .before .before .before .before .before .before .before .before .args .toks .now in
+    let N0 = c .before .before .before .before .before .before .before .before .before .before .before .before .before .before .before .before .args .env .now in
+    let J0 = c .before .before .before .before .before .before .before .before .before .before .before .before .before .before .before .before .args .table .now in
+    let L0 = c .before .before .before .before .before .before .before .before .before .before .before .before .before .before .before .before .args .scratch .now in
+    let H0 = c .before .before .before .before .before .before .before .before .before .before .before .before .before .before .before .before .args .finds .now in
+    let S0 = c .before .before .before .before .before .before .before .before .before .before .before .before .before .before .before .before .args .s in
+    let J1 = c .before .before .before .before .before .before .before .sem .last .1 .1 .1 .0 in
+    let L1 = c .before .before .before .before .before .before .before .sem .last .1 .1 .1 .1 .0 in
+    let H1 = c .before .before .before .before .before .before .before .sem .last .1 .1 .1 .1 .1 .0 in
+    let S1 = c .before .turn .given .0 .0 in
+    by-steps {m = (mem X0 T0 N0 J0 L0 H0 S0)} {m' = (mem X0 T0 N0 J1 L1 H1 S1)} (c .before .before .before .before .before .before .before .before .before .before .before .before .before .before .before .before .pre .1) (λ b. s-rule {a = (mem X0 T0 N0 J0 L0 H0 S0)} {e = (mem X0 T0 N0 J1 L1 H1 S1)} (s-by {a = (mem X0 T0 N0 J0 L0 H0 S0)} {c = (mem X0 T0 N0 J1 L1 H1 S1)} {e = (mem X0 T0 N0 J1 L1 H1 S1)} _ (runs-in {a = (mem X0 T0 N0 J0 L0 H0 S0)} {c = (mem X0 T0 N0 J1 L1 H1 S1)} ((rw (c .before .turn .given .1) at (c .before .before .before .before .before .before .before .sem .ensures)) _)) s-end))
 
 dec-same-length-3 : (t : ℕ) → dec-lts.Need-same-length-3 (dec-told t) (dec-at t) dec.Post
 dec-same-length-3 t c =
@@ -1920,10 +2157,22 @@ dec-returns-2 :
     dec-lts.Need-returns-2 (dec-told t) (dec-at t) dec.Post
 unfolding root.body decl.decs util.maybeSemiSep decl.semiClosure util.choose plan choose chosen
 dec-returns-2 t c =
-    let pre0 = c .before .before .before .before .before .before .before .before .before .before .before .before .before .before .before .before .before .before .before .before .before .before .before .before .pre .1 in
-    let sem = rw (c .before .before .before .before .before .before .before .before .before .turn2 .given .1) at (c .before .before .before .before .before .before .before .before .before .before .before .before .before .before .before .sem .ensures) in
-    let seq = c .before .before .before .before .seq .ensures in
-    by-steps pre0 (λ b. s-rule (s-by _ (runs-in (sem _)) (s-run (seq _) s-end)))
+    let X0 = c .before .before .before .before .before .before .before .before .before .before .before .before .before .before .before .before .before .before .before .before .before .before .before .before .args .text .now in
+    let T0 = c .before .before .before .before .before .before .before .before .before .before .before .before .before .before .before .before .before .before .before .before .before .before .before .before .args .toks .now in
+    let N0 = c .before .before .before .before .before .before .before .before .before .before .before .before .before .before .before .before .before .before .before .before .before .before .before .before .args .env .now in
+    let J0 = c .before .before .before .before .before .before .before .before .before .before .before .before .before .before .before .before .before .before .before .before .before .before .before .before .args .table .now in
+    let L0 = c .before .before .before .before .before .before .before .before .before .before .before .before .before .before .before .before .before .before .before .before .before .before .before .before .args .scratch .now in
+    let H0 = c .before .before .before .before .before .before .before .before .before .before .before .before .before .before .before .before .before .before .before .before .before .before .before .before .args .finds .now in
+    let S0 = c .before .before .before .before .before .before .before .before .before .before .before .before .before .before .before .before .before .before .before .before .before .before .before .before .args .s in
+    let J1 = c .before .before .before .before .before .before .before .before .before .before .before .before .before .before .before .sem .last .1 .1 .1 .0 in
+    let L1 = c .before .before .before .before .before .before .before .before .before .before .before .before .before .before .before .sem .last .1 .1 .1 .1 .0 in
+    let H1 = c .before .before .before .before .before .before .before .before .before .before .before .before .before .before .before .sem .last .1 .1 .1 .1 .1 .0 in
+    let S1 = c .before .before .before .before .before .before .before .before .before .turn2 .given .0 .0 in
+    let J2 = c .before .before .before .before .seq .last .1 .1 .1 .0 in
+    let L2 = c .before .before .before .before .seq .last .1 .1 .1 .1 .0 in
+    let H2 = c .before .before .before .before .seq .last .1 .1 .1 .1 .1 .0 in
+    let S2 = c .before .before .before .before .seq .result in
+    by-steps {m = (mem X0 T0 N0 J0 L0 H0 S0)} {m' = (mem X0 T0 N0 J2 L2 H2 S2)} (c .before .before .before .before .before .before .before .before .before .before .before .before .before .before .before .before .before .before .before .before .before .before .before .before .pre .1) (λ b. s-rule {a = (mem X0 T0 N0 J0 L0 H0 S0)} {e = (mem X0 T0 N0 J2 L2 H2 S2)} (s-by {a = (mem X0 T0 N0 J0 L0 H0 S0)} {c = (mem X0 T0 N0 J1 L1 H1 S1)} {e = (mem X0 T0 N0 J2 L2 H2 S2)} _ (runs-in {a = (mem X0 T0 N0 J0 L0 H0 S0)} {c = (mem X0 T0 N0 J1 L1 H1 S1)} ((rw (c .before .before .before .before .before .before .before .before .before .turn2 .given .1) at (c .before .before .before .before .before .before .before .before .before .before .before .before .before .before .before .sem .ensures)) _)) (s-run {a = (mem X0 T0 N0 J1 L1 H1 S1)} {c = (mem X0 T0 N0 J2 L2 H2 S2)} {e = (mem X0 T0 N0 J2 L2 H2 S2)} ((c .before .before .before .before .seq .ensures) _) s-end)))
 
 end-refuse-requires : (t : ℕ) → end-lts.Need-refuse-requires (end-told t) (end-at t) end.Post
 end-refuse-requires t c κs =
@@ -1932,10 +2181,15 @@ end-refuse-requires t c κs =
 end-returns : (t : ℕ) → end-lts.Need-returns (end-told t) (end-at t) end.Post
 unfolding decl.localTail plan choose chosen decl.ended util.want util.eat hushed
 end-returns t c =
-    let pre0 = c .before .before .before .before .before .before .before .pre .1 .0 in
-    let if1 = c .before .if1 .taken in
-    let refuse = c .refuse .ensures in
-    in-steps pre0 (s-shut if1 refuse (λ k l. refl))
+    let X0 = c .before .before .before .before .before .before .before .args .text .now in
+    let T0 = c .before .before .before .before .before .before .before .args .toks .now in
+    let N0 = c .before .before .before .before .before .before .before .args .env .now in
+    let J0 = c .before .before .before .before .before .before .before .args .table .now in
+    let L0 = c .before .before .before .before .before .before .before .args .scratch .now in
+    let H0 = c .before .before .before .before .before .before .before .args .finds .now in
+    let S0 = c .before .before .before .before .before .before .before .args .s in
+    let S2 = c .refuse .result in
+    in-steps {m = (mem X0 T0 N0 J0 L0 H0 S0)} {m' = (mem X0 T0 N0 J0 L0 H0 S2)} (c .before .before .before .before .before .before .before .pre .1 .0) (s-shut (c .before .if1 .taken) (c .refuse .ensures) (λ k l. refl))
 
 end-mark-requires : (t : ℕ) → end-lts.Need-mark-requires (end-told t) (end-at t) end.Post
 end-mark-requires t c κs =
@@ -2010,15 +2264,28 @@ end-same-length-2 t c =
 end-returns-2 : (t : ℕ) → end-lts.Need-returns-2 (end-told t) (end-at t) end.Post
 unfolding decl.localTail plan choose chosen
 end-returns-2 t c =
-    let pre0 = c .before .before .before .before .before .before .before .before .before .before .before .before .before .before .before .before .before .before .before .before .before .before .before .before .before .before .before .before .before .before .before .before .before .before .before .before .pre .1 .0 in
-    let if1 = c .before .before .before .before .before .before .before .before .before .before .before .before .before .before .before .before .before .before .before .before .before .before .before .before .before .before .before .before .before .before .if1 .left in
-    let mark = c .before .before .before .before .before .before .before .before .before .before .before .before .before .before .before .before .before .before .before .before .before .before .before .before .before .before .before .before .before .mark .ensures in
-    let want = c .before .before .before .before .before .before .before .before .before .before .before .before .before .before .before .before .before .before .before .before .before .before .before .before .before .before .want .ensures in
-    let dec = c .before .before .before .before .before .before .before .before .before .before .before .before .before .before .before .before .before .before .dec .ensures in
-    let state = c .before .before .before .before .before .before .before .before .before .before .before .before .before .state .ensures in
-    let close = c .before .before .before .before .before .before .before .before .before .before .before .close .ensures in
-    let end-node = c .before .before .before .before .end-node .ensures in
-    in-steps pre0 (s-mark if1 mark (s-eats _ _ _ want (s-run (settled state (runs-in dec)) (s-close close (s-by _ end-node s-end)))))
+    let X0 = c .before .before .before .before .before .before .before .before .before .before .before .before .before .before .before .before .before .before .before .before .before .before .before .before .before .before .before .before .before .before .before .before .before .before .before .before .args .text .now in
+    let T0 = c .before .before .before .before .before .before .before .before .before .before .before .before .before .before .before .before .before .before .before .before .before .before .before .before .before .before .before .before .before .before .before .before .before .before .before .before .args .toks .now in
+    let N0 = c .before .before .before .before .before .before .before .before .before .before .before .before .before .before .before .before .before .before .before .before .before .before .before .before .before .before .before .before .before .before .before .before .before .before .before .before .args .env .now in
+    let J0 = c .before .before .before .before .before .before .before .before .before .before .before .before .before .before .before .before .before .before .before .before .before .before .before .before .before .before .before .before .before .before .before .before .before .before .before .before .args .table .now in
+    let L0 = c .before .before .before .before .before .before .before .before .before .before .before .before .before .before .before .before .before .before .before .before .before .before .before .before .before .before .before .before .before .before .before .before .before .before .before .before .args .scratch .now in
+    let H0 = c .before .before .before .before .before .before .before .before .before .before .before .before .before .before .before .before .before .before .before .before .before .before .before .before .before .before .before .before .before .before .before .before .before .before .before .before .args .finds .now in
+    let S0 = c .before .before .before .before .before .before .before .before .before .before .before .before .before .before .before .before .before .before .before .before .before .before .before .before .before .before .before .before .before .before .before .before .before .before .before .before .args .s in
+    let S2 = c .before .before .before .before .before .before .before .before .before .before .before .before .before .before .before .before .before .before .before .before .before .before .before .before .before .before .before .before .before .mark .result in
+    let L3 = c .before .before .before .before .before .before .before .before .before .before .before .before .before .before .before .before .before .before .before .before .before .before .before .before .before .before .want .last .1 .0 in
+    let H3 = c .before .before .before .before .before .before .before .before .before .before .before .before .before .before .before .before .before .before .before .before .before .before .before .before .before .before .want .last .1 .1 .0 in
+    let S3 = c .before .before .before .before .before .before .before .before .before .before .before .before .before .before .before .before .before .before .before .before .before .before .before .before .before .before .want .result in
+    let J4 = c .before .before .before .before .before .before .before .before .before .before .before .before .before .before .before .before .before .before .dec .last .1 .1 .1 .0 in
+    let L4 = c .before .before .before .before .before .before .before .before .before .before .before .before .before .before .before .before .before .before .dec .last .1 .1 .1 .1 .0 in
+    let H4 = c .before .before .before .before .before .before .before .before .before .before .before .before .before .before .before .before .before .before .dec .last .1 .1 .1 .1 .1 .0 in
+    let S4 = outState (c .before .before .before .before .before .before .before .before .before .before .before .before .before .before .before .before .before .before .dec .result) in
+    let S5 = c .before .before .before .before .before .before .before .before .before .before .before .before .before .state .result in
+    let L6 = c .before .before .before .before .before .before .before .before .before .before .before .close .last .0 in
+    let S6 = c .before .before .before .before .before .before .before .before .before .before .before .close .result in
+    let L7 = c .before .before .before .before .end-node .last .1 .1 .1 .1 .0 in
+    let H7 = c .before .before .before .before .end-node .last .1 .1 .1 .1 .1 .0 in
+    let S7 = c .before .before .before .before .end-node .result in
+    in-steps {m = (mem X0 T0 N0 J0 L0 H0 S0)} {m' = (mem X0 T0 N0 J4 L7 H7 S7)} (c .before .before .before .before .before .before .before .before .before .before .before .before .before .before .before .before .before .before .before .before .before .before .before .before .before .before .before .before .before .before .before .before .before .before .before .before .pre .1 .0) (s-mark {e = (mem X0 T0 N0 J4 L7 H7 S7)} {x = X0} {t = T0} {n = N0} {j = J0} {l = L0} {h = H0} {s = S0} {s' = S2} (c .before .before .before .before .before .before .before .before .before .before .before .before .before .before .before .before .before .before .before .before .before .before .before .before .before .before .before .before .before .before .if1 .left) (c .before .before .before .before .before .before .before .before .before .before .before .before .before .before .before .before .before .before .before .before .before .before .before .before .before .before .before .before .before .mark .ensures) (s-eats _ _ {x = X0} {t = T0} {n = N0} {j = J0} {l = L0} {h = H0} {l' = L3} {s = S2} {s' = S3} {e = (mem X0 T0 N0 J4 L7 H7 S7)} _ {h' = H3} (c .before .before .before .before .before .before .before .before .before .before .before .before .before .before .before .before .before .before .before .before .before .before .before .before .before .before .want .ensures) (s-run {a = (mem X0 T0 N0 J0 L3 H3 S3)} {c = (mem X0 T0 N0 J4 L4 H4 S5)} {e = (mem X0 T0 N0 J4 L7 H7 S7)} (settled (c .before .before .before .before .before .before .before .before .before .before .before .before .before .state .ensures) (runs-in {a = (mem X0 T0 N0 J0 L3 H3 S3)} {c = (mem X0 T0 N0 J4 L4 H4 S4)} (c .before .before .before .before .before .before .before .before .before .before .before .before .before .before .before .before .before .before .dec .ensures))) (s-close {e = (mem X0 T0 N0 J4 L7 H7 S7)} {x = X0} {t = T0} {n = N0} {j = J4} {l = L4} {h = H4} {s = S5} {s' = S6} {l' = L6} (c .before .before .before .before .before .before .before .before .before .before .before .close .ensures) (s-by {a = (mem X0 T0 N0 J4 L6 H4 S6)} {c = (mem X0 T0 N0 J4 L7 H7 S7)} {e = (mem X0 T0 N0 J4 L7 H7 S7)} _ (c .before .before .before .before .end-node .ensures) s-end)))))
 
 eq-at-requires : (t : ℕ) → eq-lts.Need-at-requires (eq-told t) (eq-at t) eq.Post
 eq-at-requires t c κs =
@@ -2032,12 +2299,15 @@ eq-refuse-requires t c κs =
 eq-returns : (t : ℕ) → eq-lts.Need-returns (eq-told t) (eq-at t) eq.Post
 unfolding expr.eqExp plan choose chosen hushed
 eq-returns t c =
-    let pre0 = c .before .before .before .before .before .before .before .before .before .pre .1 in
-    let at = c .before .before .before .at .ensures in
-    let if1 = c .before .before .if1 .taken in
-    let if2 = c .before .if2 .taken in
-    let refuse = c .refuse .ensures in
-    by-steps pre0 (λ b. s-kind (s-true _ _ (kind-at _ _ _ _ at if1) (s-shut if2 refuse (λ k l. refl))))
+    let X0 = c .before .before .before .before .before .before .before .before .before .args .text .now in
+    let T0 = c .before .before .before .before .before .before .before .before .before .args .toks .now in
+    let N0 = c .before .before .before .before .before .before .before .before .before .args .env .now in
+    let J0 = c .before .before .before .before .before .before .before .before .before .args .table .now in
+    let L0 = c .before .before .before .before .before .before .before .before .before .args .scratch .now in
+    let H0 = c .before .before .before .before .before .before .before .before .before .args .finds .now in
+    let S0 = c .before .before .before .before .before .before .before .before .before .args .s in
+    let S4 = c .refuse .result in
+    by-steps {m = (mem X0 T0 N0 J0 L0 H0 S0)} {m' = (mem X0 T0 N0 J0 L0 H0 S4)} (c .before .before .before .before .before .before .before .before .before .pre .1) (λ b. s-kind {a = (mem X0 T0 N0 J0 L0 H0 S0)} {e = (mem X0 T0 N0 J0 L0 H0 S4)} (s-true {a = (mem X0 T0 N0 J0 L0 H0 S0)} {e = (mem X0 T0 N0 J0 L0 H0 S4)} _ _ (kind-at _ _ (mem X0 T0 N0 J0 L0 H0 S0) _ (c .before .before .before .at .ensures) (c .before .before .if1 .taken)) (s-shut (c .before .if2 .taken) (c .refuse .ensures) (λ k l. refl))))
 
 eq-mark-requires : (t : ℕ) → eq-lts.Need-mark-requires (eq-told t) (eq-at t) eq.Post
 eq-mark-requires t c κs =
@@ -2090,23 +2360,35 @@ eq-same-length-2 t c =
 eq-returns-2 : (t : ℕ) → eq-lts.Need-returns-2 (eq-told t) (eq-at t) eq.Post
 unfolding expr.eqExp plan choose chosen
 eq-returns-2 t c =
-    let pre0 = c .before .before .before .before .before .before .before .before .before .before .before .before .before .before .before .before .before .before .before .before .before .before .before .before .before .pre .1 in
-    let at = c .before .before .before .before .before .before .before .before .before .before .before .before .before .before .before .before .before .before .before .at .ensures in
-    let if1 = c .before .before .before .before .before .before .before .before .before .before .before .before .before .before .before .before .before .before .if1 .taken in
-    let if2 = c .before .before .before .before .before .before .before .before .before .before .before .before .before .before .before .before .before .if2 .left in
-    let mark = c .before .before .before .before .before .before .before .before .before .before .before .before .before .before .before .before .mark .ensures in
-    let bump = c .before .before .before .before .before .before .before .before .before .before .before .before .before .before .bump .ensures in
-    let exp = c .before .before .before .before .before .before .before .before .exp .ensures in
-    let close = c .before .before .close .ensures in
-    by-steps pre0 (λ b. s-kind (s-true _ _ (kind-at _ _ _ _ at if1) (s-mark if2 mark (s-bump bump (s-by _ (runs-in exp) (s-close close s-end))))))
+    let X0 = c .before .before .before .before .before .before .before .before .before .before .before .before .before .before .before .before .before .before .before .before .before .before .before .before .before .args .text .now in
+    let T0 = c .before .before .before .before .before .before .before .before .before .before .before .before .before .before .before .before .before .before .before .before .before .before .before .before .before .args .toks .now in
+    let N0 = c .before .before .before .before .before .before .before .before .before .before .before .before .before .before .before .before .before .before .before .before .before .before .before .before .before .args .env .now in
+    let J0 = c .before .before .before .before .before .before .before .before .before .before .before .before .before .before .before .before .before .before .before .before .before .before .before .before .before .args .table .now in
+    let L0 = c .before .before .before .before .before .before .before .before .before .before .before .before .before .before .before .before .before .before .before .before .before .before .before .before .before .args .scratch .now in
+    let H0 = c .before .before .before .before .before .before .before .before .before .before .before .before .before .before .before .before .before .before .before .before .before .before .before .before .before .args .finds .now in
+    let S0 = c .before .before .before .before .before .before .before .before .before .before .before .before .before .before .before .before .before .before .before .before .before .before .before .before .before .args .s in
+    let S4 = c .before .before .before .before .before .before .before .before .before .before .before .before .before .before .before .before .mark .result in
+    let L5 = c .before .before .before .before .before .before .before .before .before .before .before .before .before .before .bump .last .1 .0 in
+    let S5 = c .before .before .before .before .before .before .before .before .before .before .before .before .before .before .bump .result in
+    let J6 = c .before .before .before .before .before .before .before .before .exp .last .1 .1 .1 .0 in
+    let L6 = c .before .before .before .before .before .before .before .before .exp .last .1 .1 .1 .1 .0 in
+    let H6 = c .before .before .before .before .before .before .before .before .exp .last .1 .1 .1 .1 .1 .0 in
+    let S6 = c .before .before .before .before .before .before .before .before .exp .result in
+    let L7 = c .before .before .close .last .0 in
+    let S7 = c .before .before .close .result in
+    by-steps {m = (mem X0 T0 N0 J0 L0 H0 S0)} {m' = (mem X0 T0 N0 J6 L7 H6 S7)} (c .before .before .before .before .before .before .before .before .before .before .before .before .before .before .before .before .before .before .before .before .before .before .before .before .before .pre .1) (λ b. s-kind {a = (mem X0 T0 N0 J0 L0 H0 S0)} {e = (mem X0 T0 N0 J6 L7 H6 S7)} (s-true {a = (mem X0 T0 N0 J0 L0 H0 S0)} {e = (mem X0 T0 N0 J6 L7 H6 S7)} _ _ (kind-at _ _ (mem X0 T0 N0 J0 L0 H0 S0) _ (c .before .before .before .before .before .before .before .before .before .before .before .before .before .before .before .before .before .before .before .at .ensures) (c .before .before .before .before .before .before .before .before .before .before .before .before .before .before .before .before .before .before .if1 .taken)) (s-mark {e = (mem X0 T0 N0 J6 L7 H6 S7)} {x = X0} {t = T0} {n = N0} {j = J0} {l = L0} {h = H0} {s = S0} {s' = S4} (c .before .before .before .before .before .before .before .before .before .before .before .before .before .before .before .before .before .if2 .left) (c .before .before .before .before .before .before .before .before .before .before .before .before .before .before .before .before .mark .ensures) (s-bump {e = (mem X0 T0 N0 J6 L7 H6 S7)} {x = X0} {t = T0} {n = N0} {j = J0} {l = L0} {h = H0} {s = S4} {s' = S5} {l' = L5} (c .before .before .before .before .before .before .before .before .before .before .before .before .before .before .bump .ensures) (s-by {a = (mem X0 T0 N0 J0 L5 H0 S5)} {c = (mem X0 T0 N0 J6 L6 H6 S6)} {e = (mem X0 T0 N0 J6 L7 H6 S7)} _ (runs-in {a = (mem X0 T0 N0 J0 L5 H0 S5)} {c = (mem X0 T0 N0 J6 L6 H6 S6)} (c .before .before .before .before .before .before .before .before .exp .ensures)) (s-close {e = (mem X0 T0 N0 J6 L7 H6 S7)} {x = X0} {t = T0} {n = N0} {j = J6} {l = L6} {h = H6} {s = S6} {s' = S7} {l' = L7} (c .before .before .close .ensures) s-end))))))
 
 eq-returns-3 : (t : ℕ) → eq-lts.Need-returns-3 (eq-told t) (eq-at t) eq.Post
 unfolding expr.eqExp plan choose chosen
 eq-returns-3 t c =
-    let pre0 = c .before .before .before .before .before .before .before .pre .1 in
-    let at = c .before .at .ensures in
-    let if1 = c .if1 .left in
-    by-steps pre0 (λ b. s-kind (s-false _ _ (kind-off _ _ _ _ at if1) s-end))
+    let X0 = c .before .before .before .before .before .before .before .args .text .now in
+    let T0 = c .before .before .before .before .before .before .before .args .toks .now in
+    let N0 = c .before .before .before .before .before .before .before .args .env .now in
+    let J0 = c .before .before .before .before .before .before .before .args .table .now in
+    let L0 = c .before .before .before .before .before .before .before .args .scratch .now in
+    let H0 = c .before .before .before .before .before .before .before .args .finds .now in
+    let S0 = c .before .before .before .before .before .before .before .args .s in
+    by-steps {m = (mem X0 T0 N0 J0 L0 H0 S0)} {m' = (mem X0 T0 N0 J0 L0 H0 S0)} (c .before .before .before .before .before .before .before .pre .1) (λ b. s-kind {a = (mem X0 T0 N0 J0 L0 H0 S0)} {e = (mem X0 T0 N0 J0 L0 H0 S0)} (s-false {a = (mem X0 T0 N0 J0 L0 H0 S0)} {e = (mem X0 T0 N0 J0 L0 H0 S0)} _ _ (kind-off _ _ (mem X0 T0 N0 J0 L0 H0 S0) _ (c .before .at .ensures) (c .if1 .left)) s-end))
 
 ex-op-name-requires : (t : ℕ) → ex-lts.Need-op-name-requires (ex-told t) (ex-at t) ex.Post
 ex-op-name-requires t c κs =
@@ -2161,9 +2443,17 @@ ex-same-length-2 t c =
 ex-returns : (t : ℕ) → ex-lts.Need-returns (ex-told t) (ex-at t) ex.Post
 unfolding decl.exBind plan choose chosen
 ex-returns t c =
-    let pre0 = c .before .before .before .before .before .before .before .before .before .before .before .before .before .before .before .before .before .pre .1 in
-    let op-name = rw (c .before .name .given .1) at (c .before .before .before .before .before .before .before .op-name .ensures) in
-    by-steps pre0 (λ b. s-by _ (runs-always op-name) s-end)
+    let X0 = c .before .before .before .before .before .before .before .before .before .before .before .before .before .before .before .before .before .args .text .now in
+    let T0 = c .before .before .before .before .before .before .before .before .before .before .before .before .before .before .before .before .before .args .toks .now in
+    let N0 = c .before .before .before .before .before .before .before .before .before .before .before .before .before .before .before .before .before .args .env .now in
+    let J0 = c .before .before .before .before .before .before .before .before .before .before .before .before .before .before .before .before .before .args .table .now in
+    let L0 = c .before .before .before .before .before .before .before .before .before .before .before .before .before .before .before .before .before .args .scratch .now in
+    let H0 = c .before .before .before .before .before .before .before .before .before .before .before .before .before .before .before .before .before .args .finds .now in
+    let S0 = c .before .before .before .before .before .before .before .before .before .before .before .before .before .before .before .before .before .args .s in
+    let L1 = c .before .before .before .before .before .before .before .op-name .last .1 .1 .1 .1 .0 in
+    let H1 = c .before .before .before .before .before .before .before .op-name .last .1 .1 .1 .1 .1 .0 in
+    let S1 = c .before .name .given .0 .0 in
+    by-steps {m = (mem X0 T0 N0 J0 L0 H0 S0)} {m' = (mem X0 T0 N0 J0 L1 H1 S1)} (c .before .before .before .before .before .before .before .before .before .before .before .before .before .before .before .before .before .pre .1) (λ b. s-by {a = (mem X0 T0 N0 J0 L0 H0 S0)} {c = (mem X0 T0 N0 J0 L1 H1 S1)} {e = (mem X0 T0 N0 J0 L1 H1 S1)} _ (runs-always {a = (mem X0 T0 N0 J0 L0 H0 S0)} {c = (mem X0 T0 N0 J0 L1 H1 S1)} (rw (c .before .name .given .1) at (c .before .before .before .before .before .before .before .op-name .ensures))) s-end)
 
 ex-same-length-3 : (t : ℕ) → ex-lts.Need-same-length-3 (ex-told t) (ex-at t) ex.Post
 ex-same-length-3 t c =
@@ -2176,11 +2466,24 @@ ex-same-length-4 t c =
 ex-returns-2 : (t : ℕ) → ex-lts.Need-returns-2 (ex-told t) (ex-at t) ex.Post
 unfolding decl.exBind plan choose chosen
 ex-returns-2 t c =
-    let pre0 = c .before .before .before .before .before .before .before .before .before .before .before .before .before .before .before .before .before .before .before .before .before .before .before .before .before .before .before .before .before .before .before .before .before .before .before .before .before .pre .1 in
-    let op-name = rw (c .before .before .before .before .before .before .before .before .before .before .before .before .before .before .before .before .before .before .before .before .before .name2 .given .1) at (c .before .before .before .before .before .before .before .before .before .before .before .before .before .before .before .before .before .before .before .before .before .before .before .before .before .before .before .op-name .ensures) in
-    let of-ty = rw (c .before .before .before .before .before .before .before .before .before .typed .given .1) at (c .before .before .before .before .before .before .before .before .before .before .before .before .before .before .before .of-ty .ensures) in
-    let eq = c .before .before .before .before .eq .ensures in
-    by-steps pre0 (λ b. s-by _ (runs-always op-name) (s-by _ (runs-in of-ty) (s-by _ (runs-in eq) s-end)))
+    let X0 = c .before .before .before .before .before .before .before .before .before .before .before .before .before .before .before .before .before .before .before .before .before .before .before .before .before .before .before .before .before .before .before .before .before .before .before .before .before .args .text .now in
+    let T0 = c .before .before .before .before .before .before .before .before .before .before .before .before .before .before .before .before .before .before .before .before .before .before .before .before .before .before .before .before .before .before .before .before .before .before .before .before .before .args .toks .now in
+    let N0 = c .before .before .before .before .before .before .before .before .before .before .before .before .before .before .before .before .before .before .before .before .before .before .before .before .before .before .before .before .before .before .before .before .before .before .before .before .before .args .env .now in
+    let J0 = c .before .before .before .before .before .before .before .before .before .before .before .before .before .before .before .before .before .before .before .before .before .before .before .before .before .before .before .before .before .before .before .before .before .before .before .before .before .args .table .now in
+    let L0 = c .before .before .before .before .before .before .before .before .before .before .before .before .before .before .before .before .before .before .before .before .before .before .before .before .before .before .before .before .before .before .before .before .before .before .before .before .before .args .scratch .now in
+    let H0 = c .before .before .before .before .before .before .before .before .before .before .before .before .before .before .before .before .before .before .before .before .before .before .before .before .before .before .before .before .before .before .before .before .before .before .before .before .before .args .finds .now in
+    let S0 = c .before .before .before .before .before .before .before .before .before .before .before .before .before .before .before .before .before .before .before .before .before .before .before .before .before .before .before .before .before .before .before .before .before .before .before .before .before .args .s in
+    let L1 = c .before .before .before .before .before .before .before .before .before .before .before .before .before .before .before .before .before .before .before .before .before .before .before .before .before .before .before .op-name .last .1 .1 .1 .1 .0 in
+    let H1 = c .before .before .before .before .before .before .before .before .before .before .before .before .before .before .before .before .before .before .before .before .before .before .before .before .before .before .before .op-name .last .1 .1 .1 .1 .1 .0 in
+    let S1 = c .before .before .before .before .before .before .before .before .before .before .before .before .before .before .before .before .before .before .before .before .before .name2 .given .0 .0 in
+    let L2 = c .before .before .before .before .before .before .before .before .before .before .before .before .before .before .before .of-ty .last .1 .1 .1 .1 .0 in
+    let H2 = c .before .before .before .before .before .before .before .before .before .before .before .before .before .before .before .of-ty .last .1 .1 .1 .1 .1 .0 in
+    let S2 = c .before .before .before .before .before .before .before .before .before .typed .given .0 .0 in
+    let J3 = c .before .before .before .before .eq .last .1 .1 .1 .0 in
+    let L3 = c .before .before .before .before .eq .last .1 .1 .1 .1 .0 in
+    let H3 = c .before .before .before .before .eq .last .1 .1 .1 .1 .1 .0 in
+    let S3 = c .before .before .before .before .eq .result in
+    by-steps {m = (mem X0 T0 N0 J0 L0 H0 S0)} {m' = (mem X0 T0 N0 J3 L3 H3 S3)} (c .before .before .before .before .before .before .before .before .before .before .before .before .before .before .before .before .before .before .before .before .before .before .before .before .before .before .before .before .before .before .before .before .before .before .before .before .before .pre .1) (λ b. s-by {a = (mem X0 T0 N0 J0 L0 H0 S0)} {c = (mem X0 T0 N0 J0 L1 H1 S1)} {e = (mem X0 T0 N0 J3 L3 H3 S3)} _ (runs-always {a = (mem X0 T0 N0 J0 L0 H0 S0)} {c = (mem X0 T0 N0 J0 L1 H1 S1)} (rw (c .before .before .before .before .before .before .before .before .before .before .before .before .before .before .before .before .before .before .before .before .before .name2 .given .1) at (c .before .before .before .before .before .before .before .before .before .before .before .before .before .before .before .before .before .before .before .before .before .before .before .before .before .before .before .op-name .ensures))) (s-by {a = (mem X0 T0 N0 J0 L1 H1 S1)} {c = (mem X0 T0 N0 J0 L2 H2 S2)} {e = (mem X0 T0 N0 J3 L3 H3 S3)} _ (runs-in {a = (mem X0 T0 N0 J0 L1 H1 S1)} {c = (mem X0 T0 N0 J0 L2 H2 S2)} (rw (c .before .before .before .before .before .before .before .before .before .typed .given .1) at (c .before .before .before .before .before .before .before .before .before .before .before .before .before .before .before .of-ty .ensures))) (s-by {a = (mem X0 T0 N0 J0 L2 H2 S2)} {c = (mem X0 T0 N0 J3 L3 H3 S3)} {e = (mem X0 T0 N0 J3 L3 H3 S3)} _ (runs-in {a = (mem X0 T0 N0 J0 L2 H2 S2)} {c = (mem X0 T0 N0 J3 L3 H3 S3)} (c .before .before .before .before .eq .ensures)) s-end)))
 
 ex-same-length-5 : (t : ℕ) → ex-lts.Need-same-length-5 (ex-told t) (ex-at t) ex.Post
 ex-same-length-5 t c =
@@ -2193,10 +2496,20 @@ ex-same-length-6 t c =
 ex-returns-3 : (t : ℕ) → ex-lts.Need-returns-3 (ex-told t) (ex-at t) ex.Post
 unfolding decl.exBind plan choose chosen
 ex-returns-3 t c =
-    let pre0 = c .before .before .before .before .before .before .before .before .before .before .before .before .before .before .before .before .before .before .before .before .before .before .before .before .before .before .before .before .before .pre .1 in
-    let op-name = rw (c .before .before .before .before .before .before .before .before .before .before .before .before .before .name2 .given .1) at (c .before .before .before .before .before .before .before .before .before .before .before .before .before .before .before .before .before .before .before .op-name .ensures) in
-    let of-ty = rw (c .before .typed2 .given .1) at (c .before .before .before .before .before .before .before .of-ty .ensures) in
-    by-steps pre0 (λ b. s-by _ (runs-always op-name) (s-by _ (runs-in of-ty) s-end))
+    let X0 = c .before .before .before .before .before .before .before .before .before .before .before .before .before .before .before .before .before .before .before .before .before .before .before .before .before .before .before .before .before .args .text .now in
+    let T0 = c .before .before .before .before .before .before .before .before .before .before .before .before .before .before .before .before .before .before .before .before .before .before .before .before .before .before .before .before .before .args .toks .now in
+    let N0 = c .before .before .before .before .before .before .before .before .before .before .before .before .before .before .before .before .before .before .before .before .before .before .before .before .before .before .before .before .before .args .env .now in
+    let J0 = c .before .before .before .before .before .before .before .before .before .before .before .before .before .before .before .before .before .before .before .before .before .before .before .before .before .before .before .before .before .args .table .now in
+    let L0 = c .before .before .before .before .before .before .before .before .before .before .before .before .before .before .before .before .before .before .before .before .before .before .before .before .before .before .before .before .before .args .scratch .now in
+    let H0 = c .before .before .before .before .before .before .before .before .before .before .before .before .before .before .before .before .before .before .before .before .before .before .before .before .before .before .before .before .before .args .finds .now in
+    let S0 = c .before .before .before .before .before .before .before .before .before .before .before .before .before .before .before .before .before .before .before .before .before .before .before .before .before .before .before .before .before .args .s in
+    let L1 = c .before .before .before .before .before .before .before .before .before .before .before .before .before .before .before .before .before .before .before .op-name .last .1 .1 .1 .1 .0 in
+    let H1 = c .before .before .before .before .before .before .before .before .before .before .before .before .before .before .before .before .before .before .before .op-name .last .1 .1 .1 .1 .1 .0 in
+    let S1 = c .before .before .before .before .before .before .before .before .before .before .before .before .before .name2 .given .0 .0 in
+    let L2 = c .before .before .before .before .before .before .before .of-ty .last .1 .1 .1 .1 .0 in
+    let H2 = c .before .before .before .before .before .before .before .of-ty .last .1 .1 .1 .1 .1 .0 in
+    let S2 = c .before .typed2 .given .0 .0 in
+    by-steps {m = (mem X0 T0 N0 J0 L0 H0 S0)} {m' = (mem X0 T0 N0 J0 L2 H2 S2)} (c .before .before .before .before .before .before .before .before .before .before .before .before .before .before .before .before .before .before .before .before .before .before .before .before .before .before .before .before .before .pre .1) (λ b. s-by {a = (mem X0 T0 N0 J0 L0 H0 S0)} {c = (mem X0 T0 N0 J0 L1 H1 S1)} {e = (mem X0 T0 N0 J0 L2 H2 S2)} _ (runs-always {a = (mem X0 T0 N0 J0 L0 H0 S0)} {c = (mem X0 T0 N0 J0 L1 H1 S1)} (rw (c .before .before .before .before .before .before .before .before .before .before .before .before .before .name2 .given .1) at (c .before .before .before .before .before .before .before .before .before .before .before .before .before .before .before .before .before .before .before .op-name .ensures))) (s-by {a = (mem X0 T0 N0 J0 L1 H1 S1)} {c = (mem X0 T0 N0 J0 L2 H2 S2)} {e = (mem X0 T0 N0 J0 L2 H2 S2)} _ (runs-in {a = (mem X0 T0 N0 J0 L1 H1 S1)} {c = (mem X0 T0 N0 J0 L2 H2 S2)} (rw (c .before .typed2 .given .1) at (c .before .before .before .before .before .before .before .of-ty .ensures))) s-end))
 
 exp-pre-requires : (t : ℕ) → exp-lts.Need-pre-requires (exp-told t) (exp-at t) exp.Post
 exp-pre-requires t c κs =
@@ -2234,9 +2547,18 @@ exp-same-length-2 t c =
 exp-returns : (t : ℕ) → exp-lts.Need-returns (exp-told t) (exp-at t) exp.Post
 unfolding expr.expMust plan choose chosen
 exp-returns t c =
-    let pre0 = c .before .before .before .before .before .before .before .before .before .before .before .before .before .before .before .before .pre .1 in
-    let pre2 = rw (c .before .got .given .1) at (c .before .before .before .before .before .before .before .pre2 .ensures) in
-    by-steps pre0 (λ b. s-run (runs-in pre2) s-end)
+    let X0 = c .before .before .before .before .before .before .before .before .before .before .before .before .before .before .before .before .args .text .now in
+    let T0 = c .before .before .before .before .before .before .before .before .before .before .before .before .before .before .before .before .args .toks .now in
+    let N0 = c .before .before .before .before .before .before .before .before .before .before .before .before .before .before .before .before .args .env .now in
+    let J0 = c .before .before .before .before .before .before .before .before .before .before .before .before .before .before .before .before .args .table .now in
+    let L0 = c .before .before .before .before .before .before .before .before .before .before .before .before .before .before .before .before .args .scratch .now in
+    let H0 = c .before .before .before .before .before .before .before .before .before .before .before .before .before .before .before .before .args .finds .now in
+    let S0 = c .before .before .before .before .before .before .before .before .before .before .before .before .before .before .before .before .args .s in
+    let J1 = c .before .before .before .before .before .before .before .pre2 .last .1 .1 .1 .0 in
+    let L1 = c .before .before .before .before .before .before .before .pre2 .last .1 .1 .1 .1 .0 in
+    let H1 = c .before .before .before .before .before .before .before .pre2 .last .1 .1 .1 .1 .1 .0 in
+    let S1 = c .before .got .given .0 .0 in
+    by-steps {m = (mem X0 T0 N0 J0 L0 H0 S0)} {m' = (mem X0 T0 N0 J1 L1 H1 S1)} (c .before .before .before .before .before .before .before .before .before .before .before .before .before .before .before .before .pre .1) (λ b. s-run {a = (mem X0 T0 N0 J0 L0 H0 S0)} {c = (mem X0 T0 N0 J1 L1 H1 S1)} {e = (mem X0 T0 N0 J1 L1 H1 S1)} (runs-in {a = (mem X0 T0 N0 J0 L0 H0 S0)} {c = (mem X0 T0 N0 J1 L1 H1 S1)} (rw (c .before .got .given .1) at (c .before .before .before .before .before .before .before .pre2 .ensures))) s-end)
 
 exp-same-length-3 : (t : ℕ) → exp-lts.Need-same-length-3 (exp-told t) (exp-at t) exp.Post
 exp-same-length-3 t c =
@@ -2249,10 +2571,20 @@ exp-same-length-4 t c =
 exp-returns-2 : (t : ℕ) → exp-lts.Need-returns-2 (exp-told t) (exp-at t) exp.Post
 unfolding expr.expMust plan choose chosen
 exp-returns-2 t c =
-    let pre0 = c .before .before .before .before .before .before .before .before .before .before .before .before .before .before .before .before .before .before .before .before .pre .1 in
-    let pre2 = rw (c .before .before .before .before .before .got2 .given .1) at (c .before .before .before .before .before .before .before .before .before .before .before .pre2 .ensures) in
-    let report = c .before .before .report .ensures in
-    by-steps pre0 (λ b. s-run (runs-in pre2) (s-report report s-end))
+    let X0 = c .before .before .before .before .before .before .before .before .before .before .before .before .before .before .before .before .before .before .before .before .args .text .now in
+    let T0 = c .before .before .before .before .before .before .before .before .before .before .before .before .before .before .before .before .before .before .before .before .args .toks .now in
+    let N0 = c .before .before .before .before .before .before .before .before .before .before .before .before .before .before .before .before .before .before .before .before .args .env .now in
+    let J0 = c .before .before .before .before .before .before .before .before .before .before .before .before .before .before .before .before .before .before .before .before .args .table .now in
+    let L0 = c .before .before .before .before .before .before .before .before .before .before .before .before .before .before .before .before .before .before .before .before .args .scratch .now in
+    let H0 = c .before .before .before .before .before .before .before .before .before .before .before .before .before .before .before .before .before .before .before .before .args .finds .now in
+    let S0 = c .before .before .before .before .before .before .before .before .before .before .before .before .before .before .before .before .before .before .before .before .args .s in
+    let J1 = c .before .before .before .before .before .before .before .before .before .before .before .pre2 .last .1 .1 .1 .0 in
+    let L1 = c .before .before .before .before .before .before .before .before .before .before .before .pre2 .last .1 .1 .1 .1 .0 in
+    let H1 = c .before .before .before .before .before .before .before .before .before .before .before .pre2 .last .1 .1 .1 .1 .1 .0 in
+    let S1 = c .before .before .before .before .before .got2 .given .0 .0 in
+    let H2 = c .before .before .report .last .0 in
+    let S2 = c .before .before .report .result in
+    by-steps {m = (mem X0 T0 N0 J0 L0 H0 S0)} {m' = (mem X0 T0 N0 J1 L1 H2 S2)} (c .before .before .before .before .before .before .before .before .before .before .before .before .before .before .before .before .before .before .before .before .pre .1) (λ b. s-run {a = (mem X0 T0 N0 J0 L0 H0 S0)} {c = (mem X0 T0 N0 J1 L1 H1 S1)} {e = (mem X0 T0 N0 J1 L1 H2 S2)} (runs-in {a = (mem X0 T0 N0 J0 L0 H0 S0)} {c = (mem X0 T0 N0 J1 L1 H1 S1)} (rw (c .before .before .before .before .before .got2 .given .1) at (c .before .before .before .before .before .before .before .before .before .before .before .pre2 .ensures))) (s-report {e = (mem X0 T0 N0 J1 L1 H2 S2)} {x = X0} {t = T0} {n = N0} {j = J1} {l = L1} {h = H1} {s = S1} {s' = S2} {h' = H2} (c .before .before .report .ensures) s-end))
 
 fap-app-start-requires : (t : ℕ) → fap-lts.Need-app-start-requires (fap-told t) (fap-at t) fap.Post
 fap-app-start-requires t c κs =
@@ -2274,11 +2606,18 @@ fap-same-length-2 t c =
 fap-returns : (t : ℕ) → fap-lts.Need-returns (fap-told t) (fap-at t) fap.Post
 unfolding decl.strApp plan choose chosen decl.ended util.want util.eat hushed
 fap-returns t c =
-    let pre0 = c .before .before .before .before .before .before .before .before .before .before .before .before .before .before .before .before .pre .1 .0 in
-    let app-start = c .before .before .before .before .before .before .app-start .ensures in
-    let if1 = c .before .if1 .taken in
-    let refuse = c .refuse .ensures in
-    in-steps pre0 (s-by _ (runs-in app-start) (s-shut if1 refuse (λ k l. refl)))
+    let X0 = c .before .before .before .before .before .before .before .before .before .before .before .before .before .before .before .before .args .text .now in
+    let T0 = c .before .before .before .before .before .before .before .before .before .before .before .before .before .before .before .before .args .toks .now in
+    let N0 = c .before .before .before .before .before .before .before .before .before .before .before .before .before .before .before .before .args .env .now in
+    let J0 = c .before .before .before .before .before .before .before .before .before .before .before .before .before .before .before .before .args .table .now in
+    let L0 = c .before .before .before .before .before .before .before .before .before .before .before .before .before .before .before .before .args .scratch .now in
+    let H0 = c .before .before .before .before .before .before .before .before .before .before .before .before .before .before .before .before .args .finds .now in
+    let S0 = c .before .before .before .before .before .before .before .before .before .before .before .before .before .before .before .before .args .s in
+    let L1 = c .before .before .before .before .before .before .app-start .last .1 .1 .1 .1 .0 in
+    let H1 = c .before .before .before .before .before .before .app-start .last .1 .1 .1 .1 .1 .0 in
+    let S1 = c .before .before .before .before .before .before .app-start .result in
+    let S3 = c .refuse .result in
+    in-steps {m = (mem X0 T0 N0 J0 L0 H0 S0)} {m' = (mem X0 T0 N0 J0 L1 H1 S3)} (c .before .before .before .before .before .before .before .before .before .before .before .before .before .before .before .before .pre .1 .0) (s-by {a = (mem X0 T0 N0 J0 L0 H0 S0)} {c = (mem X0 T0 N0 J0 L1 H1 S1)} {e = (mem X0 T0 N0 J0 L1 H1 S3)} _ (runs-in {a = (mem X0 T0 N0 J0 L0 H0 S0)} {c = (mem X0 T0 N0 J0 L1 H1 S1)} (c .before .before .before .before .before .before .app-start .ensures)) (s-shut (c .before .if1 .taken) (c .refuse .ensures) (λ k l. refl)))
 
 fap-mark-requires : (t : ℕ) → fap-lts.Need-mark-requires (fap-told t) (fap-at t) fap.Post
 fap-mark-requires t c κs =
@@ -2381,14 +2720,27 @@ fap-same-length-4 t c =
 fap-returns-2 : (t : ℕ) → fap-lts.Need-returns-2 (fap-told t) (fap-at t) fap.Post
 unfolding decl.strApp plan choose chosen
 fap-returns-2 t c =
-    let pre0 = c .before .before .before .before .before .before .before .before .before .before .before .before .before .before .before .before .before .before .before .before .before .before .before .before .before .before .before .before .before .before .before .before .before .before .before .before .before .before .before .before .pre .1 .0 in
-    let app-start = c .before .before .before .before .before .before .before .before .before .before .before .before .before .before .before .before .before .before .before .before .before .before .before .before .before .before .before .before .before .before .app-start .ensures in
-    let if1 = c .before .before .before .before .before .before .before .before .before .before .before .before .before .before .before .before .before .before .before .before .before .before .before .before .before .if1 .left in
-    let mark = c .before .before .before .before .before .before .before .before .before .before .before .before .before .before .before .before .before .before .before .before .before .before .before .before .mark .ensures in
-    let stx = rw (c .before .before .before .before .before .before .before .before .before .before .before .before .before .before .found .given .1) at (c .before .before .before .before .before .before .before .before .before .before .before .before .before .before .before .before .before .before .before .before .stx .ensures) in
-    let close = c .before .before .before .before .before .before .before .before .before .before .before .close .ensures in
-    let end-node = c .before .before .before .before .end-node .ensures in
-    in-steps pre0 (s-by _ (runs-in app-start) (s-mark if1 mark (s-run (runs-in stx) (s-close close (s-by _ end-node s-end)))))
+    let X0 = c .before .before .before .before .before .before .before .before .before .before .before .before .before .before .before .before .before .before .before .before .before .before .before .before .before .before .before .before .before .before .before .before .before .before .before .before .before .before .before .before .args .text .now in
+    let T0 = c .before .before .before .before .before .before .before .before .before .before .before .before .before .before .before .before .before .before .before .before .before .before .before .before .before .before .before .before .before .before .before .before .before .before .before .before .before .before .before .before .args .toks .now in
+    let N0 = c .before .before .before .before .before .before .before .before .before .before .before .before .before .before .before .before .before .before .before .before .before .before .before .before .before .before .before .before .before .before .before .before .before .before .before .before .before .before .before .before .args .env .now in
+    let J0 = c .before .before .before .before .before .before .before .before .before .before .before .before .before .before .before .before .before .before .before .before .before .before .before .before .before .before .before .before .before .before .before .before .before .before .before .before .before .before .before .before .args .table .now in
+    let L0 = c .before .before .before .before .before .before .before .before .before .before .before .before .before .before .before .before .before .before .before .before .before .before .before .before .before .before .before .before .before .before .before .before .before .before .before .before .before .before .before .before .args .scratch .now in
+    let H0 = c .before .before .before .before .before .before .before .before .before .before .before .before .before .before .before .before .before .before .before .before .before .before .before .before .before .before .before .before .before .before .before .before .before .before .before .before .before .before .before .before .args .finds .now in
+    let S0 = c .before .before .before .before .before .before .before .before .before .before .before .before .before .before .before .before .before .before .before .before .before .before .before .before .before .before .before .before .before .before .before .before .before .before .before .before .before .before .before .before .args .s in
+    let L1 = c .before .before .before .before .before .before .before .before .before .before .before .before .before .before .before .before .before .before .before .before .before .before .before .before .before .before .before .before .before .before .app-start .last .1 .1 .1 .1 .0 in
+    let H1 = c .before .before .before .before .before .before .before .before .before .before .before .before .before .before .before .before .before .before .before .before .before .before .before .before .before .before .before .before .before .before .app-start .last .1 .1 .1 .1 .1 .0 in
+    let S1 = c .before .before .before .before .before .before .before .before .before .before .before .before .before .before .before .before .before .before .before .before .before .before .before .before .before .before .before .before .before .before .app-start .result in
+    let S3 = c .before .before .before .before .before .before .before .before .before .before .before .before .before .before .before .before .before .before .before .before .before .before .before .before .mark .result in
+    let J4 = c .before .before .before .before .before .before .before .before .before .before .before .before .before .before .before .before .before .before .before .before .stx .last .1 .1 .1 .0 in
+    let L4 = c .before .before .before .before .before .before .before .before .before .before .before .before .before .before .before .before .before .before .before .before .stx .last .1 .1 .1 .1 .0 in
+    let H4 = c .before .before .before .before .before .before .before .before .before .before .before .before .before .before .before .before .before .before .before .before .stx .last .1 .1 .1 .1 .1 .0 in
+    let S4 = c .before .before .before .before .before .before .before .before .before .before .before .before .before .before .found .given .0 .0 in
+    let L5 = c .before .before .before .before .before .before .before .before .before .before .before .close .last .0 in
+    let S5 = c .before .before .before .before .before .before .before .before .before .before .before .close .result in
+    let L6 = c .before .before .before .before .end-node .last .1 .1 .1 .1 .0 in
+    let H6 = c .before .before .before .before .end-node .last .1 .1 .1 .1 .1 .0 in
+    let S6 = c .before .before .before .before .end-node .result in
+    in-steps {m = (mem X0 T0 N0 J0 L0 H0 S0)} {m' = (mem X0 T0 N0 J4 L6 H6 S6)} (c .before .before .before .before .before .before .before .before .before .before .before .before .before .before .before .before .before .before .before .before .before .before .before .before .before .before .before .before .before .before .before .before .before .before .before .before .before .before .before .before .pre .1 .0) (s-by {a = (mem X0 T0 N0 J0 L0 H0 S0)} {c = (mem X0 T0 N0 J0 L1 H1 S1)} {e = (mem X0 T0 N0 J4 L6 H6 S6)} _ (runs-in {a = (mem X0 T0 N0 J0 L0 H0 S0)} {c = (mem X0 T0 N0 J0 L1 H1 S1)} (c .before .before .before .before .before .before .before .before .before .before .before .before .before .before .before .before .before .before .before .before .before .before .before .before .before .before .before .before .before .before .app-start .ensures)) (s-mark {e = (mem X0 T0 N0 J4 L6 H6 S6)} {x = X0} {t = T0} {n = N0} {j = J0} {l = L1} {h = H1} {s = S1} {s' = S3} (c .before .before .before .before .before .before .before .before .before .before .before .before .before .before .before .before .before .before .before .before .before .before .before .before .before .if1 .left) (c .before .before .before .before .before .before .before .before .before .before .before .before .before .before .before .before .before .before .before .before .before .before .before .before .mark .ensures) (s-run {a = (mem X0 T0 N0 J0 L1 H1 S3)} {c = (mem X0 T0 N0 J4 L4 H4 S4)} {e = (mem X0 T0 N0 J4 L6 H6 S6)} (runs-in {a = (mem X0 T0 N0 J0 L1 H1 S3)} {c = (mem X0 T0 N0 J4 L4 H4 S4)} (rw (c .before .before .before .before .before .before .before .before .before .before .before .before .before .before .found .given .1) at (c .before .before .before .before .before .before .before .before .before .before .before .before .before .before .before .before .before .before .before .before .stx .ensures))) (s-close {e = (mem X0 T0 N0 J4 L6 H6 S6)} {x = X0} {t = T0} {n = N0} {j = J4} {l = L4} {h = H4} {s = S4} {s' = S5} {l' = L5} (c .before .before .before .before .before .before .before .before .before .before .before .close .ensures) (s-by {a = (mem X0 T0 N0 J4 L5 H4 S5)} {c = (mem X0 T0 N0 J4 L6 H6 S6)} {e = (mem X0 T0 N0 J4 L6 H6 S6)} _ (c .before .before .before .before .end-node .ensures) s-end)))))
 
 fap-same-length-5 : (t : ℕ) → fap-lts.Need-same-length-5 (fap-told t) (fap-at t) fap.Post
 fap-same-length-5 t c =
@@ -2401,16 +2753,31 @@ fap-same-length-6 t c =
 fap-returns-3 : (t : ℕ) → fap-lts.Need-returns-3 (fap-told t) (fap-at t) fap.Post
 unfolding decl.strApp plan choose chosen
 fap-returns-3 t c =
-    let pre0 = c .before .before .before .before .before .before .before .before .before .before .before .before .before .before .before .before .before .before .before .before .before .before .before .before .before .before .before .before .before .before .before .before .before .before .before .before .before .before .before .before .before .before .before .before .before .before .pre .1 .0 in
-    let app-start = c .before .before .before .before .before .before .before .before .before .before .before .before .before .before .before .before .before .before .before .before .before .before .before .before .before .before .before .before .before .before .before .before .before .before .before .before .app-start .ensures in
-    let if1 = c .before .before .before .before .before .before .before .before .before .before .before .before .before .before .before .before .before .before .before .before .before .before .before .before .before .before .before .before .before .before .before .if1 .left in
-    let mark = c .before .before .before .before .before .before .before .before .before .before .before .before .before .before .before .before .before .before .before .before .before .before .before .before .before .before .before .before .before .before .mark .ensures in
-    let stx = rw (c .before .before .before .before .before .before .before .before .before .before .before .before .before .before .before .before .before .before .before .before .found2 .given .1) at (c .before .before .before .before .before .before .before .before .before .before .before .before .before .before .before .before .before .before .before .before .before .before .before .before .before .before .stx .ensures) in
-    let dec = c .before .before .before .before .before .before .before .before .before .before .before .before .before .before .before .dec .ensures in
-    let state = c .before .before .before .before .before .before .before .before .before .before .state .ensures in
-    let give-back = c .before .before .before .before .before .before .before .before .before .give-back .ensures in
-    let end-node2 = c .before .before .before .before .end-node2 .ensures in
-    in-steps pre0 (s-by _ (runs-in app-start) (s-mark if1 mark (s-run (runs-in stx) (s-scoped (settled state (runs-in dec)) give-back (s-by _ end-node2 s-end)))))
+    let X0 = c .before .before .before .before .before .before .before .before .before .before .before .before .before .before .before .before .before .before .before .before .before .before .before .before .before .before .before .before .before .before .before .before .before .before .before .before .before .before .before .before .before .before .before .before .before .before .args .text .now in
+    let T0 = c .before .before .before .before .before .before .before .before .before .before .before .before .before .before .before .before .before .before .before .before .before .before .before .before .before .before .before .before .before .before .before .before .before .before .before .before .before .before .before .before .before .before .before .before .before .before .args .toks .now in
+    let N0 = c .before .before .before .before .before .before .before .before .before .before .before .before .before .before .before .before .before .before .before .before .before .before .before .before .before .before .before .before .before .before .before .before .before .before .before .before .before .before .before .before .before .before .before .before .before .before .args .env .now in
+    let J0 = c .before .before .before .before .before .before .before .before .before .before .before .before .before .before .before .before .before .before .before .before .before .before .before .before .before .before .before .before .before .before .before .before .before .before .before .before .before .before .before .before .before .before .before .before .before .before .args .table .now in
+    let L0 = c .before .before .before .before .before .before .before .before .before .before .before .before .before .before .before .before .before .before .before .before .before .before .before .before .before .before .before .before .before .before .before .before .before .before .before .before .before .before .before .before .before .before .before .before .before .before .args .scratch .now in
+    let H0 = c .before .before .before .before .before .before .before .before .before .before .before .before .before .before .before .before .before .before .before .before .before .before .before .before .before .before .before .before .before .before .before .before .before .before .before .before .before .before .before .before .before .before .before .before .before .before .args .finds .now in
+    let S0 = c .before .before .before .before .before .before .before .before .before .before .before .before .before .before .before .before .before .before .before .before .before .before .before .before .before .before .before .before .before .before .before .before .before .before .before .before .before .before .before .before .before .before .before .before .before .before .args .s in
+    let L1 = c .before .before .before .before .before .before .before .before .before .before .before .before .before .before .before .before .before .before .before .before .before .before .before .before .before .before .before .before .before .before .before .before .before .before .before .before .app-start .last .1 .1 .1 .1 .0 in
+    let H1 = c .before .before .before .before .before .before .before .before .before .before .before .before .before .before .before .before .before .before .before .before .before .before .before .before .before .before .before .before .before .before .before .before .before .before .before .before .app-start .last .1 .1 .1 .1 .1 .0 in
+    let S1 = c .before .before .before .before .before .before .before .before .before .before .before .before .before .before .before .before .before .before .before .before .before .before .before .before .before .before .before .before .before .before .before .before .before .before .before .before .app-start .result in
+    let S3 = c .before .before .before .before .before .before .before .before .before .before .before .before .before .before .before .before .before .before .before .before .before .before .before .before .before .before .before .before .before .before .mark .result in
+    let J4 = c .before .before .before .before .before .before .before .before .before .before .before .before .before .before .before .before .before .before .before .before .before .before .before .before .before .before .stx .last .1 .1 .1 .0 in
+    let L4 = c .before .before .before .before .before .before .before .before .before .before .before .before .before .before .before .before .before .before .before .before .before .before .before .before .before .before .stx .last .1 .1 .1 .1 .0 in
+    let H4 = c .before .before .before .before .before .before .before .before .before .before .before .before .before .before .before .before .before .before .before .before .before .before .before .before .before .before .stx .last .1 .1 .1 .1 .1 .0 in
+    let S4 = c .before .before .before .before .before .before .before .before .before .before .before .before .before .before .before .before .before .before .before .before .found2 .given .0 .0 in
+    let J5 = c .before .before .before .before .before .before .before .before .before .before .before .before .before .before .before .dec .last .1 .1 .1 .0 in
+    let L5 = c .before .before .before .before .before .before .before .before .before .before .before .before .before .before .before .dec .last .1 .1 .1 .1 .0 in
+    let H5 = c .before .before .before .before .before .before .before .before .before .before .before .before .before .before .before .dec .last .1 .1 .1 .1 .1 .0 in
+    let S5 = outState (c .before .before .before .before .before .before .before .before .before .before .before .before .before .before .before .dec .result) in
+    let S6 = c .before .before .before .before .before .before .before .before .before .before .state .result in
+    let S7 = c .before .before .before .before .before .before .before .before .before .give-back .result in
+    let L8 = c .before .before .before .before .end-node2 .last .1 .1 .1 .1 .0 in
+    let H8 = c .before .before .before .before .end-node2 .last .1 .1 .1 .1 .1 .0 in
+    let S8 = c .before .before .before .before .end-node2 .result in
+    in-steps {m = (mem X0 T0 N0 J0 L0 H0 S0)} {m' = (mem X0 T0 N0 J5 L8 H8 S8)} (c .before .before .before .before .before .before .before .before .before .before .before .before .before .before .before .before .before .before .before .before .before .before .before .before .before .before .before .before .before .before .before .before .before .before .before .before .before .before .before .before .before .before .before .before .before .before .pre .1 .0) (s-by {a = (mem X0 T0 N0 J0 L0 H0 S0)} {c = (mem X0 T0 N0 J0 L1 H1 S1)} {e = (mem X0 T0 N0 J5 L8 H8 S8)} _ (runs-in {a = (mem X0 T0 N0 J0 L0 H0 S0)} {c = (mem X0 T0 N0 J0 L1 H1 S1)} (c .before .before .before .before .before .before .before .before .before .before .before .before .before .before .before .before .before .before .before .before .before .before .before .before .before .before .before .before .before .before .before .before .before .before .before .before .app-start .ensures)) (s-mark {e = (mem X0 T0 N0 J5 L8 H8 S8)} {x = X0} {t = T0} {n = N0} {j = J0} {l = L1} {h = H1} {s = S1} {s' = S3} (c .before .before .before .before .before .before .before .before .before .before .before .before .before .before .before .before .before .before .before .before .before .before .before .before .before .before .before .before .before .before .before .if1 .left) (c .before .before .before .before .before .before .before .before .before .before .before .before .before .before .before .before .before .before .before .before .before .before .before .before .before .before .before .before .before .before .mark .ensures) (s-run {a = (mem X0 T0 N0 J0 L1 H1 S3)} {c = (mem X0 T0 N0 J4 L4 H4 S4)} {e = (mem X0 T0 N0 J5 L8 H8 S8)} (runs-in {a = (mem X0 T0 N0 J0 L1 H1 S3)} {c = (mem X0 T0 N0 J4 L4 H4 S4)} (rw (c .before .before .before .before .before .before .before .before .before .before .before .before .before .before .before .before .before .before .before .before .found2 .given .1) at (c .before .before .before .before .before .before .before .before .before .before .before .before .before .before .before .before .before .before .before .before .before .before .before .before .before .before .stx .ensures))) (s-scoped {x = X0} {t = T0} {e = N0} {j = J4} {l = L4} {y = H4} {j' = J5} {l' = L5} {y' = H5} {s = S4} {s' = S6} {c = (mem X0 T0 N0 J5 L8 H8 S8)} {r = S7} (settled (c .before .before .before .before .before .before .before .before .before .before .state .ensures) (runs-in {a = (mem X0 T0 N0 J4 L4 H4 S4)} {c = (mem X0 T0 N0 J5 L5 H5 S5)} (c .before .before .before .before .before .before .before .before .before .before .before .before .before .before .before .dec .ensures))) (c .before .before .before .before .before .before .before .before .before .give-back .ensures) (s-by {a = (mem X0 T0 N0 J5 L5 H5 S7)} {c = (mem X0 T0 N0 J5 L8 H8 S8)} {e = (mem X0 T0 N0 J5 L8 H8 S8)} _ (c .before .before .before .before .end-node2 .ensures) s-end)))))
 
 fct-eat-requires : (t : ℕ) → fct-lts.Need-eat-requires (fct-told t) (fct-at t) fct.Post
 fct-eat-requires t c κs =
@@ -2491,9 +2858,17 @@ fct-same-length-2 t c =
 fct-returns : (t : ℕ) → fct-lts.Need-returns (fct-told t) (fct-at t) fct.Post
 unfolding decl.functorBind plan choose chosen
 fct-returns t c =
-    let pre0 = c .before .before .before .before .before .before .before .before .before .before .before .before .before .before .before .pre .1 in
-    let eat = rw (c .before .name .given .1) at (c .before .before .before .before .before .before .before .eat .ensures) in
-    by-steps pre0 (λ b. s-eats _ _ _ eat s-end)
+    let X0 = c .before .before .before .before .before .before .before .before .before .before .before .before .before .before .before .args .text .now in
+    let T0 = c .before .before .before .before .before .before .before .before .before .before .before .before .before .before .before .args .toks .now in
+    let N0 = c .before .before .before .before .before .before .before .before .before .before .before .before .before .before .before .args .env .now in
+    let J0 = c .before .before .before .before .before .before .before .before .before .before .before .before .before .before .before .args .table .now in
+    let L0 = c .before .before .before .before .before .before .before .before .before .before .before .before .before .before .before .args .scratch .now in
+    let H0 = c .before .before .before .before .before .before .before .before .before .before .before .before .before .before .before .args .finds .now in
+    let S0 = c .before .before .before .before .before .before .before .before .before .before .before .before .before .before .before .args .s in
+    let L1 = c .before .before .before .before .before .before .before .eat .last .1 .0 in
+    let H1 = c .before .before .before .before .before .before .before .eat .last .1 .1 .0 in
+    let S1 = c .before .name .given .0 .0 in
+    by-steps {m = (mem X0 T0 N0 J0 L0 H0 S0)} {m' = (mem X0 T0 N0 J0 L1 H1 S1)} (c .before .before .before .before .before .before .before .before .before .before .before .before .before .before .before .pre .1) (λ b. s-eats _ _ {x = X0} {t = T0} {n = N0} {j = J0} {l = L0} {h = H0} {l' = L1} {s = S0} {s' = S1} {e = (mem X0 T0 N0 J0 L1 H1 S1)} _ {h' = H1} (rw (c .before .name .given .1) at (c .before .before .before .before .before .before .before .eat .ensures)) s-end)
 
 fct-same-length-3 : (t : ℕ) → fct-lts.Need-same-length-3 (fct-told t) (fct-at t) fct.Post
 fct-same-length-3 t c =
@@ -2506,15 +2881,38 @@ fct-same-length-4 t c =
 fct-returns-2 : (t : ℕ) → fct-lts.Need-returns-2 (fct-told t) (fct-at t) fct.Post
 unfolding decl.functorBind plan choose chosen
 fct-returns-2 t c =
-    let pre0 = c .before .before .before .before .before .before .before .before .before .before .before .before .before .before .before .before .before .before .before .before .before .before .before .before .before .before .before .before .before .before .before .before .before .before .before .before .before .before .before .before .before .before .before .before .before .before .before .before .before .before .before .before .before .before .before .before .before .before .before .before .pre .1 in
-    let eat = rw (c .before .before .before .before .before .before .before .before .before .before .before .before .before .before .before .before .before .before .before .before .before .before .before .before .before .before .before .before .before .before .before .before .before .before .before .before .before .before .before .before .before .before .before .before .before .before .name2 .given .1) at (c .before .before .before .before .before .before .before .before .before .before .before .before .before .before .before .before .before .before .before .before .before .before .before .before .before .before .before .before .before .before .before .before .before .before .before .before .before .before .before .before .before .before .before .before .before .before .before .before .before .before .before .before .eat .ensures) in
-    let want = c .before .before .before .before .before .before .before .before .before .before .before .before .before .before .before .before .before .before .before .before .before .before .before .before .before .before .before .before .before .before .before .before .before .before .before .before .before .before .before .before .before .before .want .ensures in
-    let pa = c .before .before .before .before .before .before .before .before .before .before .before .before .before .before .before .before .before .before .before .before .before .before .before .before .before .before .before .before .before .before .before .before .before .before .pa .ensures in
-    let want2 = c .before .before .before .before .before .before .before .before .before .before .before .before .before .before .before .before .before .before .before .before .before .before .before .before .before .before .before .want2 .ensures in
-    let aso = c .before .before .before .before .before .before .before .before .before .before .before .before .before .before .before .before .before .before .before .aso .ensures in
-    let want3 = c .before .before .before .before .before .before .before .before .before .before .before .before .want3 .ensures in
-    let stm = c .before .before .before .before .stm .ensures in
-    by-steps pre0 (λ b. s-eats _ _ _ eat (s-eats _ _ _ want (s-by _ (runs-in pa) (s-eats _ _ _ want2 (s-by _ (runs-in aso) (s-eats _ _ _ want3 (s-by _ (runs-in stm) s-end)))))))
+    let X0 = c .before .before .before .before .before .before .before .before .before .before .before .before .before .before .before .before .before .before .before .before .before .before .before .before .before .before .before .before .before .before .before .before .before .before .before .before .before .before .before .before .before .before .before .before .before .before .before .before .before .before .before .before .before .before .before .before .before .before .before .before .args .text .now in
+    let T0 = c .before .before .before .before .before .before .before .before .before .before .before .before .before .before .before .before .before .before .before .before .before .before .before .before .before .before .before .before .before .before .before .before .before .before .before .before .before .before .before .before .before .before .before .before .before .before .before .before .before .before .before .before .before .before .before .before .before .before .before .before .args .toks .now in
+    let N0 = c .before .before .before .before .before .before .before .before .before .before .before .before .before .before .before .before .before .before .before .before .before .before .before .before .before .before .before .before .before .before .before .before .before .before .before .before .before .before .before .before .before .before .before .before .before .before .before .before .before .before .before .before .before .before .before .before .before .before .before .before .args .env .now in
+    let J0 = c .before .before .before .before .before .before .before .before .before .before .before .before .before .before .before .before .before .before .before .before .before .before .before .before .before .before .before .before .before .before .before .before .before .before .before .before .before .before .before .before .before .before .before .before .before .before .before .before .before .before .before .before .before .before .before .before .before .before .before .before .args .table .now in
+    let L0 = c .before .before .before .before .before .before .before .before .before .before .before .before .before .before .before .before .before .before .before .before .before .before .before .before .before .before .before .before .before .before .before .before .before .before .before .before .before .before .before .before .before .before .before .before .before .before .before .before .before .before .before .before .before .before .before .before .before .before .before .before .args .scratch .now in
+    let H0 = c .before .before .before .before .before .before .before .before .before .before .before .before .before .before .before .before .before .before .before .before .before .before .before .before .before .before .before .before .before .before .before .before .before .before .before .before .before .before .before .before .before .before .before .before .before .before .before .before .before .before .before .before .before .before .before .before .before .before .before .before .args .finds .now in
+    let S0 = c .before .before .before .before .before .before .before .before .before .before .before .before .before .before .before .before .before .before .before .before .before .before .before .before .before .before .before .before .before .before .before .before .before .before .before .before .before .before .before .before .before .before .before .before .before .before .before .before .before .before .before .before .before .before .before .before .before .before .before .before .args .s in
+    let L1 = c .before .before .before .before .before .before .before .before .before .before .before .before .before .before .before .before .before .before .before .before .before .before .before .before .before .before .before .before .before .before .before .before .before .before .before .before .before .before .before .before .before .before .before .before .before .before .before .before .before .before .before .before .eat .last .1 .0 in
+    let H1 = c .before .before .before .before .before .before .before .before .before .before .before .before .before .before .before .before .before .before .before .before .before .before .before .before .before .before .before .before .before .before .before .before .before .before .before .before .before .before .before .before .before .before .before .before .before .before .before .before .before .before .before .before .eat .last .1 .1 .0 in
+    let S1 = c .before .before .before .before .before .before .before .before .before .before .before .before .before .before .before .before .before .before .before .before .before .before .before .before .before .before .before .before .before .before .before .before .before .before .before .before .before .before .before .before .before .before .before .before .before .before .name2 .given .0 .0 in
+    let L2 = c .before .before .before .before .before .before .before .before .before .before .before .before .before .before .before .before .before .before .before .before .before .before .before .before .before .before .before .before .before .before .before .before .before .before .before .before .before .before .before .before .before .before .want .last .1 .0 in
+    let H2 = c .before .before .before .before .before .before .before .before .before .before .before .before .before .before .before .before .before .before .before .before .before .before .before .before .before .before .before .before .before .before .before .before .before .before .before .before .before .before .before .before .before .before .want .last .1 .1 .0 in
+    let S2 = c .before .before .before .before .before .before .before .before .before .before .before .before .before .before .before .before .before .before .before .before .before .before .before .before .before .before .before .before .before .before .before .before .before .before .before .before .before .before .before .before .before .before .want .result in
+    let J3 = c .before .before .before .before .before .before .before .before .before .before .before .before .before .before .before .before .before .before .before .before .before .before .before .before .before .before .before .before .before .before .before .before .before .before .pa .last .1 .1 .1 .0 in
+    let L3 = c .before .before .before .before .before .before .before .before .before .before .before .before .before .before .before .before .before .before .before .before .before .before .before .before .before .before .before .before .before .before .before .before .before .before .pa .last .1 .1 .1 .1 .0 in
+    let H3 = c .before .before .before .before .before .before .before .before .before .before .before .before .before .before .before .before .before .before .before .before .before .before .before .before .before .before .before .before .before .before .before .before .before .before .pa .last .1 .1 .1 .1 .1 .0 in
+    let S3 = c .before .before .before .before .before .before .before .before .before .before .before .before .before .before .before .before .before .before .before .before .before .before .before .before .before .before .before .before .before .before .before .before .before .before .pa .result in
+    let L4 = c .before .before .before .before .before .before .before .before .before .before .before .before .before .before .before .before .before .before .before .before .before .before .before .before .before .before .before .want2 .last .1 .0 in
+    let H4 = c .before .before .before .before .before .before .before .before .before .before .before .before .before .before .before .before .before .before .before .before .before .before .before .before .before .before .before .want2 .last .1 .1 .0 in
+    let S4 = c .before .before .before .before .before .before .before .before .before .before .before .before .before .before .before .before .before .before .before .before .before .before .before .before .before .before .before .want2 .result in
+    let J5 = c .before .before .before .before .before .before .before .before .before .before .before .before .before .before .before .before .before .before .before .aso .last .1 .1 .1 .0 in
+    let L5 = c .before .before .before .before .before .before .before .before .before .before .before .before .before .before .before .before .before .before .before .aso .last .1 .1 .1 .1 .0 in
+    let H5 = c .before .before .before .before .before .before .before .before .before .before .before .before .before .before .before .before .before .before .before .aso .last .1 .1 .1 .1 .1 .0 in
+    let S5 = c .before .before .before .before .before .before .before .before .before .before .before .before .before .before .before .before .before .before .before .aso .result in
+    let L6 = c .before .before .before .before .before .before .before .before .before .before .before .before .want3 .last .1 .0 in
+    let H6 = c .before .before .before .before .before .before .before .before .before .before .before .before .want3 .last .1 .1 .0 in
+    let S6 = c .before .before .before .before .before .before .before .before .before .before .before .before .want3 .result in
+    let J7 = c .before .before .before .before .stm .last .1 .1 .1 .0 in
+    let L7 = c .before .before .before .before .stm .last .1 .1 .1 .1 .0 in
+    let H7 = c .before .before .before .before .stm .last .1 .1 .1 .1 .1 .0 in
+    let S7 = c .before .before .before .before .stm .result in
+    by-steps {m = (mem X0 T0 N0 J0 L0 H0 S0)} {m' = (mem X0 T0 N0 J7 L7 H7 S7)} (c .before .before .before .before .before .before .before .before .before .before .before .before .before .before .before .before .before .before .before .before .before .before .before .before .before .before .before .before .before .before .before .before .before .before .before .before .before .before .before .before .before .before .before .before .before .before .before .before .before .before .before .before .before .before .before .before .before .before .before .before .pre .1) (λ b. s-eats _ _ {x = X0} {t = T0} {n = N0} {j = J0} {l = L0} {h = H0} {l' = L1} {s = S0} {s' = S1} {e = (mem X0 T0 N0 J7 L7 H7 S7)} _ {h' = H1} (rw (c .before .before .before .before .before .before .before .before .before .before .before .before .before .before .before .before .before .before .before .before .before .before .before .before .before .before .before .before .before .before .before .before .before .before .before .before .before .before .before .before .before .before .before .before .before .before .name2 .given .1) at (c .before .before .before .before .before .before .before .before .before .before .before .before .before .before .before .before .before .before .before .before .before .before .before .before .before .before .before .before .before .before .before .before .before .before .before .before .before .before .before .before .before .before .before .before .before .before .before .before .before .before .before .before .eat .ensures)) (s-eats _ _ {x = X0} {t = T0} {n = N0} {j = J0} {l = L1} {h = H1} {l' = L2} {s = S1} {s' = S2} {e = (mem X0 T0 N0 J7 L7 H7 S7)} _ {h' = H2} (c .before .before .before .before .before .before .before .before .before .before .before .before .before .before .before .before .before .before .before .before .before .before .before .before .before .before .before .before .before .before .before .before .before .before .before .before .before .before .before .before .before .before .want .ensures) (s-by {a = (mem X0 T0 N0 J0 L2 H2 S2)} {c = (mem X0 T0 N0 J3 L3 H3 S3)} {e = (mem X0 T0 N0 J7 L7 H7 S7)} _ (runs-in {a = (mem X0 T0 N0 J0 L2 H2 S2)} {c = (mem X0 T0 N0 J3 L3 H3 S3)} (c .before .before .before .before .before .before .before .before .before .before .before .before .before .before .before .before .before .before .before .before .before .before .before .before .before .before .before .before .before .before .before .before .before .before .pa .ensures)) (s-eats _ _ {x = X0} {t = T0} {n = N0} {j = J3} {l = L3} {h = H3} {l' = L4} {s = S3} {s' = S4} {e = (mem X0 T0 N0 J7 L7 H7 S7)} _ {h' = H4} (c .before .before .before .before .before .before .before .before .before .before .before .before .before .before .before .before .before .before .before .before .before .before .before .before .before .before .before .want2 .ensures) (s-by {a = (mem X0 T0 N0 J3 L4 H4 S4)} {c = (mem X0 T0 N0 J5 L5 H5 S5)} {e = (mem X0 T0 N0 J7 L7 H7 S7)} _ (runs-in {a = (mem X0 T0 N0 J3 L4 H4 S4)} {c = (mem X0 T0 N0 J5 L5 H5 S5)} (c .before .before .before .before .before .before .before .before .before .before .before .before .before .before .before .before .before .before .before .aso .ensures)) (s-eats _ _ {x = X0} {t = T0} {n = N0} {j = J5} {l = L5} {h = H5} {l' = L6} {s = S5} {s' = S6} {e = (mem X0 T0 N0 J7 L7 H7 S7)} _ {h' = H6} (c .before .before .before .before .before .before .before .before .before .before .before .before .want3 .ensures) (s-by {a = (mem X0 T0 N0 J5 L6 H6 S6)} {c = (mem X0 T0 N0 J7 L7 H7 S7)} {e = (mem X0 T0 N0 J7 L7 H7 S7)} _ (runs-in {a = (mem X0 T0 N0 J5 L6 H6 S6)} {c = (mem X0 T0 N0 J7 L7 H7 S7)} (c .before .before .before .before .stm .ensures)) s-end)))))))
 
 fun-bump-if-requires : (t : ℕ) → fun-lts.Need-bump-if-requires (fun-told t) (fun-at t) fun.Post
 fun-bump-if-requires t c κs =
@@ -2540,10 +2938,20 @@ fun-same-length-2 t c =
 fun-returns : (t : ℕ) → fun-lts.Need-returns (fun-told t) (fun-at t) fun.Post
 unfolding decl.funBind util.manySep decl.manyClosure util.choose plan choose chosen
 fun-returns t c =
-    let pre0 = c .before .before .before .before .before .before .before .before .before .before .before .before .before .before .before .before .before .pre .1 in
-    let bump-if = c .before .before .before .before .before .before .before .before .before .before .bump-if .ensures in
-    let mny = c .before .before .before .before .mny .ensures in
-    by-steps pre0 (λ b. s-takes _ _ _ bump-if (s-run mny s-end))
+    let X0 = c .before .before .before .before .before .before .before .before .before .before .before .before .before .before .before .before .before .args .text .now in
+    let T0 = c .before .before .before .before .before .before .before .before .before .before .before .before .before .before .before .before .before .args .toks .now in
+    let N0 = c .before .before .before .before .before .before .before .before .before .before .before .before .before .before .before .before .before .args .env .now in
+    let J0 = c .before .before .before .before .before .before .before .before .before .before .before .before .before .before .before .before .before .args .table .now in
+    let L0 = c .before .before .before .before .before .before .before .before .before .before .before .before .before .before .before .before .before .args .scratch .now in
+    let H0 = c .before .before .before .before .before .before .before .before .before .before .before .before .before .before .before .before .before .args .finds .now in
+    let S0 = c .before .before .before .before .before .before .before .before .before .before .before .before .before .before .before .before .before .args .s in
+    let L1 = c .before .before .before .before .before .before .before .before .before .before .bump-if .last .1 .0 in
+    let S1 = c .before .before .before .before .before .before .before .before .before .before .bump-if .result in
+    let J2 = c .before .before .before .before .mny .last .1 .1 .1 .0 in
+    let L2 = c .before .before .before .before .mny .last .1 .1 .1 .1 .0 in
+    let H2 = c .before .before .before .before .mny .last .1 .1 .1 .1 .1 .0 in
+    let S2 = c .before .before .before .before .mny .result in
+    by-steps {m = (mem X0 T0 N0 J0 L0 H0 S0)} {m' = (mem X0 T0 N0 J2 L2 H2 S2)} (c .before .before .before .before .before .before .before .before .before .before .before .before .before .before .before .before .before .pre .1) (λ b. s-takes _ _ {x = X0} {t = T0} {n = N0} {j = J0} {l = L0} {h = H0} {l' = L1} {s = S0} {s' = S1} {e = (mem X0 T0 N0 J2 L2 H2 S2)} _ (c .before .before .before .before .before .before .before .before .before .before .bump-if .ensures) (s-run {a = (mem X0 T0 N0 J0 L1 H0 S1)} {c = (mem X0 T0 N0 J2 L2 H2 S2)} {e = (mem X0 T0 N0 J2 L2 H2 S2)} (c .before .before .before .before .mny .ensures) s-end))
 
 hs-bump-requires : (t : ℕ) → hs-lts.Need-bump-requires (hs-told t) (hs-at t) hs.Post
 hs-bump-requires t c κs =
@@ -2568,13 +2976,17 @@ hs-same-length t c =
 hs-returns : (t : ℕ) → hs-lts.Need-returns (hs-told t) (hs-at t) hs.Post
 unfolding expr.hashExp expr.endClosure util.choose plan choose chosen hushed
 hs-returns t c =
-    let pre0 = c .before .before .before .before .before .before .before .before .before .before .before .before .before .pre .1 .0 in
-    let bump = c .before .before .before .before .before .before .bump .ensures in
-    let at = c .before .before .before .at .ensures in
-    let if1 = c .before .before .if1 .taken in
-    let if2 = c .before .if2 .taken in
-    let refuse = c .refuse .ensures in
-    in-steps pre0 (s-bump bump (s-kind (s-true _ _ (kind-at _ _ _ _ at if1) (s-shut if2 refuse (λ k l. refl)))))
+    let X0 = c .before .before .before .before .before .before .before .before .before .before .before .before .before .args .text .now in
+    let T0 = c .before .before .before .before .before .before .before .before .before .before .before .before .before .args .toks .now in
+    let N0 = c .before .before .before .before .before .before .before .before .before .before .before .before .before .args .env .now in
+    let J0 = c .before .before .before .before .before .before .before .before .before .before .before .before .before .args .table .now in
+    let L0 = c .before .before .before .before .before .before .before .before .before .before .before .before .before .args .scratch .now in
+    let H0 = c .before .before .before .before .before .before .before .before .before .before .before .before .before .args .finds .now in
+    let S0 = c .before .before .before .before .before .before .before .before .before .before .before .before .before .args .s in
+    let L1 = c .before .before .before .before .before .before .bump .last .1 .0 in
+    let S1 = c .before .before .before .before .before .before .bump .result in
+    let S5 = c .refuse .result in
+    in-steps {m = (mem X0 T0 N0 J0 L0 H0 S0)} {m' = (mem X0 T0 N0 J0 L1 H0 S5)} (c .before .before .before .before .before .before .before .before .before .before .before .before .before .pre .1 .0) (s-bump {e = (mem X0 T0 N0 J0 L1 H0 S5)} {x = X0} {t = T0} {n = N0} {j = J0} {l = L0} {h = H0} {s = S0} {s' = S1} {l' = L1} (c .before .before .before .before .before .before .bump .ensures) (s-kind {a = (mem X0 T0 N0 J0 L1 H0 S1)} {e = (mem X0 T0 N0 J0 L1 H0 S5)} (s-true {a = (mem X0 T0 N0 J0 L1 H0 S1)} {e = (mem X0 T0 N0 J0 L1 H0 S5)} _ _ (kind-at _ _ (mem X0 T0 N0 J0 L1 H0 S1) _ (c .before .before .before .at .ensures) (c .before .before .if1 .taken)) (s-shut (c .before .if2 .taken) (c .refuse .ensures) (λ k l. refl)))))
 
 hs-mark-requires : (t : ℕ) → hs-lts.Need-mark-requires (hs-told t) (hs-at t) hs.Post
 hs-mark-requires t c κs =
@@ -2631,16 +3043,25 @@ hs-same-length-3 t c =
 hs-returns-2 : (t : ℕ) → hs-lts.Need-returns-2 (hs-told t) (hs-at t) hs.Post
 unfolding expr.hashExp expr.endClosure util.choose plan choose chosen
 hs-returns-2 t c =
-    let pre0 = c .before .before .before .before .before .before .before .before .before .before .before .before .before .before .before .before .before .before .before .before .before .before .before .before .before .before .before .before .before .pre .1 .0 in
-    let bump = c .before .before .before .before .before .before .before .before .before .before .before .before .before .before .before .before .before .before .before .before .before .before .bump .ensures in
-    let at = c .before .before .before .before .before .before .before .before .before .before .before .before .before .before .before .before .before .before .before .at .ensures in
-    let if1 = c .before .before .before .before .before .before .before .before .before .before .before .before .before .before .before .before .before .before .if1 .taken in
-    let if2 = c .before .before .before .before .before .before .before .before .before .before .before .before .before .before .before .before .before .if2 .left in
-    let mark = c .before .before .before .before .before .before .before .before .before .before .before .before .before .before .before .before .mark .ensures in
-    let bump2 = c .before .before .before .before .before .before .before .before .before .before .before .before .before .before .bump2 .ensures in
-    let cl = c .before .before .before .before .before .before .before .before .cl .ensures in
-    let close = c .before .before .close .ensures in
-    in-steps pre0 (s-bump bump (s-kind (s-true _ _ (kind-at _ _ _ _ at if1) (s-mark if2 mark (s-bump bump2 (s-by _ cl (s-close close s-end)))))))
+    let X0 = c .before .before .before .before .before .before .before .before .before .before .before .before .before .before .before .before .before .before .before .before .before .before .before .before .before .before .before .before .before .args .text .now in
+    let T0 = c .before .before .before .before .before .before .before .before .before .before .before .before .before .before .before .before .before .before .before .before .before .before .before .before .before .before .before .before .before .args .toks .now in
+    let N0 = c .before .before .before .before .before .before .before .before .before .before .before .before .before .before .before .before .before .before .before .before .before .before .before .before .before .before .before .before .before .args .env .now in
+    let J0 = c .before .before .before .before .before .before .before .before .before .before .before .before .before .before .before .before .before .before .before .before .before .before .before .before .before .before .before .before .before .args .table .now in
+    let L0 = c .before .before .before .before .before .before .before .before .before .before .before .before .before .before .before .before .before .before .before .before .before .before .before .before .before .before .before .before .before .args .scratch .now in
+    let H0 = c .before .before .before .before .before .before .before .before .before .before .before .before .before .before .before .before .before .before .before .before .before .before .before .before .before .before .before .before .before .args .finds .now in
+    let S0 = c .before .before .before .before .before .before .before .before .before .before .before .before .before .before .before .before .before .before .before .before .before .before .before .before .before .before .before .before .before .args .s in
+    let L1 = c .before .before .before .before .before .before .before .before .before .before .before .before .before .before .before .before .before .before .before .before .before .before .bump .last .1 .0 in
+    let S1 = c .before .before .before .before .before .before .before .before .before .before .before .before .before .before .before .before .before .before .before .before .before .before .bump .result in
+    let S5 = c .before .before .before .before .before .before .before .before .before .before .before .before .before .before .before .before .mark .result in
+    let L6 = c .before .before .before .before .before .before .before .before .before .before .before .before .before .before .bump2 .last .1 .0 in
+    let S6 = c .before .before .before .before .before .before .before .before .before .before .before .before .before .before .bump2 .result in
+    let J7 = c .before .before .before .before .before .before .before .before .cl .last .1 .1 .1 .0 in
+    let L7 = c .before .before .before .before .before .before .before .before .cl .last .1 .1 .1 .1 .0 in
+    let H7 = c .before .before .before .before .before .before .before .before .cl .last .1 .1 .1 .1 .1 .0 in
+    let S7 = c .before .before .before .before .before .before .before .before .cl .result in
+    let L8 = c .before .before .close .last .0 in
+    let S8 = c .before .before .close .result in
+    in-steps {m = (mem X0 T0 N0 J0 L0 H0 S0)} {m' = (mem X0 T0 N0 J7 L8 H7 S8)} (c .before .before .before .before .before .before .before .before .before .before .before .before .before .before .before .before .before .before .before .before .before .before .before .before .before .before .before .before .before .pre .1 .0) (s-bump {e = (mem X0 T0 N0 J7 L8 H7 S8)} {x = X0} {t = T0} {n = N0} {j = J0} {l = L0} {h = H0} {s = S0} {s' = S1} {l' = L1} (c .before .before .before .before .before .before .before .before .before .before .before .before .before .before .before .before .before .before .before .before .before .before .bump .ensures) (s-kind {a = (mem X0 T0 N0 J0 L1 H0 S1)} {e = (mem X0 T0 N0 J7 L8 H7 S8)} (s-true {a = (mem X0 T0 N0 J0 L1 H0 S1)} {e = (mem X0 T0 N0 J7 L8 H7 S8)} _ _ (kind-at _ _ (mem X0 T0 N0 J0 L1 H0 S1) _ (c .before .before .before .before .before .before .before .before .before .before .before .before .before .before .before .before .before .before .before .at .ensures) (c .before .before .before .before .before .before .before .before .before .before .before .before .before .before .before .before .before .before .if1 .taken)) (s-mark {e = (mem X0 T0 N0 J7 L8 H7 S8)} {x = X0} {t = T0} {n = N0} {j = J0} {l = L1} {h = H0} {s = S1} {s' = S5} (c .before .before .before .before .before .before .before .before .before .before .before .before .before .before .before .before .before .if2 .left) (c .before .before .before .before .before .before .before .before .before .before .before .before .before .before .before .before .mark .ensures) (s-bump {e = (mem X0 T0 N0 J7 L8 H7 S8)} {x = X0} {t = T0} {n = N0} {j = J0} {l = L1} {h = H0} {s = S5} {s' = S6} {l' = L6} (c .before .before .before .before .before .before .before .before .before .before .before .before .before .before .bump2 .ensures) (s-by {a = (mem X0 T0 N0 J0 L6 H0 S6)} {c = (mem X0 T0 N0 J7 L7 H7 S7)} {e = (mem X0 T0 N0 J7 L8 H7 S8)} _ (c .before .before .before .before .before .before .before .before .cl .ensures) (s-close {e = (mem X0 T0 N0 J7 L8 H7 S8)} {x = X0} {t = T0} {n = N0} {j = J7} {l = L7} {h = H7} {s = S7} {s' = S8} {l' = L8} (c .before .before .close .ensures) s-end)))))))
 
 hs-lab-requires : (t : ℕ) → hs-lts.Need-lab-requires (hs-told t) (hs-at t) hs.Post
 hs-lab-requires t c κs =
@@ -2670,13 +3091,21 @@ hs-same-length-5 t c =
 hs-returns-3 : (t : ℕ) → hs-lts.Need-returns-3 (hs-told t) (hs-at t) hs.Post
 unfolding expr.hashExp expr.endClosure util.choose plan choose chosen
 hs-returns-3 t c =
-    let pre0 = c .before .before .before .before .before .before .before .before .before .before .before .before .before .before .before .before .before .before .before .before .before .before .pre .1 .0 in
-    let bump = c .before .before .before .before .before .before .before .before .before .before .before .before .before .before .before .bump .ensures in
-    let at = c .before .before .before .before .before .before .before .before .before .before .before .before .at .ensures in
-    let if1 = c .before .before .before .before .before .before .before .before .before .before .before .if1 .left in
-    let lab = c .before .before .before .before .before .before .before .before .lab .ensures in
-    let close2 = c .before .before .close2 .ensures in
-    in-steps pre0 (s-bump bump (s-kind (s-false _ _ (kind-off _ _ _ _ at if1) (s-eats _ _ _ lab (s-close close2 s-end)))))
+    let X0 = c .before .before .before .before .before .before .before .before .before .before .before .before .before .before .before .before .before .before .before .before .before .before .args .text .now in
+    let T0 = c .before .before .before .before .before .before .before .before .before .before .before .before .before .before .before .before .before .before .before .before .before .before .args .toks .now in
+    let N0 = c .before .before .before .before .before .before .before .before .before .before .before .before .before .before .before .before .before .before .before .before .before .before .args .env .now in
+    let J0 = c .before .before .before .before .before .before .before .before .before .before .before .before .before .before .before .before .before .before .before .before .before .before .args .table .now in
+    let L0 = c .before .before .before .before .before .before .before .before .before .before .before .before .before .before .before .before .before .before .before .before .before .before .args .scratch .now in
+    let H0 = c .before .before .before .before .before .before .before .before .before .before .before .before .before .before .before .before .before .before .before .before .before .before .args .finds .now in
+    let S0 = c .before .before .before .before .before .before .before .before .before .before .before .before .before .before .before .before .before .before .before .before .before .before .args .s in
+    let L1 = c .before .before .before .before .before .before .before .before .before .before .before .before .before .before .before .bump .last .1 .0 in
+    let S1 = c .before .before .before .before .before .before .before .before .before .before .before .before .before .before .before .bump .result in
+    let L4 = c .before .before .before .before .before .before .before .before .lab .last .1 .0 in
+    let H4 = c .before .before .before .before .before .before .before .before .lab .last .1 .1 .0 in
+    let S4 = c .before .before .before .before .before .before .before .before .lab .result in
+    let L5 = c .before .before .close2 .last .0 in
+    let S5 = c .before .before .close2 .result in
+    in-steps {m = (mem X0 T0 N0 J0 L0 H0 S0)} {m' = (mem X0 T0 N0 J0 L5 H4 S5)} (c .before .before .before .before .before .before .before .before .before .before .before .before .before .before .before .before .before .before .before .before .before .before .pre .1 .0) (s-bump {e = (mem X0 T0 N0 J0 L5 H4 S5)} {x = X0} {t = T0} {n = N0} {j = J0} {l = L0} {h = H0} {s = S0} {s' = S1} {l' = L1} (c .before .before .before .before .before .before .before .before .before .before .before .before .before .before .before .bump .ensures) (s-kind {a = (mem X0 T0 N0 J0 L1 H0 S1)} {e = (mem X0 T0 N0 J0 L5 H4 S5)} (s-false {a = (mem X0 T0 N0 J0 L1 H0 S1)} {e = (mem X0 T0 N0 J0 L5 H4 S5)} _ _ (kind-off _ _ (mem X0 T0 N0 J0 L1 H0 S1) _ (c .before .before .before .before .before .before .before .before .before .before .before .before .at .ensures) (c .before .before .before .before .before .before .before .before .before .before .before .if1 .left)) (s-eats _ _ {x = X0} {t = T0} {n = N0} {j = J0} {l = L1} {h = H0} {l' = L4} {s = S1} {s' = S4} {e = (mem X0 T0 N0 J0 L5 H4 S5)} _ {h' = H4} (c .before .before .before .before .before .before .before .before .lab .ensures) (s-close {e = (mem X0 T0 N0 J0 L5 H4 S5)} {x = X0} {t = T0} {n = N0} {j = J0} {l = L4} {h = H4} {s = S4} {s' = S5} {l' = L5} (c .before .before .close2 .ensures) s-end)))))
 
 abbrev ic-Inv-loop : ic-lts.InvT-loop
 ic-Inv-loop text toks env table₀ scratch₀ finds₀ left b s1₀ table scratch finds s1 =
@@ -2795,10 +3224,18 @@ id-same-length-2 t c =
 id-returns : (t : ℕ) → id-lts.Need-returns (id-told t) (id-at t) id.Post
 unfolding expr.nameStep plan choose chosen
 id-returns t c =
-    let pre0 = c .before .before .before .before .before .before .before .before .before .before .before .before .before .before .before .before .before .before .pre .1 .0 in
-    let fixity-at = rw (c .before .before .before .before .before .before .before .before .enum-told .given .1) at (c .before .before .before .before .before .before .before .before .before .before .fixity-at .ensures) in
-    let app = c .before .before .before .before .app .ensures in
-    in-steps pre0 (s-fixed fixity-at (s-by _ app s-end))
+    let X0 = c .before .before .before .before .before .before .before .before .before .before .before .before .before .before .before .before .before .before .args .text .now in
+    let T0 = c .before .before .before .before .before .before .before .before .before .before .before .before .before .before .before .before .before .before .args .toks .now in
+    let N0 = c .before .before .before .before .before .before .before .before .before .before .before .before .before .before .before .before .before .before .args .env .now in
+    let J0 = c .before .before .before .before .before .before .before .before .before .before .before .before .before .before .before .before .before .before .args .table .now in
+    let L0 = c .before .before .before .before .before .before .before .before .before .before .before .before .before .before .before .before .before .before .args .scratch .now in
+    let H0 = c .before .before .before .before .before .before .before .before .before .before .before .before .before .before .before .before .before .before .args .finds .now in
+    let S0 = c .before .before .before .before .before .before .before .before .before .before .before .before .before .before .before .before .before .before .args .s in
+    let J2 = c .before .before .before .before .app .last .1 .1 .1 .0 in
+    let L2 = c .before .before .before .before .app .last .1 .1 .1 .1 .0 in
+    let H2 = c .before .before .before .before .app .last .1 .1 .1 .1 .1 .0 in
+    let S2 = c .before .before .before .before .app .result in
+    in-steps {m = (mem X0 T0 N0 J0 L0 H0 S0)} {m' = (mem X0 T0 N0 J2 L2 H2 S2)} (c .before .before .before .before .before .before .before .before .before .before .before .before .before .before .before .before .before .before .pre .1 .0) (s-fixed {a = (mem X0 T0 N0 J0 L0 H0 S0)} {e = (mem X0 T0 N0 J2 L2 H2 S2)} (rw (c .before .before .before .before .before .before .before .before .enum-told .given .1) at (c .before .before .before .before .before .before .before .before .before .before .fixity-at .ensures)) (s-by {a = (mem X0 T0 N0 J0 L0 H0 S0)} {c = (mem X0 T0 N0 J2 L2 H2 S2)} {e = (mem X0 T0 N0 J2 L2 H2 S2)} _ (c .before .before .before .before .app .ensures) s-end))
 
 id-same-length-3 : (t : ℕ) → id-lts.Need-same-length-3 (id-told t) (id-at t) id.Post
 id-same-length-3 t c =
@@ -2811,10 +3248,18 @@ id-same-length-4 t c =
 id-returns-2 : (t : ℕ) → id-lts.Need-returns-2 (id-told t) (id-at t) id.Post
 unfolding expr.nameStep plan choose chosen
 id-returns-2 t c =
-    let pre0 = c .before .before .before .before .before .before .before .before .before .before .before .before .before .before .before .before .before .before .before .pre .1 .0 in
-    let fixity-at = rw (c .before .before .before .before .before .before .before .before .before .fix .given .1) at (c .before .before .before .before .before .before .before .before .before .before .before .fixity-at .ensures) in
-    let opr = c .before .before .before .before .opr .ensures in
-    in-steps pre0 (s-fixed fixity-at (s-by _ opr s-end))
+    let X0 = c .before .before .before .before .before .before .before .before .before .before .before .before .before .before .before .before .before .before .before .args .text .now in
+    let T0 = c .before .before .before .before .before .before .before .before .before .before .before .before .before .before .before .before .before .before .before .args .toks .now in
+    let N0 = c .before .before .before .before .before .before .before .before .before .before .before .before .before .before .before .before .before .before .before .args .env .now in
+    let J0 = c .before .before .before .before .before .before .before .before .before .before .before .before .before .before .before .before .before .before .before .args .table .now in
+    let L0 = c .before .before .before .before .before .before .before .before .before .before .before .before .before .before .before .before .before .before .before .args .scratch .now in
+    let H0 = c .before .before .before .before .before .before .before .before .before .before .before .before .before .before .before .before .before .before .before .args .finds .now in
+    let S0 = c .before .before .before .before .before .before .before .before .before .before .before .before .before .before .before .before .before .before .before .args .s in
+    let J2 = c .before .before .before .before .opr .last .1 .1 .1 .0 in
+    let L2 = c .before .before .before .before .opr .last .1 .1 .1 .1 .0 in
+    let H2 = c .before .before .before .before .opr .last .1 .1 .1 .1 .1 .0 in
+    let S2 = outState (c .before .before .before .before .opr .result) in
+    in-steps {m = (mem X0 T0 N0 J0 L0 H0 S0)} {m' = (mem X0 T0 N0 J2 L2 H2 S2)} (c .before .before .before .before .before .before .before .before .before .before .before .before .before .before .before .before .before .before .before .pre .1 .0) (s-fixed {a = (mem X0 T0 N0 J0 L0 H0 S0)} {e = (mem X0 T0 N0 J2 L2 H2 S2)} (rw (c .before .before .before .before .before .before .before .before .before .fix .given .1) at (c .before .before .before .before .before .before .before .before .before .before .before .fixity-at .ensures)) (s-by {a = (mem X0 T0 N0 J0 L0 H0 S0)} {c = (mem X0 T0 N0 J2 L2 H2 S2)} {e = (mem X0 T0 N0 J2 L2 H2 S2)} _ (c .before .before .before .before .opr .ensures) s-end))
 
 itm-arm-requires : (t : ℕ) → itm-lts.Need-arm-requires (itm-told t) (itm-at t) itm.Post
 itm-arm-requires t c κs =
@@ -2834,10 +3279,18 @@ itm-same-length-2 t c =
 itm-returns : (t : ℕ) → itm-lts.Need-returns (itm-told t) (itm-at t) itm.Post
 unfolding decl.manyClosure plan choose chosen
 itm-returns t c =
-    let pre0 = c .before .before .before .before .before .before .before .before .before .before .before .before .before .before .before .pre .1 in
-    let if1 = c .before .before .before .before .before .before .before .before .if1 .taken in
-    let arm = c .before .before .before .before .arm .ensures in
-    by-steps pre0 (λ b. s-first _ _ _ _ _ _ (eq-eqb _ _ if1) (s-by _ (runs-in arm) s-end))
+    let X0 = c .before .before .before .before .before .before .before .before .before .before .before .before .before .before .before .args .text .now in
+    let T0 = c .before .before .before .before .before .before .before .before .before .before .before .before .before .before .before .args .toks .now in
+    let N0 = c .before .before .before .before .before .before .before .before .before .before .before .before .before .before .before .args .env .now in
+    let J0 = c .before .before .before .before .before .before .before .before .before .before .before .before .before .before .before .args .table .now in
+    let L0 = c .before .before .before .before .before .before .before .before .before .before .before .before .before .before .before .args .scratch .now in
+    let H0 = c .before .before .before .before .before .before .before .before .before .before .before .before .before .before .before .args .finds .now in
+    let S0 = c .before .before .before .before .before .before .before .before .before .before .before .before .before .before .before .args .s in
+    let J2 = c .before .before .before .before .arm .last .1 .1 .1 .0 in
+    let L2 = c .before .before .before .before .arm .last .1 .1 .1 .1 .0 in
+    let H2 = c .before .before .before .before .arm .last .1 .1 .1 .1 .1 .0 in
+    let S2 = outState (c .before .before .before .before .arm .result) in
+    by-steps {m = (mem X0 T0 N0 J0 L0 H0 S0)} {m' = (mem X0 T0 N0 J2 L2 H2 S2)} (c .before .before .before .before .before .before .before .before .before .before .before .before .before .before .before .pre .1) (λ b. s-first {a = (mem X0 T0 N0 J0 L0 H0 S0)} {e = (mem X0 T0 N0 J2 L2 H2 S2)} _ _ _ _ _ _ (eq-eqb _ _ (c .before .before .before .before .before .before .before .before .if1 .taken)) (s-by {a = (mem X0 T0 N0 J0 L0 H0 S0)} {c = (mem X0 T0 N0 J2 L2 H2 S2)} {e = (mem X0 T0 N0 J2 L2 H2 S2)} _ (runs-in {a = (mem X0 T0 N0 J0 L0 H0 S0)} {c = (mem X0 T0 N0 J2 L2 H2 S2)} (c .before .before .before .before .arm .ensures)) s-end))
 
 itm-vl-requires : (t : ℕ) → itm-lts.Need-vl-requires (itm-told t) (itm-at t) itm.Post
 itm-vl-requires t c κs =
@@ -2858,11 +3311,18 @@ itm-same-length-4 t c =
 itm-returns-2 : (t : ℕ) → itm-lts.Need-returns-2 (itm-told t) (itm-at t) itm.Post
 unfolding decl.manyClosure plan choose chosen
 itm-returns-2 t c =
-    let pre0 = c .before .before .before .before .before .before .before .before .before .before .before .before .before .before .before .before .before .pre .1 in
-    let if1 = c .before .before .before .before .before .before .before .before .before .before .if1 .left in
-    let if2 = c .before .before .before .before .before .before .before .before .if2 .taken in
-    let vl = c .before .before .before .before .vl .ensures in
-    by-steps pre0 (λ b. s-second _ _ _ _ _ _ (ne-eqb _ _ if1) (s-first _ _ _ _ _ _ (eq-eqb _ _ if2) (s-by _ (runs-in vl) s-end)))
+    let X0 = c .before .before .before .before .before .before .before .before .before .before .before .before .before .before .before .before .before .args .text .now in
+    let T0 = c .before .before .before .before .before .before .before .before .before .before .before .before .before .before .before .before .before .args .toks .now in
+    let N0 = c .before .before .before .before .before .before .before .before .before .before .before .before .before .before .before .before .before .args .env .now in
+    let J0 = c .before .before .before .before .before .before .before .before .before .before .before .before .before .before .before .before .before .args .table .now in
+    let L0 = c .before .before .before .before .before .before .before .before .before .before .before .before .before .before .before .before .before .args .scratch .now in
+    let H0 = c .before .before .before .before .before .before .before .before .before .before .before .before .before .before .before .before .before .args .finds .now in
+    let S0 = c .before .before .before .before .before .before .before .before .before .before .before .before .before .before .before .before .before .args .s in
+    let J3 = c .before .before .before .before .vl .last .1 .1 .1 .0 in
+    let L3 = c .before .before .before .before .vl .last .1 .1 .1 .1 .0 in
+    let H3 = c .before .before .before .before .vl .last .1 .1 .1 .1 .1 .0 in
+    let S3 = outState (c .before .before .before .before .vl .result) in
+    by-steps {m = (mem X0 T0 N0 J0 L0 H0 S0)} {m' = (mem X0 T0 N0 J3 L3 H3 S3)} (c .before .before .before .before .before .before .before .before .before .before .before .before .before .before .before .before .before .pre .1) (λ b. s-second {a = (mem X0 T0 N0 J0 L0 H0 S0)} {e = (mem X0 T0 N0 J3 L3 H3 S3)} _ _ _ _ _ _ (ne-eqb _ _ (c .before .before .before .before .before .before .before .before .before .before .if1 .left)) (s-first {a = (mem X0 T0 N0 J0 L0 H0 S0)} {e = (mem X0 T0 N0 J3 L3 H3 S3)} _ _ _ _ _ _ (eq-eqb _ _ (c .before .before .before .before .before .before .before .before .if2 .taken)) (s-by {a = (mem X0 T0 N0 J0 L0 H0 S0)} {c = (mem X0 T0 N0 J3 L3 H3 S3)} {e = (mem X0 T0 N0 J3 L3 H3 S3)} _ (runs-in {a = (mem X0 T0 N0 J0 L0 H0 S0)} {c = (mem X0 T0 N0 J3 L3 H3 S3)} (c .before .before .before .before .vl .ensures)) s-end)))
 
 itm-fun-requires : (t : ℕ) → itm-lts.Need-fun-requires (itm-told t) (itm-at t) itm.Post
 itm-fun-requires t c κs =
@@ -2884,12 +3344,18 @@ itm-same-length-6 t c =
 itm-returns-3 : (t : ℕ) → itm-lts.Need-returns-3 (itm-told t) (itm-at t) itm.Post
 unfolding decl.manyClosure plan choose chosen
 itm-returns-3 t c =
-    let pre0 = c .before .before .before .before .before .before .before .before .before .before .before .before .before .before .before .before .before .before .before .pre .1 in
-    let if1 = c .before .before .before .before .before .before .before .before .before .before .before .before .if1 .left in
-    let if2 = c .before .before .before .before .before .before .before .before .before .before .if2 .left in
-    let if3 = c .before .before .before .before .before .before .before .before .if3 .taken in
-    let fun = c .before .before .before .before .fun .ensures in
-    by-steps pre0 (λ b. s-second _ _ _ _ _ _ (ne-eqb _ _ if1) (s-second _ _ _ _ _ _ (ne-eqb _ _ if2) (s-first _ _ _ _ _ _ (eq-eqb _ _ if3) (s-by _ (runs-in fun) s-end))))
+    let X0 = c .before .before .before .before .before .before .before .before .before .before .before .before .before .before .before .before .before .before .before .args .text .now in
+    let T0 = c .before .before .before .before .before .before .before .before .before .before .before .before .before .before .before .before .before .before .before .args .toks .now in
+    let N0 = c .before .before .before .before .before .before .before .before .before .before .before .before .before .before .before .before .before .before .before .args .env .now in
+    let J0 = c .before .before .before .before .before .before .before .before .before .before .before .before .before .before .before .before .before .before .before .args .table .now in
+    let L0 = c .before .before .before .before .before .before .before .before .before .before .before .before .before .before .before .before .before .before .before .args .scratch .now in
+    let H0 = c .before .before .before .before .before .before .before .before .before .before .before .before .before .before .before .before .before .before .before .args .finds .now in
+    let S0 = c .before .before .before .before .before .before .before .before .before .before .before .before .before .before .before .before .before .before .before .args .s in
+    let J4 = c .before .before .before .before .fun .last .1 .1 .1 .0 in
+    let L4 = c .before .before .before .before .fun .last .1 .1 .1 .1 .0 in
+    let H4 = c .before .before .before .before .fun .last .1 .1 .1 .1 .1 .0 in
+    let S4 = outState (c .before .before .before .before .fun .result) in
+    by-steps {m = (mem X0 T0 N0 J0 L0 H0 S0)} {m' = (mem X0 T0 N0 J4 L4 H4 S4)} (c .before .before .before .before .before .before .before .before .before .before .before .before .before .before .before .before .before .before .before .pre .1) (λ b. s-second {a = (mem X0 T0 N0 J0 L0 H0 S0)} {e = (mem X0 T0 N0 J4 L4 H4 S4)} _ _ _ _ _ _ (ne-eqb _ _ (c .before .before .before .before .before .before .before .before .before .before .before .before .if1 .left)) (s-second {a = (mem X0 T0 N0 J0 L0 H0 S0)} {e = (mem X0 T0 N0 J4 L4 H4 S4)} _ _ _ _ _ _ (ne-eqb _ _ (c .before .before .before .before .before .before .before .before .before .before .if2 .left)) (s-first {a = (mem X0 T0 N0 J0 L0 H0 S0)} {e = (mem X0 T0 N0 J4 L4 H4 S4)} _ _ _ _ _ _ (eq-eqb _ _ (c .before .before .before .before .before .before .before .before .if3 .taken)) (s-by {a = (mem X0 T0 N0 J0 L0 H0 S0)} {c = (mem X0 T0 N0 J4 L4 H4 S4)} {e = (mem X0 T0 N0 J4 L4 H4 S4)} _ (runs-in {a = (mem X0 T0 N0 J0 L0 H0 S0)} {c = (mem X0 T0 N0 J4 L4 H4 S4)} (c .before .before .before .before .fun .ensures)) s-end))))
 
 itm-cs-requires : (t : ℕ) → itm-lts.Need-cs-requires (itm-told t) (itm-at t) itm.Post
 itm-cs-requires t c κs =
@@ -2912,13 +3378,18 @@ itm-same-length-8 t c =
 itm-returns-4 : (t : ℕ) → itm-lts.Need-returns-4 (itm-told t) (itm-at t) itm.Post
 unfolding decl.manyClosure plan choose chosen
 itm-returns-4 t c =
-    let pre0 = c .before .before .before .before .before .before .before .before .before .before .before .before .before .before .before .before .before .before .before .before .before .pre .1 in
-    let if1 = c .before .before .before .before .before .before .before .before .before .before .before .before .before .before .if1 .left in
-    let if2 = c .before .before .before .before .before .before .before .before .before .before .before .before .if2 .left in
-    let if3 = c .before .before .before .before .before .before .before .before .before .before .if3 .left in
-    let if4 = c .before .before .before .before .before .before .before .before .if4 .taken in
-    let cs = c .before .before .before .before .cs .ensures in
-    by-steps pre0 (λ b. s-second _ _ _ _ _ _ (ne-eqb _ _ if1) (s-second _ _ _ _ _ _ (ne-eqb _ _ if2) (s-second _ _ _ _ _ _ (ne-eqb _ _ if3) (s-first _ _ _ _ _ _ (eq-eqb _ _ if4) (s-by _ (runs-in cs) s-end)))))
+    let X0 = c .before .before .before .before .before .before .before .before .before .before .before .before .before .before .before .before .before .before .before .before .before .args .text .now in
+    let T0 = c .before .before .before .before .before .before .before .before .before .before .before .before .before .before .before .before .before .before .before .before .before .args .toks .now in
+    let N0 = c .before .before .before .before .before .before .before .before .before .before .before .before .before .before .before .before .before .before .before .before .before .args .env .now in
+    let J0 = c .before .before .before .before .before .before .before .before .before .before .before .before .before .before .before .before .before .before .before .before .before .args .table .now in
+    let L0 = c .before .before .before .before .before .before .before .before .before .before .before .before .before .before .before .before .before .before .before .before .before .args .scratch .now in
+    let H0 = c .before .before .before .before .before .before .before .before .before .before .before .before .before .before .before .before .before .before .before .before .before .args .finds .now in
+    let S0 = c .before .before .before .before .before .before .before .before .before .before .before .before .before .before .before .before .before .before .before .before .before .args .s in
+    let J5 = c .before .before .before .before .cs .last .1 .1 .1 .0 in
+    let L5 = c .before .before .before .before .cs .last .1 .1 .1 .1 .0 in
+    let H5 = c .before .before .before .before .cs .last .1 .1 .1 .1 .1 .0 in
+    let S5 = outState (c .before .before .before .before .cs .result) in
+    by-steps {m = (mem X0 T0 N0 J0 L0 H0 S0)} {m' = (mem X0 T0 N0 J5 L5 H5 S5)} (c .before .before .before .before .before .before .before .before .before .before .before .before .before .before .before .before .before .before .before .before .before .pre .1) (λ b. s-second {a = (mem X0 T0 N0 J0 L0 H0 S0)} {e = (mem X0 T0 N0 J5 L5 H5 S5)} _ _ _ _ _ _ (ne-eqb _ _ (c .before .before .before .before .before .before .before .before .before .before .before .before .before .before .if1 .left)) (s-second {a = (mem X0 T0 N0 J0 L0 H0 S0)} {e = (mem X0 T0 N0 J5 L5 H5 S5)} _ _ _ _ _ _ (ne-eqb _ _ (c .before .before .before .before .before .before .before .before .before .before .before .before .if2 .left)) (s-second {a = (mem X0 T0 N0 J0 L0 H0 S0)} {e = (mem X0 T0 N0 J5 L5 H5 S5)} _ _ _ _ _ _ (ne-eqb _ _ (c .before .before .before .before .before .before .before .before .before .before .if3 .left)) (s-first {a = (mem X0 T0 N0 J0 L0 H0 S0)} {e = (mem X0 T0 N0 J5 L5 H5 S5)} _ _ _ _ _ _ (eq-eqb _ _ (c .before .before .before .before .before .before .before .before .if4 .taken)) (s-by {a = (mem X0 T0 N0 J0 L0 H0 S0)} {c = (mem X0 T0 N0 J5 L5 H5 S5)} {e = (mem X0 T0 N0 J5 L5 H5 S5)} _ (runs-in {a = (mem X0 T0 N0 J0 L0 H0 S0)} {c = (mem X0 T0 N0 J5 L5 H5 S5)} (c .before .before .before .before .cs .ensures)) s-end)))))
 
 itm-ex-requires : (t : ℕ) → itm-lts.Need-ex-requires (itm-told t) (itm-at t) itm.Post
 itm-ex-requires t c κs =
@@ -2942,14 +3413,18 @@ itm-same-length-10 t c =
 itm-returns-5 : (t : ℕ) → itm-lts.Need-returns-5 (itm-told t) (itm-at t) itm.Post
 unfolding decl.manyClosure plan choose chosen
 itm-returns-5 t c =
-    let pre0 = c .before .before .before .before .before .before .before .before .before .before .before .before .before .before .before .before .before .before .before .before .before .before .before .pre .1 in
-    let if1 = c .before .before .before .before .before .before .before .before .before .before .before .before .before .before .before .before .if1 .left in
-    let if2 = c .before .before .before .before .before .before .before .before .before .before .before .before .before .before .if2 .left in
-    let if3 = c .before .before .before .before .before .before .before .before .before .before .before .before .if3 .left in
-    let if4 = c .before .before .before .before .before .before .before .before .before .before .if4 .left in
-    let if5 = c .before .before .before .before .before .before .before .before .if5 .taken in
-    let ex = c .before .before .before .before .ex .ensures in
-    by-steps pre0 (λ b. s-second _ _ _ _ _ _ (ne-eqb _ _ if1) (s-second _ _ _ _ _ _ (ne-eqb _ _ if2) (s-second _ _ _ _ _ _ (ne-eqb _ _ if3) (s-second _ _ _ _ _ _ (ne-eqb _ _ if4) (s-first _ _ _ _ _ _ (eq-eqb _ _ if5) (s-by _ (runs-in ex) s-end))))))
+    let X0 = c .before .before .before .before .before .before .before .before .before .before .before .before .before .before .before .before .before .before .before .before .before .before .before .args .text .now in
+    let T0 = c .before .before .before .before .before .before .before .before .before .before .before .before .before .before .before .before .before .before .before .before .before .before .before .args .toks .now in
+    let N0 = c .before .before .before .before .before .before .before .before .before .before .before .before .before .before .before .before .before .before .before .before .before .before .before .args .env .now in
+    let J0 = c .before .before .before .before .before .before .before .before .before .before .before .before .before .before .before .before .before .before .before .before .before .before .before .args .table .now in
+    let L0 = c .before .before .before .before .before .before .before .before .before .before .before .before .before .before .before .before .before .before .before .before .before .before .before .args .scratch .now in
+    let H0 = c .before .before .before .before .before .before .before .before .before .before .before .before .before .before .before .before .before .before .before .before .before .before .before .args .finds .now in
+    let S0 = c .before .before .before .before .before .before .before .before .before .before .before .before .before .before .before .before .before .before .before .before .before .before .before .args .s in
+    let J6 = c .before .before .before .before .ex .last .1 .1 .1 .0 in
+    let L6 = c .before .before .before .before .ex .last .1 .1 .1 .1 .0 in
+    let H6 = c .before .before .before .before .ex .last .1 .1 .1 .1 .1 .0 in
+    let S6 = outState (c .before .before .before .before .ex .result) in
+    by-steps {m = (mem X0 T0 N0 J0 L0 H0 S0)} {m' = (mem X0 T0 N0 J6 L6 H6 S6)} (c .before .before .before .before .before .before .before .before .before .before .before .before .before .before .before .before .before .before .before .before .before .before .before .pre .1) (λ b. s-second {a = (mem X0 T0 N0 J0 L0 H0 S0)} {e = (mem X0 T0 N0 J6 L6 H6 S6)} _ _ _ _ _ _ (ne-eqb _ _ (c .before .before .before .before .before .before .before .before .before .before .before .before .before .before .before .before .if1 .left)) (s-second {a = (mem X0 T0 N0 J0 L0 H0 S0)} {e = (mem X0 T0 N0 J6 L6 H6 S6)} _ _ _ _ _ _ (ne-eqb _ _ (c .before .before .before .before .before .before .before .before .before .before .before .before .before .before .if2 .left)) (s-second {a = (mem X0 T0 N0 J0 L0 H0 S0)} {e = (mem X0 T0 N0 J6 L6 H6 S6)} _ _ _ _ _ _ (ne-eqb _ _ (c .before .before .before .before .before .before .before .before .before .before .before .before .if3 .left)) (s-second {a = (mem X0 T0 N0 J0 L0 H0 S0)} {e = (mem X0 T0 N0 J6 L6 H6 S6)} _ _ _ _ _ _ (ne-eqb _ _ (c .before .before .before .before .before .before .before .before .before .before .if4 .left)) (s-first {a = (mem X0 T0 N0 J0 L0 H0 S0)} {e = (mem X0 T0 N0 J6 L6 H6 S6)} _ _ _ _ _ _ (eq-eqb _ _ (c .before .before .before .before .before .before .before .before .if5 .taken)) (s-by {a = (mem X0 T0 N0 J0 L0 H0 S0)} {c = (mem X0 T0 N0 J6 L6 H6 S6)} {e = (mem X0 T0 N0 J6 L6 H6 S6)} _ (runs-in {a = (mem X0 T0 N0 J0 L0 H0 S0)} {c = (mem X0 T0 N0 J6 L6 H6 S6)} (c .before .before .before .before .ex .ensures)) s-end))))))
 
 itm-stb-requires : (t : ℕ) → itm-lts.Need-stb-requires (itm-told t) (itm-at t) itm.Post
 itm-stb-requires t c κs =
@@ -2974,15 +3449,18 @@ itm-same-length-12 t c =
 itm-returns-6 : (t : ℕ) → itm-lts.Need-returns-6 (itm-told t) (itm-at t) itm.Post
 unfolding decl.manyClosure plan choose chosen
 itm-returns-6 t c =
-    let pre0 = c .before .before .before .before .before .before .before .before .before .before .before .before .before .before .before .before .before .before .before .before .before .before .before .before .before .pre .1 in
-    let if1 = c .before .before .before .before .before .before .before .before .before .before .before .before .before .before .before .before .before .before .if1 .left in
-    let if2 = c .before .before .before .before .before .before .before .before .before .before .before .before .before .before .before .before .if2 .left in
-    let if3 = c .before .before .before .before .before .before .before .before .before .before .before .before .before .before .if3 .left in
-    let if4 = c .before .before .before .before .before .before .before .before .before .before .before .before .if4 .left in
-    let if5 = c .before .before .before .before .before .before .before .before .before .before .if5 .left in
-    let if6 = c .before .before .before .before .before .before .before .before .if6 .taken in
-    let stb = c .before .before .before .before .stb .ensures in
-    by-steps pre0 (λ b. s-second _ _ _ _ _ _ (ne-eqb _ _ if1) (s-second _ _ _ _ _ _ (ne-eqb _ _ if2) (s-second _ _ _ _ _ _ (ne-eqb _ _ if3) (s-second _ _ _ _ _ _ (ne-eqb _ _ if4) (s-second _ _ _ _ _ _ (ne-eqb _ _ if5) (s-first _ _ _ _ _ _ (eq-eqb _ _ if6) (s-by _ (runs-in stb) s-end)))))))
+    let X0 = c .before .before .before .before .before .before .before .before .before .before .before .before .before .before .before .before .before .before .before .before .before .before .before .before .before .args .text .now in
+    let T0 = c .before .before .before .before .before .before .before .before .before .before .before .before .before .before .before .before .before .before .before .before .before .before .before .before .before .args .toks .now in
+    let N0 = c .before .before .before .before .before .before .before .before .before .before .before .before .before .before .before .before .before .before .before .before .before .before .before .before .before .args .env .now in
+    let J0 = c .before .before .before .before .before .before .before .before .before .before .before .before .before .before .before .before .before .before .before .before .before .before .before .before .before .args .table .now in
+    let L0 = c .before .before .before .before .before .before .before .before .before .before .before .before .before .before .before .before .before .before .before .before .before .before .before .before .before .args .scratch .now in
+    let H0 = c .before .before .before .before .before .before .before .before .before .before .before .before .before .before .before .before .before .before .before .before .before .before .before .before .before .args .finds .now in
+    let S0 = c .before .before .before .before .before .before .before .before .before .before .before .before .before .before .before .before .before .before .before .before .before .before .before .before .before .args .s in
+    let J7 = c .before .before .before .before .stb .last .1 .1 .1 .0 in
+    let L7 = c .before .before .before .before .stb .last .1 .1 .1 .1 .0 in
+    let H7 = c .before .before .before .before .stb .last .1 .1 .1 .1 .1 .0 in
+    let S7 = outState (c .before .before .before .before .stb .result) in
+    by-steps {m = (mem X0 T0 N0 J0 L0 H0 S0)} {m' = (mem X0 T0 N0 J7 L7 H7 S7)} (c .before .before .before .before .before .before .before .before .before .before .before .before .before .before .before .before .before .before .before .before .before .before .before .before .before .pre .1) (λ b. s-second {a = (mem X0 T0 N0 J0 L0 H0 S0)} {e = (mem X0 T0 N0 J7 L7 H7 S7)} _ _ _ _ _ _ (ne-eqb _ _ (c .before .before .before .before .before .before .before .before .before .before .before .before .before .before .before .before .before .before .if1 .left)) (s-second {a = (mem X0 T0 N0 J0 L0 H0 S0)} {e = (mem X0 T0 N0 J7 L7 H7 S7)} _ _ _ _ _ _ (ne-eqb _ _ (c .before .before .before .before .before .before .before .before .before .before .before .before .before .before .before .before .if2 .left)) (s-second {a = (mem X0 T0 N0 J0 L0 H0 S0)} {e = (mem X0 T0 N0 J7 L7 H7 S7)} _ _ _ _ _ _ (ne-eqb _ _ (c .before .before .before .before .before .before .before .before .before .before .before .before .before .before .if3 .left)) (s-second {a = (mem X0 T0 N0 J0 L0 H0 S0)} {e = (mem X0 T0 N0 J7 L7 H7 S7)} _ _ _ _ _ _ (ne-eqb _ _ (c .before .before .before .before .before .before .before .before .before .before .before .before .if4 .left)) (s-second {a = (mem X0 T0 N0 J0 L0 H0 S0)} {e = (mem X0 T0 N0 J7 L7 H7 S7)} _ _ _ _ _ _ (ne-eqb _ _ (c .before .before .before .before .before .before .before .before .before .before .if5 .left)) (s-first {a = (mem X0 T0 N0 J0 L0 H0 S0)} {e = (mem X0 T0 N0 J7 L7 H7 S7)} _ _ _ _ _ _ (eq-eqb _ _ (c .before .before .before .before .before .before .before .before .if6 .taken)) (s-by {a = (mem X0 T0 N0 J0 L0 H0 S0)} {c = (mem X0 T0 N0 J7 L7 H7 S7)} {e = (mem X0 T0 N0 J7 L7 H7 S7)} _ (runs-in {a = (mem X0 T0 N0 J0 L0 H0 S0)} {c = (mem X0 T0 N0 J7 L7 H7 S7)} (c .before .before .before .before .stb .ensures)) s-end)))))))
 
 itm-sgb-requires : (t : ℕ) → itm-lts.Need-sgb-requires (itm-told t) (itm-at t) itm.Post
 itm-sgb-requires t c κs =
@@ -3008,16 +3486,18 @@ itm-same-length-14 t c =
 itm-returns-7 : (t : ℕ) → itm-lts.Need-returns-7 (itm-told t) (itm-at t) itm.Post
 unfolding decl.manyClosure plan choose chosen
 itm-returns-7 t c =
-    let pre0 = c .before .before .before .before .before .before .before .before .before .before .before .before .before .before .before .before .before .before .before .before .before .before .before .before .before .before .before .pre .1 in
-    let if1 = c .before .before .before .before .before .before .before .before .before .before .before .before .before .before .before .before .before .before .before .before .if1 .left in
-    let if2 = c .before .before .before .before .before .before .before .before .before .before .before .before .before .before .before .before .before .before .if2 .left in
-    let if3 = c .before .before .before .before .before .before .before .before .before .before .before .before .before .before .before .before .if3 .left in
-    let if4 = c .before .before .before .before .before .before .before .before .before .before .before .before .before .before .if4 .left in
-    let if5 = c .before .before .before .before .before .before .before .before .before .before .before .before .if5 .left in
-    let if6 = c .before .before .before .before .before .before .before .before .before .before .if6 .left in
-    let if7 = c .before .before .before .before .before .before .before .before .if7 .taken in
-    let sgb = c .before .before .before .before .sgb .ensures in
-    by-steps pre0 (λ b. s-second _ _ _ _ _ _ (ne-eqb _ _ if1) (s-second _ _ _ _ _ _ (ne-eqb _ _ if2) (s-second _ _ _ _ _ _ (ne-eqb _ _ if3) (s-second _ _ _ _ _ _ (ne-eqb _ _ if4) (s-second _ _ _ _ _ _ (ne-eqb _ _ if5) (s-second _ _ _ _ _ _ (ne-eqb _ _ if6) (s-first _ _ _ _ _ _ (eq-eqb _ _ if7) (s-by _ (runs-in sgb) s-end))))))))
+    let X0 = c .before .before .before .before .before .before .before .before .before .before .before .before .before .before .before .before .before .before .before .before .before .before .before .before .before .before .before .args .text .now in
+    let T0 = c .before .before .before .before .before .before .before .before .before .before .before .before .before .before .before .before .before .before .before .before .before .before .before .before .before .before .before .args .toks .now in
+    let N0 = c .before .before .before .before .before .before .before .before .before .before .before .before .before .before .before .before .before .before .before .before .before .before .before .before .before .before .before .args .env .now in
+    let J0 = c .before .before .before .before .before .before .before .before .before .before .before .before .before .before .before .before .before .before .before .before .before .before .before .before .before .before .before .args .table .now in
+    let L0 = c .before .before .before .before .before .before .before .before .before .before .before .before .before .before .before .before .before .before .before .before .before .before .before .before .before .before .before .args .scratch .now in
+    let H0 = c .before .before .before .before .before .before .before .before .before .before .before .before .before .before .before .before .before .before .before .before .before .before .before .before .before .before .before .args .finds .now in
+    let S0 = c .before .before .before .before .before .before .before .before .before .before .before .before .before .before .before .before .before .before .before .before .before .before .before .before .before .before .before .args .s in
+    let J8 = c .before .before .before .before .sgb .last .1 .1 .1 .0 in
+    let L8 = c .before .before .before .before .sgb .last .1 .1 .1 .1 .0 in
+    let H8 = c .before .before .before .before .sgb .last .1 .1 .1 .1 .1 .0 in
+    let S8 = outState (c .before .before .before .before .sgb .result) in
+    by-steps {m = (mem X0 T0 N0 J0 L0 H0 S0)} {m' = (mem X0 T0 N0 J8 L8 H8 S8)} (c .before .before .before .before .before .before .before .before .before .before .before .before .before .before .before .before .before .before .before .before .before .before .before .before .before .before .before .pre .1) (λ b. s-second {a = (mem X0 T0 N0 J0 L0 H0 S0)} {e = (mem X0 T0 N0 J8 L8 H8 S8)} _ _ _ _ _ _ (ne-eqb _ _ (c .before .before .before .before .before .before .before .before .before .before .before .before .before .before .before .before .before .before .before .before .if1 .left)) (s-second {a = (mem X0 T0 N0 J0 L0 H0 S0)} {e = (mem X0 T0 N0 J8 L8 H8 S8)} _ _ _ _ _ _ (ne-eqb _ _ (c .before .before .before .before .before .before .before .before .before .before .before .before .before .before .before .before .before .before .if2 .left)) (s-second {a = (mem X0 T0 N0 J0 L0 H0 S0)} {e = (mem X0 T0 N0 J8 L8 H8 S8)} _ _ _ _ _ _ (ne-eqb _ _ (c .before .before .before .before .before .before .before .before .before .before .before .before .before .before .before .before .if3 .left)) (s-second {a = (mem X0 T0 N0 J0 L0 H0 S0)} {e = (mem X0 T0 N0 J8 L8 H8 S8)} _ _ _ _ _ _ (ne-eqb _ _ (c .before .before .before .before .before .before .before .before .before .before .before .before .before .before .if4 .left)) (s-second {a = (mem X0 T0 N0 J0 L0 H0 S0)} {e = (mem X0 T0 N0 J8 L8 H8 S8)} _ _ _ _ _ _ (ne-eqb _ _ (c .before .before .before .before .before .before .before .before .before .before .before .before .if5 .left)) (s-second {a = (mem X0 T0 N0 J0 L0 H0 S0)} {e = (mem X0 T0 N0 J8 L8 H8 S8)} _ _ _ _ _ _ (ne-eqb _ _ (c .before .before .before .before .before .before .before .before .before .before .if6 .left)) (s-first {a = (mem X0 T0 N0 J0 L0 H0 S0)} {e = (mem X0 T0 N0 J8 L8 H8 S8)} _ _ _ _ _ _ (eq-eqb _ _ (c .before .before .before .before .before .before .before .before .if7 .taken)) (s-by {a = (mem X0 T0 N0 J0 L0 H0 S0)} {c = (mem X0 T0 N0 J8 L8 H8 S8)} {e = (mem X0 T0 N0 J8 L8 H8 S8)} _ (runs-in {a = (mem X0 T0 N0 J0 L0 H0 S0)} {c = (mem X0 T0 N0 J8 L8 H8 S8)} (c .before .before .before .before .sgb .ensures)) s-end))))))))
 
 itm-fct-requires : (t : ℕ) → itm-lts.Need-fct-requires (itm-told t) (itm-at t) itm.Post
 itm-fct-requires t c κs =
@@ -3043,16 +3523,18 @@ itm-same-length-16 t c =
 itm-returns-8 : (t : ℕ) → itm-lts.Need-returns-8 (itm-told t) (itm-at t) itm.Post
 unfolding decl.manyClosure plan choose chosen
 itm-returns-8 t c =
-    let pre0 = c .before .before .before .before .before .before .before .before .before .before .before .before .before .before .before .before .before .before .before .before .before .before .before .before .before .before .before .pre .1 in
-    let if1 = c .before .before .before .before .before .before .before .before .before .before .before .before .before .before .before .before .before .before .before .before .if1 .left in
-    let if2 = c .before .before .before .before .before .before .before .before .before .before .before .before .before .before .before .before .before .before .if2 .left in
-    let if3 = c .before .before .before .before .before .before .before .before .before .before .before .before .before .before .before .before .if3 .left in
-    let if4 = c .before .before .before .before .before .before .before .before .before .before .before .before .before .before .if4 .left in
-    let if5 = c .before .before .before .before .before .before .before .before .before .before .before .before .if5 .left in
-    let if6 = c .before .before .before .before .before .before .before .before .before .before .if6 .left in
-    let if7 = c .before .before .before .before .before .before .before .before .if7 .left in
-    let fct = c .before .before .before .before .fct .ensures in
-    by-steps pre0 (λ b. s-second _ _ _ _ _ _ (ne-eqb _ _ if1) (s-second _ _ _ _ _ _ (ne-eqb _ _ if2) (s-second _ _ _ _ _ _ (ne-eqb _ _ if3) (s-second _ _ _ _ _ _ (ne-eqb _ _ if4) (s-second _ _ _ _ _ _ (ne-eqb _ _ if5) (s-second _ _ _ _ _ _ (ne-eqb _ _ if6) (s-second _ _ _ _ _ _ (ne-eqb _ _ if7) (s-by _ (runs-in fct) s-end))))))))
+    let X0 = c .before .before .before .before .before .before .before .before .before .before .before .before .before .before .before .before .before .before .before .before .before .before .before .before .before .before .before .args .text .now in
+    let T0 = c .before .before .before .before .before .before .before .before .before .before .before .before .before .before .before .before .before .before .before .before .before .before .before .before .before .before .before .args .toks .now in
+    let N0 = c .before .before .before .before .before .before .before .before .before .before .before .before .before .before .before .before .before .before .before .before .before .before .before .before .before .before .before .args .env .now in
+    let J0 = c .before .before .before .before .before .before .before .before .before .before .before .before .before .before .before .before .before .before .before .before .before .before .before .before .before .before .before .args .table .now in
+    let L0 = c .before .before .before .before .before .before .before .before .before .before .before .before .before .before .before .before .before .before .before .before .before .before .before .before .before .before .before .args .scratch .now in
+    let H0 = c .before .before .before .before .before .before .before .before .before .before .before .before .before .before .before .before .before .before .before .before .before .before .before .before .before .before .before .args .finds .now in
+    let S0 = c .before .before .before .before .before .before .before .before .before .before .before .before .before .before .before .before .before .before .before .before .before .before .before .before .before .before .before .args .s in
+    let J8 = c .before .before .before .before .fct .last .1 .1 .1 .0 in
+    let L8 = c .before .before .before .before .fct .last .1 .1 .1 .1 .0 in
+    let H8 = c .before .before .before .before .fct .last .1 .1 .1 .1 .1 .0 in
+    let S8 = outState (c .before .before .before .before .fct .result) in
+    by-steps {m = (mem X0 T0 N0 J0 L0 H0 S0)} {m' = (mem X0 T0 N0 J8 L8 H8 S8)} (c .before .before .before .before .before .before .before .before .before .before .before .before .before .before .before .before .before .before .before .before .before .before .before .before .before .before .before .pre .1) (λ b. s-second {a = (mem X0 T0 N0 J0 L0 H0 S0)} {e = (mem X0 T0 N0 J8 L8 H8 S8)} _ _ _ _ _ _ (ne-eqb _ _ (c .before .before .before .before .before .before .before .before .before .before .before .before .before .before .before .before .before .before .before .before .if1 .left)) (s-second {a = (mem X0 T0 N0 J0 L0 H0 S0)} {e = (mem X0 T0 N0 J8 L8 H8 S8)} _ _ _ _ _ _ (ne-eqb _ _ (c .before .before .before .before .before .before .before .before .before .before .before .before .before .before .before .before .before .before .if2 .left)) (s-second {a = (mem X0 T0 N0 J0 L0 H0 S0)} {e = (mem X0 T0 N0 J8 L8 H8 S8)} _ _ _ _ _ _ (ne-eqb _ _ (c .before .before .before .before .before .before .before .before .before .before .before .before .before .before .before .before .if3 .left)) (s-second {a = (mem X0 T0 N0 J0 L0 H0 S0)} {e = (mem X0 T0 N0 J8 L8 H8 S8)} _ _ _ _ _ _ (ne-eqb _ _ (c .before .before .before .before .before .before .before .before .before .before .before .before .before .before .if4 .left)) (s-second {a = (mem X0 T0 N0 J0 L0 H0 S0)} {e = (mem X0 T0 N0 J8 L8 H8 S8)} _ _ _ _ _ _ (ne-eqb _ _ (c .before .before .before .before .before .before .before .before .before .before .before .before .if5 .left)) (s-second {a = (mem X0 T0 N0 J0 L0 H0 S0)} {e = (mem X0 T0 N0 J8 L8 H8 S8)} _ _ _ _ _ _ (ne-eqb _ _ (c .before .before .before .before .before .before .before .before .before .before .if6 .left)) (s-second {a = (mem X0 T0 N0 J0 L0 H0 S0)} {e = (mem X0 T0 N0 J8 L8 H8 S8)} _ _ _ _ _ _ (ne-eqb _ _ (c .before .before .before .before .before .before .before .before .if7 .left)) (s-by {a = (mem X0 T0 N0 J0 L0 H0 S0)} {c = (mem X0 T0 N0 J8 L8 H8 S8)} {e = (mem X0 T0 N0 J8 L8 H8 S8)} _ (runs-in {a = (mem X0 T0 N0 J0 L0 H0 S0)} {c = (mem X0 T0 N0 J8 L8 H8 S8)} (c .before .before .before .before .fct .ensures)) s-end))))))))
 
 kw-mat-requires : (t : ℕ) → kw-lts.Need-mat-requires (kw-told t) (kw-at t) kw.Post
 kw-mat-requires t c κs =
@@ -3080,11 +3562,20 @@ kw-same-length-2 t c =
 kw-returns : (t : ℕ) → kw-lts.Need-returns (kw-told t) (kw-at t) kw.Post
 unfolding expr.keyed plan choose chosen
 kw-returns t c =
-    let pre0 = c .before .before .before .before .before .before .before .before .before .before .before .before .before .before .before .before .before .before .pre .1 .0 in
-    let if1 = c .before .before .before .before .before .before .before .before .before .before .before .before .if1 .taken in
-    let mat = c .before .before .before .before .before .before .before .before .mat .ensures in
-    let close = c .before .before .close .ensures in
-    in-steps pre0 (s-true _ _ (kind-is if1) (s-by _ (runs-in mat) (s-close close s-end)))
+    let X0 = c .before .before .before .before .before .before .before .before .before .before .before .before .before .before .before .before .before .before .args .text .now in
+    let T0 = c .before .before .before .before .before .before .before .before .before .before .before .before .before .before .before .before .before .before .args .toks .now in
+    let N0 = c .before .before .before .before .before .before .before .before .before .before .before .before .before .before .before .before .before .before .args .env .now in
+    let J0 = c .before .before .before .before .before .before .before .before .before .before .before .before .before .before .before .before .before .before .args .table .now in
+    let L0 = c .before .before .before .before .before .before .before .before .before .before .before .before .before .before .before .before .before .before .args .scratch .now in
+    let H0 = c .before .before .before .before .before .before .before .before .before .before .before .before .before .before .before .before .before .before .args .finds .now in
+    let S0 = c .before .before .before .before .before .before .before .before .before .before .before .before .before .before .before .before .before .before .args .s in
+    let J2 = c .before .before .before .before .before .before .before .before .mat .last .1 .1 .1 .0 in
+    let L2 = c .before .before .before .before .before .before .before .before .mat .last .1 .1 .1 .1 .0 in
+    let H2 = c .before .before .before .before .before .before .before .before .mat .last .1 .1 .1 .1 .1 .0 in
+    let S2 = c .before .before .before .before .before .before .before .before .mat .result in
+    let L3 = c .before .before .close .last .0 in
+    let S3 = c .before .before .close .result in
+    in-steps {m = (mem X0 T0 N0 J0 L0 H0 S0)} {m' = (mem X0 T0 N0 J2 L3 H2 S3)} (c .before .before .before .before .before .before .before .before .before .before .before .before .before .before .before .before .before .before .pre .1 .0) (s-true {a = (mem X0 T0 N0 J0 L0 H0 S0)} {e = (mem X0 T0 N0 J2 L3 H2 S3)} _ _ (kind-is (c .before .before .before .before .before .before .before .before .before .before .before .before .if1 .taken)) (s-by {a = (mem X0 T0 N0 J0 L0 H0 S0)} {c = (mem X0 T0 N0 J2 L2 H2 S2)} {e = (mem X0 T0 N0 J2 L3 H2 S3)} _ (runs-in {a = (mem X0 T0 N0 J0 L0 H0 S0)} {c = (mem X0 T0 N0 J2 L2 H2 S2)} (c .before .before .before .before .before .before .before .before .mat .ensures)) (s-close {e = (mem X0 T0 N0 J2 L3 H2 S3)} {x = X0} {t = T0} {n = N0} {j = J2} {l = L2} {h = H2} {s = S2} {s' = S3} {l' = L3} (c .before .before .close .ensures) s-end)))
 
 kw-exp-requires : (t : ℕ) → kw-lts.Need-exp-requires (kw-told t) (kw-at t) kw.Post
 kw-exp-requires t c κs =
@@ -3112,12 +3603,20 @@ kw-same-length-4 t c =
 kw-returns-2 : (t : ℕ) → kw-lts.Need-returns-2 (kw-told t) (kw-at t) kw.Post
 unfolding expr.keyed plan choose chosen
 kw-returns-2 t c =
-    let pre0 = c .before .before .before .before .before .before .before .before .before .before .before .before .before .before .before .before .before .before .before .pre .1 .0 in
-    let if1 = c .before .before .before .before .before .before .before .before .before .before .before .before .before .if1 .left in
-    let exp = c .before .before .before .before .before .before .before .before .before .exp .ensures in
-    let if2 = c .before .before .before .before .if2 .taken in
-    let close2 = c .before .before .close2 .ensures in
-    in-steps pre0 (s-false _ _ (kind-not if1) (s-by _ (runs-in exp) (s-true _ _ (kind-is if2) (s-close close2 s-end))))
+    let X0 = c .before .before .before .before .before .before .before .before .before .before .before .before .before .before .before .before .before .before .before .args .text .now in
+    let T0 = c .before .before .before .before .before .before .before .before .before .before .before .before .before .before .before .before .before .before .before .args .toks .now in
+    let N0 = c .before .before .before .before .before .before .before .before .before .before .before .before .before .before .before .before .before .before .before .args .env .now in
+    let J0 = c .before .before .before .before .before .before .before .before .before .before .before .before .before .before .before .before .before .before .before .args .table .now in
+    let L0 = c .before .before .before .before .before .before .before .before .before .before .before .before .before .before .before .before .before .before .before .args .scratch .now in
+    let H0 = c .before .before .before .before .before .before .before .before .before .before .before .before .before .before .before .before .before .before .before .args .finds .now in
+    let S0 = c .before .before .before .before .before .before .before .before .before .before .before .before .before .before .before .before .before .before .before .args .s in
+    let J2 = c .before .before .before .before .before .before .before .before .before .exp .last .1 .1 .1 .0 in
+    let L2 = c .before .before .before .before .before .before .before .before .before .exp .last .1 .1 .1 .1 .0 in
+    let H2 = c .before .before .before .before .before .before .before .before .before .exp .last .1 .1 .1 .1 .1 .0 in
+    let S2 = c .before .before .before .before .before .before .before .before .before .exp .result in
+    let L4 = c .before .before .close2 .last .0 in
+    let S4 = c .before .before .close2 .result in
+    in-steps {m = (mem X0 T0 N0 J0 L0 H0 S0)} {m' = (mem X0 T0 N0 J2 L4 H2 S4)} (c .before .before .before .before .before .before .before .before .before .before .before .before .before .before .before .before .before .before .before .pre .1 .0) (s-false {a = (mem X0 T0 N0 J0 L0 H0 S0)} {e = (mem X0 T0 N0 J2 L4 H2 S4)} _ _ (kind-not (c .before .before .before .before .before .before .before .before .before .before .before .before .before .if1 .left)) (s-by {a = (mem X0 T0 N0 J0 L0 H0 S0)} {c = (mem X0 T0 N0 J2 L2 H2 S2)} {e = (mem X0 T0 N0 J2 L4 H2 S4)} _ (runs-in {a = (mem X0 T0 N0 J0 L0 H0 S0)} {c = (mem X0 T0 N0 J2 L2 H2 S2)} (c .before .before .before .before .before .before .before .before .before .exp .ensures)) (s-true {a = (mem X0 T0 N0 J2 L2 H2 S2)} {e = (mem X0 T0 N0 J2 L4 H2 S4)} _ _ (kind-is (c .before .before .before .before .if2 .taken)) (s-close {e = (mem X0 T0 N0 J2 L4 H2 S4)} {x = X0} {t = T0} {n = N0} {j = J2} {l = L2} {h = H2} {s = S2} {s' = S4} {l' = L4} (c .before .before .close2 .ensures) s-end))))
 
 kw-we-requires : (t : ℕ) → kw-lts.Need-we-requires (kw-told t) (kw-at t) kw.Post
 kw-we-requires t c κs =
@@ -3159,15 +3658,28 @@ kw-same-length-6 t c =
 kw-returns-3 : (t : ℕ) → kw-lts.Need-returns-3 (kw-told t) (kw-at t) kw.Post
 unfolding expr.keyed plan choose chosen
 kw-returns-3 t c =
-    let pre0 = c .before .before .before .before .before .before .before .before .before .before .before .before .before .before .before .before .before .before .before .before .before .before .before .before .before .before .before .before .before .before .before .before .before .before .before .before .pre .1 .0 in
-    let if1 = c .before .before .before .before .before .before .before .before .before .before .before .before .before .before .before .before .before .before .before .before .before .before .before .before .before .before .before .before .before .before .if1 .left in
-    let exp = c .before .before .before .before .before .before .before .before .before .before .before .before .before .before .before .before .before .before .before .before .before .before .before .before .before .before .exp .ensures in
-    let if2 = c .before .before .before .before .before .before .before .before .before .before .before .before .before .before .before .before .before .before .before .before .before .if2 .left in
-    let if3 = c .before .before .before .before .before .before .before .before .before .before .before .before .before .before .before .before .before .before .before .before .if3 .taken in
-    let we = c .before .before .before .before .before .before .before .before .before .before .before .before .before .before .before .before .we .ensures in
-    let we2 = c .before .before .before .before .before .before .before .before .we2 .ensures in
-    let close3 = c .before .before .close3 .ensures in
-    in-steps pre0 (s-false _ _ (kind-not if1) (s-by _ (runs-in exp) (s-false _ _ (kind-not if2) (s-true _ _ (kind-is if3) (s-by _ (runs-in we) (s-by _ (runs-in we2) (s-close close3 s-end)))))))
+    let X0 = c .before .before .before .before .before .before .before .before .before .before .before .before .before .before .before .before .before .before .before .before .before .before .before .before .before .before .before .before .before .before .before .before .before .before .before .before .args .text .now in
+    let T0 = c .before .before .before .before .before .before .before .before .before .before .before .before .before .before .before .before .before .before .before .before .before .before .before .before .before .before .before .before .before .before .before .before .before .before .before .before .args .toks .now in
+    let N0 = c .before .before .before .before .before .before .before .before .before .before .before .before .before .before .before .before .before .before .before .before .before .before .before .before .before .before .before .before .before .before .before .before .before .before .before .before .args .env .now in
+    let J0 = c .before .before .before .before .before .before .before .before .before .before .before .before .before .before .before .before .before .before .before .before .before .before .before .before .before .before .before .before .before .before .before .before .before .before .before .before .args .table .now in
+    let L0 = c .before .before .before .before .before .before .before .before .before .before .before .before .before .before .before .before .before .before .before .before .before .before .before .before .before .before .before .before .before .before .before .before .before .before .before .before .args .scratch .now in
+    let H0 = c .before .before .before .before .before .before .before .before .before .before .before .before .before .before .before .before .before .before .before .before .before .before .before .before .before .before .before .before .before .before .before .before .before .before .before .before .args .finds .now in
+    let S0 = c .before .before .before .before .before .before .before .before .before .before .before .before .before .before .before .before .before .before .before .before .before .before .before .before .before .before .before .before .before .before .before .before .before .before .before .before .args .s in
+    let J2 = c .before .before .before .before .before .before .before .before .before .before .before .before .before .before .before .before .before .before .before .before .before .before .before .before .before .before .exp .last .1 .1 .1 .0 in
+    let L2 = c .before .before .before .before .before .before .before .before .before .before .before .before .before .before .before .before .before .before .before .before .before .before .before .before .before .before .exp .last .1 .1 .1 .1 .0 in
+    let H2 = c .before .before .before .before .before .before .before .before .before .before .before .before .before .before .before .before .before .before .before .before .before .before .before .before .before .before .exp .last .1 .1 .1 .1 .1 .0 in
+    let S2 = c .before .before .before .before .before .before .before .before .before .before .before .before .before .before .before .before .before .before .before .before .before .before .before .before .before .before .exp .result in
+    let J5 = c .before .before .before .before .before .before .before .before .before .before .before .before .before .before .before .before .we .last .1 .1 .1 .0 in
+    let L5 = c .before .before .before .before .before .before .before .before .before .before .before .before .before .before .before .before .we .last .1 .1 .1 .1 .0 in
+    let H5 = c .before .before .before .before .before .before .before .before .before .before .before .before .before .before .before .before .we .last .1 .1 .1 .1 .1 .0 in
+    let S5 = c .before .before .before .before .before .before .before .before .before .before .before .before .before .before .before .before .we .result in
+    let J6 = c .before .before .before .before .before .before .before .before .we2 .last .1 .1 .1 .0 in
+    let L6 = c .before .before .before .before .before .before .before .before .we2 .last .1 .1 .1 .1 .0 in
+    let H6 = c .before .before .before .before .before .before .before .before .we2 .last .1 .1 .1 .1 .1 .0 in
+    let S6 = c .before .before .before .before .before .before .before .before .we2 .result in
+    let L7 = c .before .before .close3 .last .0 in
+    let S7 = c .before .before .close3 .result in
+    in-steps {m = (mem X0 T0 N0 J0 L0 H0 S0)} {m' = (mem X0 T0 N0 J6 L7 H6 S7)} (c .before .before .before .before .before .before .before .before .before .before .before .before .before .before .before .before .before .before .before .before .before .before .before .before .before .before .before .before .before .before .before .before .before .before .before .before .pre .1 .0) (s-false {a = (mem X0 T0 N0 J0 L0 H0 S0)} {e = (mem X0 T0 N0 J6 L7 H6 S7)} _ _ (kind-not (c .before .before .before .before .before .before .before .before .before .before .before .before .before .before .before .before .before .before .before .before .before .before .before .before .before .before .before .before .before .before .if1 .left)) (s-by {a = (mem X0 T0 N0 J0 L0 H0 S0)} {c = (mem X0 T0 N0 J2 L2 H2 S2)} {e = (mem X0 T0 N0 J6 L7 H6 S7)} _ (runs-in {a = (mem X0 T0 N0 J0 L0 H0 S0)} {c = (mem X0 T0 N0 J2 L2 H2 S2)} (c .before .before .before .before .before .before .before .before .before .before .before .before .before .before .before .before .before .before .before .before .before .before .before .before .before .before .exp .ensures)) (s-false {a = (mem X0 T0 N0 J2 L2 H2 S2)} {e = (mem X0 T0 N0 J6 L7 H6 S7)} _ _ (kind-not (c .before .before .before .before .before .before .before .before .before .before .before .before .before .before .before .before .before .before .before .before .before .if2 .left)) (s-true {a = (mem X0 T0 N0 J2 L2 H2 S2)} {e = (mem X0 T0 N0 J6 L7 H6 S7)} _ _ (kind-is (c .before .before .before .before .before .before .before .before .before .before .before .before .before .before .before .before .before .before .before .before .if3 .taken)) (s-by {a = (mem X0 T0 N0 J2 L2 H2 S2)} {c = (mem X0 T0 N0 J5 L5 H5 S5)} {e = (mem X0 T0 N0 J6 L7 H6 S7)} _ (runs-in {a = (mem X0 T0 N0 J2 L2 H2 S2)} {c = (mem X0 T0 N0 J5 L5 H5 S5)} (c .before .before .before .before .before .before .before .before .before .before .before .before .before .before .before .before .we .ensures)) (s-by {a = (mem X0 T0 N0 J5 L5 H5 S5)} {c = (mem X0 T0 N0 J6 L6 H6 S6)} {e = (mem X0 T0 N0 J6 L7 H6 S7)} _ (runs-in {a = (mem X0 T0 N0 J5 L5 H5 S5)} {c = (mem X0 T0 N0 J6 L6 H6 S6)} (c .before .before .before .before .before .before .before .before .we2 .ensures)) (s-close {e = (mem X0 T0 N0 J6 L7 H6 S7)} {x = X0} {t = T0} {n = N0} {j = J6} {l = L6} {h = H6} {s = S6} {s' = S7} {l' = L7} (c .before .before .close3 .ensures) s-end)))))))
 
 kw-we-requires-3 : (t : ℕ) → kw-lts.Need-we-requires-3 (kw-told t) (kw-at t) kw.Post
 kw-we-requires-3 t c κs =
@@ -3199,15 +3711,24 @@ kw-same-length-8 t c =
 kw-returns-4 : (t : ℕ) → kw-lts.Need-returns-4 (kw-told t) (kw-at t) kw.Post
 unfolding expr.keyed plan choose chosen
 kw-returns-4 t c =
-    let pre0 = c .before .before .before .before .before .before .before .before .before .before .before .before .before .before .before .before .before .before .before .before .before .before .before .before .before .before .before .before .before .pre .1 .0 in
-    let if1 = c .before .before .before .before .before .before .before .before .before .before .before .before .before .before .before .before .before .before .before .before .before .before .before .if1 .left in
-    let exp = c .before .before .before .before .before .before .before .before .before .before .before .before .before .before .before .before .before .before .before .exp .ensures in
-    let if2 = c .before .before .before .before .before .before .before .before .before .before .before .before .before .before .if2 .left in
-    let if3 = c .before .before .before .before .before .before .before .before .before .before .before .before .before .if3 .left in
-    let if4 = c .before .before .before .before .before .before .before .before .before .before .before .before .if4 .taken in
-    let we3 = c .before .before .before .before .before .before .before .before .we3 .ensures in
-    let close4 = c .before .before .close4 .ensures in
-    in-steps pre0 (s-false _ _ (kind-not if1) (s-by _ (runs-in exp) (s-false _ _ (kind-not if2) (s-false _ _ (kind-not if3) (s-true _ _ (kind-is if4) (s-by _ (runs-in we3) (s-close close4 s-end)))))))
+    let X0 = c .before .before .before .before .before .before .before .before .before .before .before .before .before .before .before .before .before .before .before .before .before .before .before .before .before .before .before .before .before .args .text .now in
+    let T0 = c .before .before .before .before .before .before .before .before .before .before .before .before .before .before .before .before .before .before .before .before .before .before .before .before .before .before .before .before .before .args .toks .now in
+    let N0 = c .before .before .before .before .before .before .before .before .before .before .before .before .before .before .before .before .before .before .before .before .before .before .before .before .before .before .before .before .before .args .env .now in
+    let J0 = c .before .before .before .before .before .before .before .before .before .before .before .before .before .before .before .before .before .before .before .before .before .before .before .before .before .before .before .before .before .args .table .now in
+    let L0 = c .before .before .before .before .before .before .before .before .before .before .before .before .before .before .before .before .before .before .before .before .before .before .before .before .before .before .before .before .before .args .scratch .now in
+    let H0 = c .before .before .before .before .before .before .before .before .before .before .before .before .before .before .before .before .before .before .before .before .before .before .before .before .before .before .before .before .before .args .finds .now in
+    let S0 = c .before .before .before .before .before .before .before .before .before .before .before .before .before .before .before .before .before .before .before .before .before .before .before .before .before .before .before .before .before .args .s in
+    let J2 = c .before .before .before .before .before .before .before .before .before .before .before .before .before .before .before .before .before .before .before .exp .last .1 .1 .1 .0 in
+    let L2 = c .before .before .before .before .before .before .before .before .before .before .before .before .before .before .before .before .before .before .before .exp .last .1 .1 .1 .1 .0 in
+    let H2 = c .before .before .before .before .before .before .before .before .before .before .before .before .before .before .before .before .before .before .before .exp .last .1 .1 .1 .1 .1 .0 in
+    let S2 = c .before .before .before .before .before .before .before .before .before .before .before .before .before .before .before .before .before .before .before .exp .result in
+    let J6 = c .before .before .before .before .before .before .before .before .we3 .last .1 .1 .1 .0 in
+    let L6 = c .before .before .before .before .before .before .before .before .we3 .last .1 .1 .1 .1 .0 in
+    let H6 = c .before .before .before .before .before .before .before .before .we3 .last .1 .1 .1 .1 .1 .0 in
+    let S6 = c .before .before .before .before .before .before .before .before .we3 .result in
+    let L7 = c .before .before .close4 .last .0 in
+    let S7 = c .before .before .close4 .result in
+    in-steps {m = (mem X0 T0 N0 J0 L0 H0 S0)} {m' = (mem X0 T0 N0 J6 L7 H6 S7)} (c .before .before .before .before .before .before .before .before .before .before .before .before .before .before .before .before .before .before .before .before .before .before .before .before .before .before .before .before .before .pre .1 .0) (s-false {a = (mem X0 T0 N0 J0 L0 H0 S0)} {e = (mem X0 T0 N0 J6 L7 H6 S7)} _ _ (kind-not (c .before .before .before .before .before .before .before .before .before .before .before .before .before .before .before .before .before .before .before .before .before .before .before .if1 .left)) (s-by {a = (mem X0 T0 N0 J0 L0 H0 S0)} {c = (mem X0 T0 N0 J2 L2 H2 S2)} {e = (mem X0 T0 N0 J6 L7 H6 S7)} _ (runs-in {a = (mem X0 T0 N0 J0 L0 H0 S0)} {c = (mem X0 T0 N0 J2 L2 H2 S2)} (c .before .before .before .before .before .before .before .before .before .before .before .before .before .before .before .before .before .before .before .exp .ensures)) (s-false {a = (mem X0 T0 N0 J2 L2 H2 S2)} {e = (mem X0 T0 N0 J6 L7 H6 S7)} _ _ (kind-not (c .before .before .before .before .before .before .before .before .before .before .before .before .before .before .if2 .left)) (s-false {a = (mem X0 T0 N0 J2 L2 H2 S2)} {e = (mem X0 T0 N0 J6 L7 H6 S7)} _ _ (kind-not (c .before .before .before .before .before .before .before .before .before .before .before .before .before .if3 .left)) (s-true {a = (mem X0 T0 N0 J2 L2 H2 S2)} {e = (mem X0 T0 N0 J6 L7 H6 S7)} _ _ (kind-is (c .before .before .before .before .before .before .before .before .before .before .before .before .if4 .taken)) (s-by {a = (mem X0 T0 N0 J2 L2 H2 S2)} {c = (mem X0 T0 N0 J6 L6 H6 S6)} {e = (mem X0 T0 N0 J6 L7 H6 S7)} _ (runs-in {a = (mem X0 T0 N0 J2 L2 H2 S2)} {c = (mem X0 T0 N0 J6 L6 H6 S6)} (c .before .before .before .before .before .before .before .before .we3 .ensures)) (s-close {e = (mem X0 T0 N0 J6 L7 H6 S7)} {x = X0} {t = T0} {n = N0} {j = J6} {l = L6} {h = H6} {s = S6} {s' = S7} {l' = L7} (c .before .before .close4 .ensures) s-end)))))))
 
 kw-want-requires : (t : ℕ) → kw-lts.Need-want-requires (kw-told t) (kw-at t) kw.Post
 kw-want-requires t c κs =
@@ -3253,16 +3774,27 @@ kw-same-length-10 t c =
 kw-returns-5 : (t : ℕ) → kw-lts.Need-returns-5 (kw-told t) (kw-at t) kw.Post
 unfolding expr.keyed plan choose chosen
 kw-returns-5 t c =
-    let pre0 = c .before .before .before .before .before .before .before .before .before .before .before .before .before .before .before .before .before .before .before .before .before .before .before .before .before .before .before .before .before .before .before .before .before .before .before .before .pre .1 .0 in
-    let if1 = c .before .before .before .before .before .before .before .before .before .before .before .before .before .before .before .before .before .before .before .before .before .before .before .before .before .before .before .before .before .before .if1 .left in
-    let exp = c .before .before .before .before .before .before .before .before .before .before .before .before .before .before .before .before .before .before .before .before .before .before .before .before .before .before .exp .ensures in
-    let if2 = c .before .before .before .before .before .before .before .before .before .before .before .before .before .before .before .before .before .before .before .before .before .if2 .left in
-    let if3 = c .before .before .before .before .before .before .before .before .before .before .before .before .before .before .before .before .before .before .before .before .if3 .left in
-    let if4 = c .before .before .before .before .before .before .before .before .before .before .before .before .before .before .before .before .before .before .before .if4 .left in
-    let want = c .before .before .before .before .before .before .before .before .before .before .before .before .before .before .before .before .want .ensures in
-    let mat2 = c .before .before .before .before .before .before .before .before .mat2 .ensures in
-    let close5 = c .before .before .close5 .ensures in
-    in-steps pre0 (s-false _ _ (kind-not if1) (s-by _ (runs-in exp) (s-false _ _ (kind-not if2) (s-false _ _ (kind-not if3) (s-false _ _ (kind-not if4) (s-eats _ _ _ want (s-by _ (runs-in mat2) (s-close close5 s-end))))))))
+    let X0 = c .before .before .before .before .before .before .before .before .before .before .before .before .before .before .before .before .before .before .before .before .before .before .before .before .before .before .before .before .before .before .before .before .before .before .before .before .args .text .now in
+    let T0 = c .before .before .before .before .before .before .before .before .before .before .before .before .before .before .before .before .before .before .before .before .before .before .before .before .before .before .before .before .before .before .before .before .before .before .before .before .args .toks .now in
+    let N0 = c .before .before .before .before .before .before .before .before .before .before .before .before .before .before .before .before .before .before .before .before .before .before .before .before .before .before .before .before .before .before .before .before .before .before .before .before .args .env .now in
+    let J0 = c .before .before .before .before .before .before .before .before .before .before .before .before .before .before .before .before .before .before .before .before .before .before .before .before .before .before .before .before .before .before .before .before .before .before .before .before .args .table .now in
+    let L0 = c .before .before .before .before .before .before .before .before .before .before .before .before .before .before .before .before .before .before .before .before .before .before .before .before .before .before .before .before .before .before .before .before .before .before .before .before .args .scratch .now in
+    let H0 = c .before .before .before .before .before .before .before .before .before .before .before .before .before .before .before .before .before .before .before .before .before .before .before .before .before .before .before .before .before .before .before .before .before .before .before .before .args .finds .now in
+    let S0 = c .before .before .before .before .before .before .before .before .before .before .before .before .before .before .before .before .before .before .before .before .before .before .before .before .before .before .before .before .before .before .before .before .before .before .before .before .args .s in
+    let J2 = c .before .before .before .before .before .before .before .before .before .before .before .before .before .before .before .before .before .before .before .before .before .before .before .before .before .before .exp .last .1 .1 .1 .0 in
+    let L2 = c .before .before .before .before .before .before .before .before .before .before .before .before .before .before .before .before .before .before .before .before .before .before .before .before .before .before .exp .last .1 .1 .1 .1 .0 in
+    let H2 = c .before .before .before .before .before .before .before .before .before .before .before .before .before .before .before .before .before .before .before .before .before .before .before .before .before .before .exp .last .1 .1 .1 .1 .1 .0 in
+    let S2 = c .before .before .before .before .before .before .before .before .before .before .before .before .before .before .before .before .before .before .before .before .before .before .before .before .before .before .exp .result in
+    let L6 = c .before .before .before .before .before .before .before .before .before .before .before .before .before .before .before .before .want .last .1 .0 in
+    let H6 = c .before .before .before .before .before .before .before .before .before .before .before .before .before .before .before .before .want .last .1 .1 .0 in
+    let S6 = c .before .before .before .before .before .before .before .before .before .before .before .before .before .before .before .before .want .result in
+    let J7 = c .before .before .before .before .before .before .before .before .mat2 .last .1 .1 .1 .0 in
+    let L7 = c .before .before .before .before .before .before .before .before .mat2 .last .1 .1 .1 .1 .0 in
+    let H7 = c .before .before .before .before .before .before .before .before .mat2 .last .1 .1 .1 .1 .1 .0 in
+    let S7 = c .before .before .before .before .before .before .before .before .mat2 .result in
+    let L8 = c .before .before .close5 .last .0 in
+    let S8 = c .before .before .close5 .result in
+    in-steps {m = (mem X0 T0 N0 J0 L0 H0 S0)} {m' = (mem X0 T0 N0 J7 L8 H7 S8)} (c .before .before .before .before .before .before .before .before .before .before .before .before .before .before .before .before .before .before .before .before .before .before .before .before .before .before .before .before .before .before .before .before .before .before .before .before .pre .1 .0) (s-false {a = (mem X0 T0 N0 J0 L0 H0 S0)} {e = (mem X0 T0 N0 J7 L8 H7 S8)} _ _ (kind-not (c .before .before .before .before .before .before .before .before .before .before .before .before .before .before .before .before .before .before .before .before .before .before .before .before .before .before .before .before .before .before .if1 .left)) (s-by {a = (mem X0 T0 N0 J0 L0 H0 S0)} {c = (mem X0 T0 N0 J2 L2 H2 S2)} {e = (mem X0 T0 N0 J7 L8 H7 S8)} _ (runs-in {a = (mem X0 T0 N0 J0 L0 H0 S0)} {c = (mem X0 T0 N0 J2 L2 H2 S2)} (c .before .before .before .before .before .before .before .before .before .before .before .before .before .before .before .before .before .before .before .before .before .before .before .before .before .before .exp .ensures)) (s-false {a = (mem X0 T0 N0 J2 L2 H2 S2)} {e = (mem X0 T0 N0 J7 L8 H7 S8)} _ _ (kind-not (c .before .before .before .before .before .before .before .before .before .before .before .before .before .before .before .before .before .before .before .before .before .if2 .left)) (s-false {a = (mem X0 T0 N0 J2 L2 H2 S2)} {e = (mem X0 T0 N0 J7 L8 H7 S8)} _ _ (kind-not (c .before .before .before .before .before .before .before .before .before .before .before .before .before .before .before .before .before .before .before .before .if3 .left)) (s-false {a = (mem X0 T0 N0 J2 L2 H2 S2)} {e = (mem X0 T0 N0 J7 L8 H7 S8)} _ _ (kind-not (c .before .before .before .before .before .before .before .before .before .before .before .before .before .before .before .before .before .before .before .if4 .left)) (s-eats _ _ {x = X0} {t = T0} {n = N0} {j = J2} {l = L2} {h = H2} {l' = L6} {s = S2} {s' = S6} {e = (mem X0 T0 N0 J7 L8 H7 S8)} _ {h' = H6} (c .before .before .before .before .before .before .before .before .before .before .before .before .before .before .before .before .want .ensures) (s-by {a = (mem X0 T0 N0 J2 L6 H6 S6)} {c = (mem X0 T0 N0 J7 L7 H7 S7)} {e = (mem X0 T0 N0 J7 L8 H7 S8)} _ (runs-in {a = (mem X0 T0 N0 J2 L6 H6 S6)} {c = (mem X0 T0 N0 J7 L7 H7 S7)} (c .before .before .before .before .before .before .before .before .mat2 .ensures)) (s-close {e = (mem X0 T0 N0 J7 L8 H7 S8)} {x = X0} {t = T0} {n = N0} {j = J7} {l = L7} {h = H7} {s = S7} {s' = S8} {l' = L8} (c .before .before .close5 .ensures) s-end))))))))
 
 lex-bump-requires : (t : ℕ) → lex-lts.Need-bump-requires (lex-told t) (lex-at t) lex.Post
 lex-bump-requires t c κs =
@@ -3327,11 +3859,19 @@ lo-same-length-2 t c =
 lo-returns : (t : ℕ) → lo-lts.Need-returns (lo-told t) (lo-at t) lo.Post
 unfolding decl.localDec plan choose chosen
 lo-returns t c =
-    let pre0 = c .before .before .before .before .before .before .before .before .before .before .before .before .before .before .before .pre .1 .0 in
-    let if1 = c .before .before .before .before .before .before .before .before .before .if1 .taken in
-    let refuse = c .before .before .before .before .before .before .before .before .refuse .ensures in
-    let end = c .before .before .before .before .end .ensures in
-    in-steps pre0 (s-deep if1 refuse (s-by _ end s-end))
+    let X0 = c .before .before .before .before .before .before .before .before .before .before .before .before .before .before .before .args .text .now in
+    let T0 = c .before .before .before .before .before .before .before .before .before .before .before .before .before .before .before .args .toks .now in
+    let N0 = c .before .before .before .before .before .before .before .before .before .before .before .before .before .before .before .args .env .now in
+    let J0 = c .before .before .before .before .before .before .before .before .before .before .before .before .before .before .before .args .table .now in
+    let L0 = c .before .before .before .before .before .before .before .before .before .before .before .before .before .before .before .args .scratch .now in
+    let H0 = c .before .before .before .before .before .before .before .before .before .before .before .before .before .before .before .args .finds .now in
+    let S0 = c .before .before .before .before .before .before .before .before .before .before .before .before .before .before .before .args .s in
+    let S2 = c .before .before .before .before .before .before .before .before .refuse .result in
+    let J3 = c .before .before .before .before .end .last .1 .1 .1 .0 in
+    let L3 = c .before .before .before .before .end .last .1 .1 .1 .1 .0 in
+    let H3 = c .before .before .before .before .end .last .1 .1 .1 .1 .1 .0 in
+    let S3 = outState (c .before .before .before .before .end .result) in
+    in-steps {m = (mem X0 T0 N0 J0 L0 H0 S0)} {m' = (mem X0 T0 N0 J3 L3 H3 S3)} (c .before .before .before .before .before .before .before .before .before .before .before .before .before .before .before .pre .1 .0) (s-deep (c .before .before .before .before .before .before .before .before .before .if1 .taken) (c .before .before .before .before .before .before .before .before .refuse .ensures) (s-by {a = (mem X0 T0 N0 J0 L0 H0 S2)} {c = (mem X0 T0 N0 J3 L3 H3 S3)} {e = (mem X0 T0 N0 J3 L3 H3 S3)} _ (c .before .before .before .before .end .ensures) s-end))
 
 lo-mark-requires : (t : ℕ) → lo-lts.Need-mark-requires (lo-told t) (lo-at t) lo.Post
 lo-mark-requires t c κs =
@@ -3403,15 +3943,28 @@ lo-same-length-4 t c =
 lo-returns-2 : (t : ℕ) → lo-lts.Need-returns-2 (lo-told t) (lo-at t) lo.Post
 unfolding decl.localDec plan choose chosen
 lo-returns-2 t c =
-    let pre0 = c .before .before .before .before .before .before .before .before .before .before .before .before .before .before .before .before .before .before .before .before .before .before .before .before .before .before .before .before .before .before .before .before .pre .1 .0 in
-    let if1 = c .before .before .before .before .before .before .before .before .before .before .before .before .before .before .before .before .before .before .before .before .before .before .before .before .before .before .if1 .left in
-    let mark = c .before .before .before .before .before .before .before .before .before .before .before .before .before .before .before .before .before .before .before .before .before .before .before .before .before .mark .ensures in
-    let bump = c .before .before .before .before .before .before .before .before .before .before .before .before .before .before .before .before .before .before .before .before .before .before .before .bump .ensures in
-    let dec = c .before .before .before .before .before .before .before .before .before .before .before .before .before .before .before .before .before .dec .ensures in
-    let state = c .before .before .before .before .before .before .before .before .before .before .before .before .state .ensures in
-    let leave = c .before .before .before .before .before .before .before .before .before .before .leave .ensures in
-    let end2 = c .before .before .before .before .end2 .ensures in
-    in-steps pre0 (s-mark if1 mark (s-bump bump (s-run (settled state (runs-in dec)) (s-close leave (s-by _ end2 s-end)))))
+    let X0 = c .before .before .before .before .before .before .before .before .before .before .before .before .before .before .before .before .before .before .before .before .before .before .before .before .before .before .before .before .before .before .before .before .args .text .now in
+    let T0 = c .before .before .before .before .before .before .before .before .before .before .before .before .before .before .before .before .before .before .before .before .before .before .before .before .before .before .before .before .before .before .before .before .args .toks .now in
+    let N0 = c .before .before .before .before .before .before .before .before .before .before .before .before .before .before .before .before .before .before .before .before .before .before .before .before .before .before .before .before .before .before .before .before .args .env .now in
+    let J0 = c .before .before .before .before .before .before .before .before .before .before .before .before .before .before .before .before .before .before .before .before .before .before .before .before .before .before .before .before .before .before .before .before .args .table .now in
+    let L0 = c .before .before .before .before .before .before .before .before .before .before .before .before .before .before .before .before .before .before .before .before .before .before .before .before .before .before .before .before .before .before .before .before .args .scratch .now in
+    let H0 = c .before .before .before .before .before .before .before .before .before .before .before .before .before .before .before .before .before .before .before .before .before .before .before .before .before .before .before .before .before .before .before .before .args .finds .now in
+    let S0 = c .before .before .before .before .before .before .before .before .before .before .before .before .before .before .before .before .before .before .before .before .before .before .before .before .before .before .before .before .before .before .before .before .args .s in
+    let S2 = c .before .before .before .before .before .before .before .before .before .before .before .before .before .before .before .before .before .before .before .before .before .before .before .before .before .mark .result in
+    let L3 = c .before .before .before .before .before .before .before .before .before .before .before .before .before .before .before .before .before .before .before .before .before .before .before .bump .last .1 .0 in
+    let S3 = c .before .before .before .before .before .before .before .before .before .before .before .before .before .before .before .before .before .before .before .before .before .before .before .bump .result in
+    let J4 = c .before .before .before .before .before .before .before .before .before .before .before .before .before .before .before .before .before .dec .last .1 .1 .1 .0 in
+    let L4 = c .before .before .before .before .before .before .before .before .before .before .before .before .before .before .before .before .before .dec .last .1 .1 .1 .1 .0 in
+    let H4 = c .before .before .before .before .before .before .before .before .before .before .before .before .before .before .before .before .before .dec .last .1 .1 .1 .1 .1 .0 in
+    let S4 = outState (c .before .before .before .before .before .before .before .before .before .before .before .before .before .before .before .before .before .dec .result) in
+    let S5 = c .before .before .before .before .before .before .before .before .before .before .before .before .state .result in
+    let L6 = c .before .before .before .before .before .before .before .before .before .before .leave .last .0 in
+    let S6 = c .before .before .before .before .before .before .before .before .before .before .leave .result in
+    let J7 = c .before .before .before .before .end2 .last .1 .1 .1 .0 in
+    let L7 = c .before .before .before .before .end2 .last .1 .1 .1 .1 .0 in
+    let H7 = c .before .before .before .before .end2 .last .1 .1 .1 .1 .1 .0 in
+    let S7 = outState (c .before .before .before .before .end2 .result) in
+    in-steps {m = (mem X0 T0 N0 J0 L0 H0 S0)} {m' = (mem X0 T0 N0 J7 L7 H7 S7)} (c .before .before .before .before .before .before .before .before .before .before .before .before .before .before .before .before .before .before .before .before .before .before .before .before .before .before .before .before .before .before .before .before .pre .1 .0) (s-mark {e = (mem X0 T0 N0 J7 L7 H7 S7)} {x = X0} {t = T0} {n = N0} {j = J0} {l = L0} {h = H0} {s = S0} {s' = S2} (c .before .before .before .before .before .before .before .before .before .before .before .before .before .before .before .before .before .before .before .before .before .before .before .before .before .before .if1 .left) (c .before .before .before .before .before .before .before .before .before .before .before .before .before .before .before .before .before .before .before .before .before .before .before .before .before .mark .ensures) (s-bump {e = (mem X0 T0 N0 J7 L7 H7 S7)} {x = X0} {t = T0} {n = N0} {j = J0} {l = L0} {h = H0} {s = S2} {s' = S3} {l' = L3} (c .before .before .before .before .before .before .before .before .before .before .before .before .before .before .before .before .before .before .before .before .before .before .before .bump .ensures) (s-run {a = (mem X0 T0 N0 J0 L3 H0 S3)} {c = (mem X0 T0 N0 J4 L4 H4 S5)} {e = (mem X0 T0 N0 J7 L7 H7 S7)} (settled (c .before .before .before .before .before .before .before .before .before .before .before .before .state .ensures) (runs-in {a = (mem X0 T0 N0 J0 L3 H0 S3)} {c = (mem X0 T0 N0 J4 L4 H4 S4)} (c .before .before .before .before .before .before .before .before .before .before .before .before .before .before .before .before .before .dec .ensures))) (s-close {e = (mem X0 T0 N0 J7 L7 H7 S7)} {x = X0} {t = T0} {n = N0} {j = J4} {l = L4} {h = H4} {s = S5} {s' = S6} {l' = L6} (c .before .before .before .before .before .before .before .before .before .before .leave .ensures) (s-by {a = (mem X0 T0 N0 J4 L6 H4 S6)} {c = (mem X0 T0 N0 J7 L7 H7 S7)} {e = (mem X0 T0 N0 J7 L7 H7 S7)} _ (c .before .before .before .before .end2 .ensures) s-end)))))
 
 mat-refuse-requires : (t : ℕ) → mat-lts.Need-refuse-requires (mat-told t) (mat-at t) mat.Post
 mat-refuse-requires t c κs =
@@ -3420,10 +3973,15 @@ mat-refuse-requires t c κs =
 mat-returns : (t : ℕ) → mat-lts.Need-returns (mat-told t) (mat-at t) mat.Post
 unfolding expr.matcher decl.manyClosure util.choose plan choose chosen hushed
 mat-returns t c =
-    let pre0 = c .before .before .before .before .before .before .before .pre .1 in
-    let if1 = c .before .if1 .taken in
-    let refuse = c .refuse .ensures in
-    by-steps pre0 (λ b. s-shut if1 refuse (λ k l. refl))
+    let X0 = c .before .before .before .before .before .before .before .args .text .now in
+    let T0 = c .before .before .before .before .before .before .before .args .toks .now in
+    let N0 = c .before .before .before .before .before .before .before .args .env .now in
+    let J0 = c .before .before .before .before .before .before .before .args .table .now in
+    let L0 = c .before .before .before .before .before .before .before .args .scratch .now in
+    let H0 = c .before .before .before .before .before .before .before .args .finds .now in
+    let S0 = c .before .before .before .before .before .before .before .args .s in
+    let S2 = c .refuse .result in
+    by-steps {m = (mem X0 T0 N0 J0 L0 H0 S0)} {m' = (mem X0 T0 N0 J0 L0 H0 S2)} (c .before .before .before .before .before .before .before .pre .1) (λ b. s-shut (c .before .if1 .taken) (c .refuse .ensures) (λ k l. refl))
 
 mat-mark-requires : (t : ℕ) → mat-lts.Need-mark-requires (mat-told t) (mat-at t) mat.Post
 mat-mark-requires t c κs =
@@ -3465,12 +4023,21 @@ mat-same-length-2 t c =
 mat-returns-2 : (t : ℕ) → mat-lts.Need-returns-2 (mat-told t) (mat-at t) mat.Post
 unfolding expr.matcher decl.manyClosure util.choose plan choose chosen
 mat-returns-2 t c =
-    let pre0 = c .before .before .before .before .before .before .before .before .before .before .before .before .before .before .before .before .before .before .before .pre .1 in
-    let if1 = c .before .before .before .before .before .before .before .before .before .before .before .before .before .if1 .left in
-    let mark = c .before .before .before .before .before .before .before .before .before .before .before .before .mark .ensures in
-    let bump-if = c .before .before .before .before .before .before .before .before .before .before .bump-if .ensures in
-    let bd = c .before .before .before .before .bd .ensures in
-    by-steps pre0 (λ b. s-mark if1 mark (s-takes _ _ _ bump-if (s-by _ bd s-end)))
+    let X0 = c .before .before .before .before .before .before .before .before .before .before .before .before .before .before .before .before .before .before .before .args .text .now in
+    let T0 = c .before .before .before .before .before .before .before .before .before .before .before .before .before .before .before .before .before .before .before .args .toks .now in
+    let N0 = c .before .before .before .before .before .before .before .before .before .before .before .before .before .before .before .before .before .before .before .args .env .now in
+    let J0 = c .before .before .before .before .before .before .before .before .before .before .before .before .before .before .before .before .before .before .before .args .table .now in
+    let L0 = c .before .before .before .before .before .before .before .before .before .before .before .before .before .before .before .before .before .before .before .args .scratch .now in
+    let H0 = c .before .before .before .before .before .before .before .before .before .before .before .before .before .before .before .before .before .before .before .args .finds .now in
+    let S0 = c .before .before .before .before .before .before .before .before .before .before .before .before .before .before .before .before .before .before .before .args .s in
+    let S2 = c .before .before .before .before .before .before .before .before .before .before .before .before .mark .result in
+    let L3 = c .before .before .before .before .before .before .before .before .before .before .bump-if .last .1 .0 in
+    let S3 = c .before .before .before .before .before .before .before .before .before .before .bump-if .result in
+    let J4 = c .before .before .before .before .bd .last .1 .1 .1 .0 in
+    let L4 = c .before .before .before .before .bd .last .1 .1 .1 .1 .0 in
+    let H4 = c .before .before .before .before .bd .last .1 .1 .1 .1 .1 .0 in
+    let S4 = c .before .before .before .before .bd .result in
+    by-steps {m = (mem X0 T0 N0 J0 L0 H0 S0)} {m' = (mem X0 T0 N0 J4 L4 H4 S4)} (c .before .before .before .before .before .before .before .before .before .before .before .before .before .before .before .before .before .before .before .pre .1) (λ b. s-mark {e = (mem X0 T0 N0 J4 L4 H4 S4)} {x = X0} {t = T0} {n = N0} {j = J0} {l = L0} {h = H0} {s = S0} {s' = S2} (c .before .before .before .before .before .before .before .before .before .before .before .before .before .if1 .left) (c .before .before .before .before .before .before .before .before .before .before .before .before .mark .ensures) (s-takes _ _ {x = X0} {t = T0} {n = N0} {j = J0} {l = L0} {h = H0} {l' = L3} {s = S2} {s' = S3} {e = (mem X0 T0 N0 J4 L4 H4 S4)} _ (c .before .before .before .before .before .before .before .before .before .before .bump-if .ensures) (s-by {a = (mem X0 T0 N0 J0 L3 H0 S3)} {c = (mem X0 T0 N0 J4 L4 H4 S4)} {e = (mem X0 T0 N0 J4 L4 H4 S4)} _ (c .before .before .before .before .bd .ensures) s-end)))
 
 mds-bump-requires : (t : ℕ) → mds-lts.Need-bump-requires (mds-told t) (mds-at t) mds.Post
 mds-bump-requires t c κs =
@@ -3498,11 +4065,20 @@ mds-same-length-2 t c =
 mds-returns : (t : ℕ) → mds-lts.Need-returns (mds-told t) (mds-at t) mds.Post
 unfolding decl.moduleDec decl.manyClosure util.choose plan choose chosen
 mds-returns t c =
-    let pre0 = c .before .before .before .before .before .before .before .before .before .before .before .before .before .before .before .before .before .before .pre .1 .0 in
-    let if1 = c .before .before .before .before .before .before .before .before .before .before .before .before .if1 .taken in
-    let bump = c .before .before .before .before .before .before .before .before .before .before .bump .ensures in
-    let bd = c .before .before .before .before .bd .ensures in
-    in-steps pre0 (s-true _ _ (kind-is if1) (s-bump bump (s-by _ bd s-end)))
+    let X0 = c .before .before .before .before .before .before .before .before .before .before .before .before .before .before .before .before .before .before .args .text .now in
+    let T0 = c .before .before .before .before .before .before .before .before .before .before .before .before .before .before .before .before .before .before .args .toks .now in
+    let N0 = c .before .before .before .before .before .before .before .before .before .before .before .before .before .before .before .before .before .before .args .env .now in
+    let J0 = c .before .before .before .before .before .before .before .before .before .before .before .before .before .before .before .before .before .before .args .table .now in
+    let L0 = c .before .before .before .before .before .before .before .before .before .before .before .before .before .before .before .before .before .before .args .scratch .now in
+    let H0 = c .before .before .before .before .before .before .before .before .before .before .before .before .before .before .before .before .before .before .args .finds .now in
+    let S0 = c .before .before .before .before .before .before .before .before .before .before .before .before .before .before .before .before .before .before .args .s in
+    let L2 = c .before .before .before .before .before .before .before .before .before .before .bump .last .1 .0 in
+    let S2 = c .before .before .before .before .before .before .before .before .before .before .bump .result in
+    let J3 = c .before .before .before .before .bd .last .1 .1 .1 .0 in
+    let L3 = c .before .before .before .before .bd .last .1 .1 .1 .1 .0 in
+    let H3 = c .before .before .before .before .bd .last .1 .1 .1 .1 .1 .0 in
+    let S3 = c .before .before .before .before .bd .result in
+    in-steps {m = (mem X0 T0 N0 J0 L0 H0 S0)} {m' = (mem X0 T0 N0 J3 L3 H3 S3)} (c .before .before .before .before .before .before .before .before .before .before .before .before .before .before .before .before .before .before .pre .1 .0) (s-true {a = (mem X0 T0 N0 J0 L0 H0 S0)} {e = (mem X0 T0 N0 J3 L3 H3 S3)} _ _ (kind-is (c .before .before .before .before .before .before .before .before .before .before .before .before .if1 .taken)) (s-bump {e = (mem X0 T0 N0 J3 L3 H3 S3)} {x = X0} {t = T0} {n = N0} {j = J0} {l = L0} {h = H0} {s = S0} {s' = S2} {l' = L2} (c .before .before .before .before .before .before .before .before .before .before .bump .ensures) (s-by {a = (mem X0 T0 N0 J0 L2 H0 S2)} {c = (mem X0 T0 N0 J3 L3 H3 S3)} {e = (mem X0 T0 N0 J3 L3 H3 S3)} _ (c .before .before .before .before .bd .ensures) s-end)))
 
 mds-bump-requires-2 : (t : ℕ) → mds-lts.Need-bump-requires-2 (mds-told t) (mds-at t) mds.Post
 mds-bump-requires-2 t c κs =
@@ -3531,12 +4107,20 @@ mds-same-length-4 t c =
 mds-returns-2 : (t : ℕ) → mds-lts.Need-returns-2 (mds-told t) (mds-at t) mds.Post
 unfolding decl.moduleDec decl.manyClosure util.choose plan choose chosen
 mds-returns-2 t c =
-    let pre0 = c .before .before .before .before .before .before .before .before .before .before .before .before .before .before .before .before .before .before .before .pre .1 .0 in
-    let if1 = c .before .before .before .before .before .before .before .before .before .before .before .before .before .if1 .left in
-    let if2 = c .before .before .before .before .before .before .before .before .before .before .before .before .if2 .taken in
-    let bump2 = c .before .before .before .before .before .before .before .before .before .before .bump2 .ensures in
-    let bd2 = c .before .before .before .before .bd2 .ensures in
-    in-steps pre0 (s-false _ _ (kind-not if1) (s-true _ _ (kind-is if2) (s-bump bump2 (s-by _ bd2 s-end))))
+    let X0 = c .before .before .before .before .before .before .before .before .before .before .before .before .before .before .before .before .before .before .before .args .text .now in
+    let T0 = c .before .before .before .before .before .before .before .before .before .before .before .before .before .before .before .before .before .before .before .args .toks .now in
+    let N0 = c .before .before .before .before .before .before .before .before .before .before .before .before .before .before .before .before .before .before .before .args .env .now in
+    let J0 = c .before .before .before .before .before .before .before .before .before .before .before .before .before .before .before .before .before .before .before .args .table .now in
+    let L0 = c .before .before .before .before .before .before .before .before .before .before .before .before .before .before .before .before .before .before .before .args .scratch .now in
+    let H0 = c .before .before .before .before .before .before .before .before .before .before .before .before .before .before .before .before .before .before .before .args .finds .now in
+    let S0 = c .before .before .before .before .before .before .before .before .before .before .before .before .before .before .before .before .before .before .before .args .s in
+    let L3 = c .before .before .before .before .before .before .before .before .before .before .bump2 .last .1 .0 in
+    let S3 = c .before .before .before .before .before .before .before .before .before .before .bump2 .result in
+    let J4 = c .before .before .before .before .bd2 .last .1 .1 .1 .0 in
+    let L4 = c .before .before .before .before .bd2 .last .1 .1 .1 .1 .0 in
+    let H4 = c .before .before .before .before .bd2 .last .1 .1 .1 .1 .1 .0 in
+    let S4 = c .before .before .before .before .bd2 .result in
+    in-steps {m = (mem X0 T0 N0 J0 L0 H0 S0)} {m' = (mem X0 T0 N0 J4 L4 H4 S4)} (c .before .before .before .before .before .before .before .before .before .before .before .before .before .before .before .before .before .before .before .pre .1 .0) (s-false {a = (mem X0 T0 N0 J0 L0 H0 S0)} {e = (mem X0 T0 N0 J4 L4 H4 S4)} _ _ (kind-not (c .before .before .before .before .before .before .before .before .before .before .before .before .before .if1 .left)) (s-true {a = (mem X0 T0 N0 J0 L0 H0 S0)} {e = (mem X0 T0 N0 J4 L4 H4 S4)} _ _ (kind-is (c .before .before .before .before .before .before .before .before .before .before .before .before .if2 .taken)) (s-bump {e = (mem X0 T0 N0 J4 L4 H4 S4)} {x = X0} {t = T0} {n = N0} {j = J0} {l = L0} {h = H0} {s = S0} {s' = S3} {l' = L3} (c .before .before .before .before .before .before .before .before .before .before .bump2 .ensures) (s-by {a = (mem X0 T0 N0 J0 L3 H0 S3)} {c = (mem X0 T0 N0 J4 L4 H4 S4)} {e = (mem X0 T0 N0 J4 L4 H4 S4)} _ (c .before .before .before .before .bd2 .ensures) s-end))))
 
 mds-bump-requires-3 : (t : ℕ) → mds-lts.Need-bump-requires-3 (mds-told t) (mds-at t) mds.Post
 mds-bump-requires-3 t c κs =
@@ -3566,13 +4150,20 @@ mds-same-length-6 t c =
 mds-returns-3 : (t : ℕ) → mds-lts.Need-returns-3 (mds-told t) (mds-at t) mds.Post
 unfolding decl.moduleDec decl.manyClosure util.choose plan choose chosen
 mds-returns-3 t c =
-    let pre0 = c .before .before .before .before .before .before .before .before .before .before .before .before .before .before .before .before .before .before .before .before .pre .1 .0 in
-    let if1 = c .before .before .before .before .before .before .before .before .before .before .before .before .before .before .if1 .left in
-    let if2 = c .before .before .before .before .before .before .before .before .before .before .before .before .before .if2 .left in
-    let if3 = c .before .before .before .before .before .before .before .before .before .before .before .before .if3 .taken in
-    let bump3 = c .before .before .before .before .before .before .before .before .before .before .bump3 .ensures in
-    let bd3 = c .before .before .before .before .bd3 .ensures in
-    in-steps pre0 (s-false _ _ (kind-not if1) (s-false _ _ (kind-not if2) (s-true _ _ (kind-is if3) (s-bump bump3 (s-by _ bd3 s-end)))))
+    let X0 = c .before .before .before .before .before .before .before .before .before .before .before .before .before .before .before .before .before .before .before .before .args .text .now in
+    let T0 = c .before .before .before .before .before .before .before .before .before .before .before .before .before .before .before .before .before .before .before .before .args .toks .now in
+    let N0 = c .before .before .before .before .before .before .before .before .before .before .before .before .before .before .before .before .before .before .before .before .args .env .now in
+    let J0 = c .before .before .before .before .before .before .before .before .before .before .before .before .before .before .before .before .before .before .before .before .args .table .now in
+    let L0 = c .before .before .before .before .before .before .before .before .before .before .before .before .before .before .before .before .before .before .before .before .args .scratch .now in
+    let H0 = c .before .before .before .before .before .before .before .before .before .before .before .before .before .before .before .before .before .before .before .before .args .finds .now in
+    let S0 = c .before .before .before .before .before .before .before .before .before .before .before .before .before .before .before .before .before .before .before .before .args .s in
+    let L4 = c .before .before .before .before .before .before .before .before .before .before .bump3 .last .1 .0 in
+    let S4 = c .before .before .before .before .before .before .before .before .before .before .bump3 .result in
+    let J5 = c .before .before .before .before .bd3 .last .1 .1 .1 .0 in
+    let L5 = c .before .before .before .before .bd3 .last .1 .1 .1 .1 .0 in
+    let H5 = c .before .before .before .before .bd3 .last .1 .1 .1 .1 .1 .0 in
+    let S5 = c .before .before .before .before .bd3 .result in
+    in-steps {m = (mem X0 T0 N0 J0 L0 H0 S0)} {m' = (mem X0 T0 N0 J5 L5 H5 S5)} (c .before .before .before .before .before .before .before .before .before .before .before .before .before .before .before .before .before .before .before .before .pre .1 .0) (s-false {a = (mem X0 T0 N0 J0 L0 H0 S0)} {e = (mem X0 T0 N0 J5 L5 H5 S5)} _ _ (kind-not (c .before .before .before .before .before .before .before .before .before .before .before .before .before .before .if1 .left)) (s-false {a = (mem X0 T0 N0 J0 L0 H0 S0)} {e = (mem X0 T0 N0 J5 L5 H5 S5)} _ _ (kind-not (c .before .before .before .before .before .before .before .before .before .before .before .before .before .if2 .left)) (s-true {a = (mem X0 T0 N0 J0 L0 H0 S0)} {e = (mem X0 T0 N0 J5 L5 H5 S5)} _ _ (kind-is (c .before .before .before .before .before .before .before .before .before .before .before .before .if3 .taken)) (s-bump {e = (mem X0 T0 N0 J5 L5 H5 S5)} {x = X0} {t = T0} {n = N0} {j = J0} {l = L0} {h = H0} {s = S0} {s' = S4} {l' = L4} (c .before .before .before .before .before .before .before .before .before .before .bump3 .ensures) (s-by {a = (mem X0 T0 N0 J0 L4 H0 S4)} {c = (mem X0 T0 N0 J5 L5 H5 S5)} {e = (mem X0 T0 N0 J5 L5 H5 S5)} _ (c .before .before .before .before .bd3 .ensures) s-end)))))
 
 mds-bump-requires-4 : (t : ℕ) → mds-lts.Need-bump-requires-4 (mds-told t) (mds-at t) mds.Post
 mds-bump-requires-4 t c κs =
@@ -3610,15 +4201,22 @@ mds-same-length-8 t c =
 mds-returns-4 : (t : ℕ) → mds-lts.Need-returns-4 (mds-told t) (mds-at t) mds.Post
 unfolding decl.moduleDec decl.manyClosure util.choose plan choose chosen
 mds-returns-4 t c =
-    let pre0 = c .before .before .before .before .before .before .before .before .before .before .before .before .before .before .before .before .before .before .before .before .before .before .before .before .before .pre .1 .0 in
-    let if1 = c .before .before .before .before .before .before .before .before .before .before .before .before .before .before .before .before .before .before .before .if1 .left in
-    let if2 = c .before .before .before .before .before .before .before .before .before .before .before .before .before .before .before .before .before .before .if2 .left in
-    let if3 = c .before .before .before .before .before .before .before .before .before .before .before .before .before .before .before .before .before .if3 .left in
-    let if4 = c .before .before .before .before .before .before .before .before .before .before .before .before .before .before .before .before .if4 .taken in
-    let bump4 = c .before .before .before .before .before .before .before .before .before .before .before .before .before .before .bump4 .ensures in
-    let ic = c .before .before .before .before .before .before .before .before .ic .ensures in
-    let close = c .before .before .close .ensures in
-    in-steps pre0 (s-false _ _ (kind-not if1) (s-false _ _ (kind-not if2) (s-false _ _ (kind-not if3) (s-true _ _ (kind-is if4) (s-bump bump4 (s-run ic (s-close close s-end)))))))
+    let X0 = c .before .before .before .before .before .before .before .before .before .before .before .before .before .before .before .before .before .before .before .before .before .before .before .before .before .args .text .now in
+    let T0 = c .before .before .before .before .before .before .before .before .before .before .before .before .before .before .before .before .before .before .before .before .before .before .before .before .before .args .toks .now in
+    let N0 = c .before .before .before .before .before .before .before .before .before .before .before .before .before .before .before .before .before .before .before .before .before .before .before .before .before .args .env .now in
+    let J0 = c .before .before .before .before .before .before .before .before .before .before .before .before .before .before .before .before .before .before .before .before .before .before .before .before .before .args .table .now in
+    let L0 = c .before .before .before .before .before .before .before .before .before .before .before .before .before .before .before .before .before .before .before .before .before .before .before .before .before .args .scratch .now in
+    let H0 = c .before .before .before .before .before .before .before .before .before .before .before .before .before .before .before .before .before .before .before .before .before .before .before .before .before .args .finds .now in
+    let S0 = c .before .before .before .before .before .before .before .before .before .before .before .before .before .before .before .before .before .before .before .before .before .before .before .before .before .args .s in
+    let L5 = c .before .before .before .before .before .before .before .before .before .before .before .before .before .before .bump4 .last .1 .0 in
+    let S5 = c .before .before .before .before .before .before .before .before .before .before .before .before .before .before .bump4 .result in
+    let J6 = c .before .before .before .before .before .before .before .before .ic .last .1 .1 .1 .0 in
+    let L6 = c .before .before .before .before .before .before .before .before .ic .last .1 .1 .1 .1 .0 in
+    let H6 = c .before .before .before .before .before .before .before .before .ic .last .1 .1 .1 .1 .1 .0 in
+    let S6 = c .before .before .before .before .before .before .before .before .ic .result in
+    let L7 = c .before .before .close .last .0 in
+    let S7 = c .before .before .close .result in
+    in-steps {m = (mem X0 T0 N0 J0 L0 H0 S0)} {m' = (mem X0 T0 N0 J6 L7 H6 S7)} (c .before .before .before .before .before .before .before .before .before .before .before .before .before .before .before .before .before .before .before .before .before .before .before .before .before .pre .1 .0) (s-false {a = (mem X0 T0 N0 J0 L0 H0 S0)} {e = (mem X0 T0 N0 J6 L7 H6 S7)} _ _ (kind-not (c .before .before .before .before .before .before .before .before .before .before .before .before .before .before .before .before .before .before .before .if1 .left)) (s-false {a = (mem X0 T0 N0 J0 L0 H0 S0)} {e = (mem X0 T0 N0 J6 L7 H6 S7)} _ _ (kind-not (c .before .before .before .before .before .before .before .before .before .before .before .before .before .before .before .before .before .before .if2 .left)) (s-false {a = (mem X0 T0 N0 J0 L0 H0 S0)} {e = (mem X0 T0 N0 J6 L7 H6 S7)} _ _ (kind-not (c .before .before .before .before .before .before .before .before .before .before .before .before .before .before .before .before .before .if3 .left)) (s-true {a = (mem X0 T0 N0 J0 L0 H0 S0)} {e = (mem X0 T0 N0 J6 L7 H6 S7)} _ _ (kind-is (c .before .before .before .before .before .before .before .before .before .before .before .before .before .before .before .before .if4 .taken)) (s-bump {e = (mem X0 T0 N0 J6 L7 H6 S7)} {x = X0} {t = T0} {n = N0} {j = J0} {l = L0} {h = H0} {s = S0} {s' = S5} {l' = L5} (c .before .before .before .before .before .before .before .before .before .before .before .before .before .before .bump4 .ensures) (s-run {a = (mem X0 T0 N0 J0 L5 H0 S5)} {c = (mem X0 T0 N0 J6 L6 H6 S6)} {e = (mem X0 T0 N0 J6 L7 H6 S7)} (c .before .before .before .before .before .before .before .before .ic .ensures) (s-close {e = (mem X0 T0 N0 J6 L7 H6 S7)} {x = X0} {t = T0} {n = N0} {j = J6} {l = L6} {h = H6} {s = S6} {s' = S7} {l' = L7} (c .before .before .close .ensures) s-end)))))))
 
 mds-oth-requires : (t : ℕ) → mds-lts.Need-oth-requires (mds-told t) (mds-at t) mds.Post
 mds-oth-requires t c κs =
@@ -3642,13 +4240,18 @@ mds-same-length-10 t c =
 mds-returns-5 : (t : ℕ) → mds-lts.Need-returns-5 (mds-told t) (mds-at t) mds.Post
 unfolding decl.moduleDec decl.manyClosure util.choose plan choose chosen
 mds-returns-5 t c =
-    let pre0 = c .before .before .before .before .before .before .before .before .before .before .before .before .before .before .before .before .before .pre .1 .0 in
-    let if1 = c .before .before .before .before .before .before .before .before .before .before .before .if1 .left in
-    let if2 = c .before .before .before .before .before .before .before .before .before .before .if2 .left in
-    let if3 = c .before .before .before .before .before .before .before .before .before .if3 .left in
-    let if4 = c .before .before .before .before .before .before .before .before .if4 .left in
-    let oth = c .before .before .before .before .oth .ensures in
-    in-steps pre0 (s-false _ _ (kind-not if1) (s-false _ _ (kind-not if2) (s-false _ _ (kind-not if3) (s-false _ _ (kind-not if4) (s-by _ oth s-end)))))
+    let X0 = c .before .before .before .before .before .before .before .before .before .before .before .before .before .before .before .before .before .args .text .now in
+    let T0 = c .before .before .before .before .before .before .before .before .before .before .before .before .before .before .before .before .before .args .toks .now in
+    let N0 = c .before .before .before .before .before .before .before .before .before .before .before .before .before .before .before .before .before .args .env .now in
+    let J0 = c .before .before .before .before .before .before .before .before .before .before .before .before .before .before .before .before .before .args .table .now in
+    let L0 = c .before .before .before .before .before .before .before .before .before .before .before .before .before .before .before .before .before .args .scratch .now in
+    let H0 = c .before .before .before .before .before .before .before .before .before .before .before .before .before .before .before .before .before .args .finds .now in
+    let S0 = c .before .before .before .before .before .before .before .before .before .before .before .before .before .before .before .before .before .args .s in
+    let J5 = c .before .before .before .before .oth .last .1 .1 .1 .0 in
+    let L5 = c .before .before .before .before .oth .last .1 .1 .1 .1 .0 in
+    let H5 = c .before .before .before .before .oth .last .1 .1 .1 .1 .1 .0 in
+    let S5 = outState (c .before .before .before .before .oth .result) in
+    in-steps {m = (mem X0 T0 N0 J0 L0 H0 S0)} {m' = (mem X0 T0 N0 J5 L5 H5 S5)} (c .before .before .before .before .before .before .before .before .before .before .before .before .before .before .before .before .before .pre .1 .0) (s-false {a = (mem X0 T0 N0 J0 L0 H0 S0)} {e = (mem X0 T0 N0 J5 L5 H5 S5)} _ _ (kind-not (c .before .before .before .before .before .before .before .before .before .before .before .if1 .left)) (s-false {a = (mem X0 T0 N0 J0 L0 H0 S0)} {e = (mem X0 T0 N0 J5 L5 H5 S5)} _ _ (kind-not (c .before .before .before .before .before .before .before .before .before .before .if2 .left)) (s-false {a = (mem X0 T0 N0 J0 L0 H0 S0)} {e = (mem X0 T0 N0 J5 L5 H5 S5)} _ _ (kind-not (c .before .before .before .before .before .before .before .before .before .if3 .left)) (s-false {a = (mem X0 T0 N0 J0 L0 H0 S0)} {e = (mem X0 T0 N0 J5 L5 H5 S5)} _ _ (kind-not (c .before .before .before .before .before .before .before .before .if4 .left)) (s-by {a = (mem X0 T0 N0 J0 L0 H0 S0)} {c = (mem X0 T0 N0 J5 L5 H5 S5)} {e = (mem X0 T0 N0 J5 L5 H5 S5)} _ (c .before .before .before .before .oth .ensures) s-end)))))
 
 abbrev mny-Inv-loop : mny-lts.InvT-loop
 mny-Inv-loop text toks env table₀ scratch₀ finds₀ left q e b s1₀ table scratch finds s1 =
@@ -3832,9 +4435,14 @@ one-enum-told t c =
 one-returns : (t : ℕ) → one-lts.Need-returns (one-told t) (one-at t) one.Post
 unfolding decl.decOne decl.decHead plan choose chosen
 one-returns t c =
-    let pre0 = c .before .before .before .before .before .before .before .before .pre .1 in
-    let peek = rw (c .enum-told .given .1) at (c .before .before .peek .ensures) in
-    by-steps pre0 (λ b. s-look peek s-end)
+    let X0 = c .before .before .before .before .before .before .before .before .args .text .now in
+    let T0 = c .before .before .before .before .before .before .before .before .args .toks .now in
+    let N0 = c .before .before .before .before .before .before .before .before .args .env .now in
+    let J0 = c .before .before .before .before .before .before .before .before .args .table .now in
+    let L0 = c .before .before .before .before .before .before .before .before .args .scratch .now in
+    let H0 = c .before .before .before .before .before .before .before .before .args .finds .now in
+    let S0 = c .before .before .before .before .before .before .before .before .args .s in
+    by-steps {m = (mem X0 T0 N0 J0 L0 H0 S0)} {m' = (mem X0 T0 N0 J0 L0 H0 S0)} (c .before .before .before .before .before .before .before .before .pre .1) (λ b. s-look {a = (mem X0 T0 N0 J0 L0 H0 S0)} {e = (mem X0 T0 N0 J0 L0 H0 S0)} (rw (c .enum-told .given .1) at (c .before .before .peek .ensures)) s-end)
 
 one-refuse-requires : (t : ℕ) → one-lts.Need-refuse-requires (one-told t) (one-at t) one.Post
 one-refuse-requires t c κs =
@@ -3843,11 +4451,15 @@ one-refuse-requires t c κs =
 one-returns-2 : (t : ℕ) → one-lts.Need-returns-2 (one-told t) (one-at t) one.Post
 unfolding decl.decOne decl.decHead plan choose chosen hushed
 one-returns-2 t c =
-    let pre0 = c .before .before .before .before .before .before .before .before .before .before .before .pre .1 in
-    let peek = rw (c .before .before .before .k .given .1) at (c .before .before .before .before .before .peek .ensures) in
-    let if1 = c .before .if1 .taken in
-    let refuse = c .refuse .ensures in
-    by-steps pre0 (λ b. s-look peek (s-shut if1 refuse (λ k l. refl)))
+    let X0 = c .before .before .before .before .before .before .before .before .before .before .before .args .text .now in
+    let T0 = c .before .before .before .before .before .before .before .before .before .before .before .args .toks .now in
+    let N0 = c .before .before .before .before .before .before .before .before .before .before .before .args .env .now in
+    let J0 = c .before .before .before .before .before .before .before .before .before .before .before .args .table .now in
+    let L0 = c .before .before .before .before .before .before .before .before .before .before .before .args .scratch .now in
+    let H0 = c .before .before .before .before .before .before .before .before .before .before .before .args .finds .now in
+    let S0 = c .before .before .before .before .before .before .before .before .before .before .before .args .s in
+    let S3 = c .refuse .result in
+    by-steps {m = (mem X0 T0 N0 J0 L0 H0 S0)} {m' = (mem X0 T0 N0 J0 L0 H0 S3)} (c .before .before .before .before .before .before .before .before .before .before .before .pre .1) (λ b. s-look {a = (mem X0 T0 N0 J0 L0 H0 S0)} {e = (mem X0 T0 N0 J0 L0 H0 S3)} (rw (c .before .before .before .k .given .1) at (c .before .before .before .before .before .peek .ensures)) (s-shut (c .before .if1 .taken) (c .refuse .ensures) (λ k l. refl)))
 
 one-sub-n : (t : ℕ) → one-lts.Need-sub-n (one-told t) (one-at t) one.Post
 one-sub-n t c =
@@ -3903,12 +4515,19 @@ one-same-length-2 t c =
 one-returns-3 : (t : ℕ) → one-lts.Need-returns-3 (one-told t) (one-at t) one.Post
 unfolding decl.decOne decl.decHead plan choose chosen
 one-returns-3 t c =
-    let pre0 = c .before .before .before .before .before .before .before .before .before .before .before .before .before .before .before .before .before .before .before .before .before .before .pre .1 in
-    let peek = rw (c .before .before .before .before .before .before .before .before .before .before .before .before .before .before .k .given .1) at (c .before .before .before .before .before .before .before .before .before .before .before .before .before .before .before .before .peek .ensures) in
-    let if1 = c .before .before .before .before .before .before .before .before .before .before .before .before .if1 .left in
-    let mark = c .before .before .before .before .before .before .before .before .before .before .before .mark .ensures in
-    let leaf-dec = rw (c .before .got .given .1) at (c .before .before .before .before .before .before .before .leaf-dec .ensures) in
-    by-steps pre0 (λ b. s-look peek (s-mark if1 mark (s-by _ leaf-dec s-end)))
+    let X0 = c .before .before .before .before .before .before .before .before .before .before .before .before .before .before .before .before .before .before .before .before .before .before .args .text .now in
+    let T0 = c .before .before .before .before .before .before .before .before .before .before .before .before .before .before .before .before .before .before .before .before .before .before .args .toks .now in
+    let N0 = c .before .before .before .before .before .before .before .before .before .before .before .before .before .before .before .before .before .before .before .before .before .before .args .env .now in
+    let J0 = c .before .before .before .before .before .before .before .before .before .before .before .before .before .before .before .before .before .before .before .before .before .before .args .table .now in
+    let L0 = c .before .before .before .before .before .before .before .before .before .before .before .before .before .before .before .before .before .before .before .before .before .before .args .scratch .now in
+    let H0 = c .before .before .before .before .before .before .before .before .before .before .before .before .before .before .before .before .before .before .before .before .before .before .args .finds .now in
+    let S0 = c .before .before .before .before .before .before .before .before .before .before .before .before .before .before .before .before .before .before .before .before .before .before .args .s in
+    let S3 = c .before .before .before .before .before .before .before .before .before .before .before .mark .result in
+    let J4 = c .before .before .before .before .before .before .before .leaf-dec .last .1 .1 .1 .0 in
+    let L4 = c .before .before .before .before .before .before .before .leaf-dec .last .1 .1 .1 .1 .0 in
+    let H4 = c .before .before .before .before .before .before .before .leaf-dec .last .1 .1 .1 .1 .1 .0 in
+    let S4 = c .before .got .given .0 .0 in
+    by-steps {m = (mem X0 T0 N0 J0 L0 H0 S0)} {m' = (mem X0 T0 N0 J4 L4 H4 S4)} (c .before .before .before .before .before .before .before .before .before .before .before .before .before .before .before .before .before .before .before .before .before .before .pre .1) (λ b. s-look {a = (mem X0 T0 N0 J0 L0 H0 S0)} {e = (mem X0 T0 N0 J4 L4 H4 S4)} (rw (c .before .before .before .before .before .before .before .before .before .before .before .before .before .before .k .given .1) at (c .before .before .before .before .before .before .before .before .before .before .before .before .before .before .before .before .peek .ensures)) (s-mark {e = (mem X0 T0 N0 J4 L4 H4 S4)} {x = X0} {t = T0} {n = N0} {j = J0} {l = L0} {h = H0} {s = S0} {s' = S3} (c .before .before .before .before .before .before .before .before .before .before .before .before .if1 .left) (c .before .before .before .before .before .before .before .before .before .before .before .mark .ensures) (s-by {a = (mem X0 T0 N0 J0 L0 H0 S3)} {c = (mem X0 T0 N0 J4 L4 H4 S4)} {e = (mem X0 T0 N0 J4 L4 H4 S4)} _ (rw (c .before .got .given .1) at (c .before .before .before .before .before .before .before .leaf-dec .ensures)) s-end)))
 
 one-same-length-3 : (t : ℕ) → one-lts.Need-same-length-3 (one-told t) (one-at t) one.Post
 one-same-length-3 t c =
@@ -3921,13 +4540,23 @@ one-same-length-4 t c =
 one-returns-4 : (t : ℕ) → one-lts.Need-returns-4 (one-told t) (one-at t) one.Post
 unfolding decl.decOne decl.decHead plan choose chosen
 one-returns-4 t c =
-    let pre0 = c .before .before .before .before .before .before .before .before .before .before .before .before .before .before .before .before .before .before .before .before .before .before .before .before .before .before .before .before .before .before .pre .1 in
-    let peek = rw (c .before .before .before .before .before .before .before .before .before .before .before .before .before .before .before .before .before .before .before .before .before .before .k .given .1) at (c .before .before .before .before .before .before .before .before .before .before .before .before .before .before .before .before .before .before .before .before .before .before .before .before .peek .ensures) in
-    let if1 = c .before .before .before .before .before .before .before .before .before .before .before .before .before .before .before .before .before .before .before .before .if1 .left in
-    let mark = c .before .before .before .before .before .before .before .before .before .before .before .before .before .before .before .before .before .before .before .mark .ensures in
-    let leaf-dec = rw (c .before .before .before .before .before .before .before .before .before .got2 .given .1) at (c .before .before .before .before .before .before .before .before .before .before .before .before .before .before .before .leaf-dec .ensures) in
-    let cor = c .before .before .before .before .cor .ensures in
-    by-steps pre0 (λ b. s-look peek (s-mark if1 mark (s-by _ leaf-dec (s-by _ cor s-end))))
+    let X0 = c .before .before .before .before .before .before .before .before .before .before .before .before .before .before .before .before .before .before .before .before .before .before .before .before .before .before .before .before .before .before .args .text .now in
+    let T0 = c .before .before .before .before .before .before .before .before .before .before .before .before .before .before .before .before .before .before .before .before .before .before .before .before .before .before .before .before .before .before .args .toks .now in
+    let N0 = c .before .before .before .before .before .before .before .before .before .before .before .before .before .before .before .before .before .before .before .before .before .before .before .before .before .before .before .before .before .before .args .env .now in
+    let J0 = c .before .before .before .before .before .before .before .before .before .before .before .before .before .before .before .before .before .before .before .before .before .before .before .before .before .before .before .before .before .before .args .table .now in
+    let L0 = c .before .before .before .before .before .before .before .before .before .before .before .before .before .before .before .before .before .before .before .before .before .before .before .before .before .before .before .before .before .before .args .scratch .now in
+    let H0 = c .before .before .before .before .before .before .before .before .before .before .before .before .before .before .before .before .before .before .before .before .before .before .before .before .before .before .before .before .before .before .args .finds .now in
+    let S0 = c .before .before .before .before .before .before .before .before .before .before .before .before .before .before .before .before .before .before .before .before .before .before .before .before .before .before .before .before .before .before .args .s in
+    let S3 = c .before .before .before .before .before .before .before .before .before .before .before .before .before .before .before .before .before .before .before .mark .result in
+    let J4 = c .before .before .before .before .before .before .before .before .before .before .before .before .before .before .before .leaf-dec .last .1 .1 .1 .0 in
+    let L4 = c .before .before .before .before .before .before .before .before .before .before .before .before .before .before .before .leaf-dec .last .1 .1 .1 .1 .0 in
+    let H4 = c .before .before .before .before .before .before .before .before .before .before .before .before .before .before .before .leaf-dec .last .1 .1 .1 .1 .1 .0 in
+    let S4 = c .before .before .before .before .before .before .before .before .before .got2 .given .0 .0 in
+    let J5 = c .before .before .before .before .cor .last .1 .1 .1 .0 in
+    let L5 = c .before .before .before .before .cor .last .1 .1 .1 .1 .0 in
+    let H5 = c .before .before .before .before .cor .last .1 .1 .1 .1 .1 .0 in
+    let S5 = outState (c .before .before .before .before .cor .result) in
+    by-steps {m = (mem X0 T0 N0 J0 L0 H0 S0)} {m' = (mem X0 T0 N0 J5 L5 H5 S5)} (c .before .before .before .before .before .before .before .before .before .before .before .before .before .before .before .before .before .before .before .before .before .before .before .before .before .before .before .before .before .before .pre .1) (λ b. s-look {a = (mem X0 T0 N0 J0 L0 H0 S0)} {e = (mem X0 T0 N0 J5 L5 H5 S5)} (rw (c .before .before .before .before .before .before .before .before .before .before .before .before .before .before .before .before .before .before .before .before .before .before .k .given .1) at (c .before .before .before .before .before .before .before .before .before .before .before .before .before .before .before .before .before .before .before .before .before .before .before .before .peek .ensures)) (s-mark {e = (mem X0 T0 N0 J5 L5 H5 S5)} {x = X0} {t = T0} {n = N0} {j = J0} {l = L0} {h = H0} {s = S0} {s' = S3} (c .before .before .before .before .before .before .before .before .before .before .before .before .before .before .before .before .before .before .before .before .if1 .left) (c .before .before .before .before .before .before .before .before .before .before .before .before .before .before .before .before .before .before .before .mark .ensures) (s-by {a = (mem X0 T0 N0 J0 L0 H0 S3)} {c = (mem X0 T0 N0 J4 L4 H4 S4)} {e = (mem X0 T0 N0 J5 L5 H5 S5)} _ (rw (c .before .before .before .before .before .before .before .before .before .got2 .given .1) at (c .before .before .before .before .before .before .before .before .before .before .before .before .before .before .before .leaf-dec .ensures)) (s-by {a = (mem X0 T0 N0 J4 L4 H4 S4)} {c = (mem X0 T0 N0 J5 L5 H5 S5)} {e = (mem X0 T0 N0 J5 L5 H5 S5)} _ (c .before .before .before .before .cor .ensures) s-end))))
 
 opr-should-break-exp-requires : (t : ℕ) → opr-lts.Need-should-break-exp-requires (opr-told t) (opr-at t) opr.Post
 opr-should-break-exp-requires t c κs =
@@ -3963,11 +4592,18 @@ opr-same-length-2 t c =
 opr-returns : (t : ℕ) → opr-lts.Need-returns (opr-told t) (opr-at t) opr.Post
 unfolding expr.climb plan choose chosen hushed
 opr-returns t c =
-    let pre0 = c .before .before .before .before .before .before .before .before .before .before .before .before .before .before .before .before .before .before .before .pre .1 .0 in
-    let should-break-exp = rw (c .before .before .before .ends2 .given .1) at (c .before .before .before .before .before .before .before .before .before .should-break-exp .ensures) in
-    let if1 = c .before .if1 .taken in
-    let refuse = c .refuse .ensures in
-    in-steps pre0 (s-by _ (runs-always should-break-exp) (s-shut if1 refuse (λ k l. refl)))
+    let X0 = c .before .before .before .before .before .before .before .before .before .before .before .before .before .before .before .before .before .before .before .args .text .now in
+    let T0 = c .before .before .before .before .before .before .before .before .before .before .before .before .before .before .before .before .before .before .before .args .toks .now in
+    let N0 = c .before .before .before .before .before .before .before .before .before .before .before .before .before .before .before .before .before .before .before .args .env .now in
+    let J0 = c .before .before .before .before .before .before .before .before .before .before .before .before .before .before .before .before .before .before .before .args .table .now in
+    let L0 = c .before .before .before .before .before .before .before .before .before .before .before .before .before .before .before .before .before .before .before .args .scratch .now in
+    let H0 = c .before .before .before .before .before .before .before .before .before .before .before .before .before .before .before .before .before .before .before .args .finds .now in
+    let S0 = c .before .before .before .before .before .before .before .before .before .before .before .before .before .before .before .before .before .before .before .args .s in
+    let L1 = c .before .before .before .before .before .before .before .before .before .should-break-exp .last .1 .1 .1 .1 .0 in
+    let H1 = c .before .before .before .before .before .before .before .before .before .should-break-exp .last .1 .1 .1 .1 .1 .0 in
+    let S1 = c .before .before .before .ends2 .given .0 .0 in
+    let S3 = c .refuse .result in
+    in-steps {m = (mem X0 T0 N0 J0 L0 H0 S0)} {m' = (mem X0 T0 N0 J0 L1 H1 S3)} (c .before .before .before .before .before .before .before .before .before .before .before .before .before .before .before .before .before .before .before .pre .1 .0) (s-by {a = (mem X0 T0 N0 J0 L0 H0 S0)} {c = (mem X0 T0 N0 J0 L1 H1 S1)} {e = (mem X0 T0 N0 J0 L1 H1 S3)} _ (runs-always {a = (mem X0 T0 N0 J0 L0 H0 S0)} {c = (mem X0 T0 N0 J0 L1 H1 S1)} (rw (c .before .before .before .ends2 .given .1) at (c .before .before .before .before .before .before .before .before .before .should-break-exp .ensures))) (s-shut (c .before .if1 .taken) (c .refuse .ensures) (λ k l. refl)))
 
 opr-mark-requires : (t : ℕ) → opr-lts.Need-mark-requires (opr-told t) (opr-at t) opr.Post
 opr-mark-requires t c κs =
@@ -4013,9 +4649,17 @@ opr-same-length-4 t c =
 opr-returns-2 : (t : ℕ) → opr-lts.Need-returns-2 (opr-told t) (opr-at t) opr.Post
 unfolding expr.climb plan choose chosen
 opr-returns-2 t c =
-    let pre0 = c .before .before .before .before .before .before .before .before .before .before .before .before .before .before .before .before .before .pre .1 .0 in
-    let should-break-exp = rw (c .before .ends .given .1) at (c .before .before .before .before .before .before .before .should-break-exp .ensures) in
-    in-steps pre0 (s-by _ (runs-always should-break-exp) s-end)
+    let X0 = c .before .before .before .before .before .before .before .before .before .before .before .before .before .before .before .before .before .args .text .now in
+    let T0 = c .before .before .before .before .before .before .before .before .before .before .before .before .before .before .before .before .before .args .toks .now in
+    let N0 = c .before .before .before .before .before .before .before .before .before .before .before .before .before .before .before .before .before .args .env .now in
+    let J0 = c .before .before .before .before .before .before .before .before .before .before .before .before .before .before .before .before .before .args .table .now in
+    let L0 = c .before .before .before .before .before .before .before .before .before .before .before .before .before .before .before .before .before .args .scratch .now in
+    let H0 = c .before .before .before .before .before .before .before .before .before .before .before .before .before .before .before .before .before .args .finds .now in
+    let S0 = c .before .before .before .before .before .before .before .before .before .before .before .before .before .before .before .before .before .args .s in
+    let L1 = c .before .before .before .before .before .before .before .should-break-exp .last .1 .1 .1 .1 .0 in
+    let H1 = c .before .before .before .before .before .before .before .should-break-exp .last .1 .1 .1 .1 .1 .0 in
+    let S1 = c .before .ends .given .0 .0 in
+    in-steps {m = (mem X0 T0 N0 J0 L0 H0 S0)} {m' = (mem X0 T0 N0 J0 L1 H1 S1)} (c .before .before .before .before .before .before .before .before .before .before .before .before .before .before .before .before .before .pre .1 .0) (s-by {a = (mem X0 T0 N0 J0 L0 H0 S0)} {c = (mem X0 T0 N0 J0 L1 H1 S1)} {e = (mem X0 T0 N0 J0 L1 H1 S1)} _ (runs-always {a = (mem X0 T0 N0 J0 L0 H0 S0)} {c = (mem X0 T0 N0 J0 L1 H1 S1)} (rw (c .before .ends .given .1) at (c .before .before .before .before .before .before .before .should-break-exp .ensures))) s-end)
 
 opr-same-length-5 : (t : ℕ) → opr-lts.Need-same-length-5 (opr-told t) (opr-at t) opr.Post
 opr-same-length-5 t c =
@@ -4028,13 +4672,24 @@ opr-same-length-6 t c =
 opr-returns-3 : (t : ℕ) → opr-lts.Need-returns-3 (opr-told t) (opr-at t) opr.Post
 unfolding expr.climb plan choose chosen
 opr-returns-3 t c =
-    let pre0 = c .before .before .before .before .before .before .before .before .before .before .before .before .before .before .before .before .before .before .before .before .before .before .before .before .before .before .before .before .before .before .before .pre .1 .0 in
-    let should-break-exp = rw (c .before .before .before .before .before .before .before .before .before .before .before .before .before .before .before .ends2 .given .1) at (c .before .before .before .before .before .before .before .before .before .before .before .before .before .before .before .before .before .before .before .before .before .should-break-exp .ensures) in
-    let if1 = c .before .before .before .before .before .before .before .before .before .before .before .before .before .if1 .left in
-    let mark = c .before .before .before .before .before .before .before .before .before .before .before .before .mark .ensures in
-    let bump = c .before .before .before .before .before .before .before .before .before .before .bump .ensures in
-    let rhs = c .before .before .before .before .rhs .ensures in
-    in-steps pre0 (s-by _ (runs-always should-break-exp) (s-mark if1 mark (s-bump bump (s-by _ rhs s-end))))
+    let X0 = c .before .before .before .before .before .before .before .before .before .before .before .before .before .before .before .before .before .before .before .before .before .before .before .before .before .before .before .before .before .before .before .args .text .now in
+    let T0 = c .before .before .before .before .before .before .before .before .before .before .before .before .before .before .before .before .before .before .before .before .before .before .before .before .before .before .before .before .before .before .before .args .toks .now in
+    let N0 = c .before .before .before .before .before .before .before .before .before .before .before .before .before .before .before .before .before .before .before .before .before .before .before .before .before .before .before .before .before .before .before .args .env .now in
+    let J0 = c .before .before .before .before .before .before .before .before .before .before .before .before .before .before .before .before .before .before .before .before .before .before .before .before .before .before .before .before .before .before .before .args .table .now in
+    let L0 = c .before .before .before .before .before .before .before .before .before .before .before .before .before .before .before .before .before .before .before .before .before .before .before .before .before .before .before .before .before .before .before .args .scratch .now in
+    let H0 = c .before .before .before .before .before .before .before .before .before .before .before .before .before .before .before .before .before .before .before .before .before .before .before .before .before .before .before .before .before .before .before .args .finds .now in
+    let S0 = c .before .before .before .before .before .before .before .before .before .before .before .before .before .before .before .before .before .before .before .before .before .before .before .before .before .before .before .before .before .before .before .args .s in
+    let L1 = c .before .before .before .before .before .before .before .before .before .before .before .before .before .before .before .before .before .before .before .before .before .should-break-exp .last .1 .1 .1 .1 .0 in
+    let H1 = c .before .before .before .before .before .before .before .before .before .before .before .before .before .before .before .before .before .before .before .before .before .should-break-exp .last .1 .1 .1 .1 .1 .0 in
+    let S1 = c .before .before .before .before .before .before .before .before .before .before .before .before .before .before .before .ends2 .given .0 .0 in
+    let S3 = c .before .before .before .before .before .before .before .before .before .before .before .before .mark .result in
+    let L4 = c .before .before .before .before .before .before .before .before .before .before .bump .last .1 .0 in
+    let S4 = c .before .before .before .before .before .before .before .before .before .before .bump .result in
+    let J5 = c .before .before .before .before .rhs .last .1 .1 .1 .0 in
+    let L5 = c .before .before .before .before .rhs .last .1 .1 .1 .1 .0 in
+    let H5 = c .before .before .before .before .rhs .last .1 .1 .1 .1 .1 .0 in
+    let S5 = c .before .before .before .before .rhs .result in
+    in-steps {m = (mem X0 T0 N0 J0 L0 H0 S0)} {m' = (mem X0 T0 N0 J5 L5 H5 S5)} (c .before .before .before .before .before .before .before .before .before .before .before .before .before .before .before .before .before .before .before .before .before .before .before .before .before .before .before .before .before .before .before .pre .1 .0) (s-by {a = (mem X0 T0 N0 J0 L0 H0 S0)} {c = (mem X0 T0 N0 J0 L1 H1 S1)} {e = (mem X0 T0 N0 J5 L5 H5 S5)} _ (runs-always {a = (mem X0 T0 N0 J0 L0 H0 S0)} {c = (mem X0 T0 N0 J0 L1 H1 S1)} (rw (c .before .before .before .before .before .before .before .before .before .before .before .before .before .before .before .ends2 .given .1) at (c .before .before .before .before .before .before .before .before .before .before .before .before .before .before .before .before .before .before .before .before .before .should-break-exp .ensures))) (s-mark {e = (mem X0 T0 N0 J5 L5 H5 S5)} {x = X0} {t = T0} {n = N0} {j = J0} {l = L1} {h = H1} {s = S1} {s' = S3} (c .before .before .before .before .before .before .before .before .before .before .before .before .before .if1 .left) (c .before .before .before .before .before .before .before .before .before .before .before .before .mark .ensures) (s-bump {e = (mem X0 T0 N0 J5 L5 H5 S5)} {x = X0} {t = T0} {n = N0} {j = J0} {l = L1} {h = H1} {s = S3} {s' = S4} {l' = L4} (c .before .before .before .before .before .before .before .before .before .before .bump .ensures) (s-by {a = (mem X0 T0 N0 J0 L4 H1 S4)} {c = (mem X0 T0 N0 J5 L5 H5 S5)} {e = (mem X0 T0 N0 J5 L5 H5 S5)} _ (c .before .before .before .before .rhs .ensures) s-end))))
 
 abbrev ops-Inv-loop : ops-lts.InvT-loop
 ops-Inv-loop text toks env table₀ scratch₀ finds₀ left min b s1₀ table scratch finds s1 =
@@ -4162,13 +4817,25 @@ oth-same-length-2 t c =
 oth-returns : (t : ℕ) → oth-lts.Need-returns (oth-told t) (oth-at t) oth.Post
 unfolding decl.otherDec plan choose chosen
 oth-returns t c =
-    let pre0 = c .before .before .before .before .before .before .before .before .before .before .before .before .before .before .before .before .before .before .before .before .before .before .before .before .before .before .before .before .before .before .before .before .before .pre .1 .0 in
-    let if1 = c .before .before .before .before .before .before .before .before .before .before .before .before .before .before .before .before .before .before .before .before .before .before .before .before .before .before .before .if1 .taken in
-    let abs-head = c .before .before .before .before .before .before .before .before .before .before .before .before .before .before .before .before .before .before .before .before .before .before .abs-head .ensures in
-    let dec = c .before .before .before .before .before .before .before .before .before .before .before .before .before .before .dec .ensures in
-    let state = c .before .before .before .before .before .before .before .before .before .state .ensures in
-    let end-node = c .before .before .before .before .end-node .ensures in
-    in-steps pre0 (s-true _ _ (kind-is if1) (s-by _ abs-head (s-run (settled state (runs-in dec)) (s-by _ end-node s-end))))
+    let X0 = c .before .before .before .before .before .before .before .before .before .before .before .before .before .before .before .before .before .before .before .before .before .before .before .before .before .before .before .before .before .before .before .before .before .args .text .now in
+    let T0 = c .before .before .before .before .before .before .before .before .before .before .before .before .before .before .before .before .before .before .before .before .before .before .before .before .before .before .before .before .before .before .before .before .before .args .toks .now in
+    let N0 = c .before .before .before .before .before .before .before .before .before .before .before .before .before .before .before .before .before .before .before .before .before .before .before .before .before .before .before .before .before .before .before .before .before .args .env .now in
+    let J0 = c .before .before .before .before .before .before .before .before .before .before .before .before .before .before .before .before .before .before .before .before .before .before .before .before .before .before .before .before .before .before .before .before .before .args .table .now in
+    let L0 = c .before .before .before .before .before .before .before .before .before .before .before .before .before .before .before .before .before .before .before .before .before .before .before .before .before .before .before .before .before .before .before .before .before .args .scratch .now in
+    let H0 = c .before .before .before .before .before .before .before .before .before .before .before .before .before .before .before .before .before .before .before .before .before .before .before .before .before .before .before .before .before .before .before .before .before .args .finds .now in
+    let S0 = c .before .before .before .before .before .before .before .before .before .before .before .before .before .before .before .before .before .before .before .before .before .before .before .before .before .before .before .before .before .before .before .before .before .args .s in
+    let L2 = c .before .before .before .before .before .before .before .before .before .before .before .before .before .before .before .before .before .before .before .before .before .before .abs-head .last .1 .1 .1 .1 .0 in
+    let H2 = c .before .before .before .before .before .before .before .before .before .before .before .before .before .before .before .before .before .before .before .before .before .before .abs-head .last .1 .1 .1 .1 .1 .0 in
+    let S2 = c .before .before .before .before .before .before .before .before .before .before .before .before .before .before .before .before .before .before .before .before .before .before .abs-head .result in
+    let J3 = c .before .before .before .before .before .before .before .before .before .before .before .before .before .before .dec .last .1 .1 .1 .0 in
+    let L3 = c .before .before .before .before .before .before .before .before .before .before .before .before .before .before .dec .last .1 .1 .1 .1 .0 in
+    let H3 = c .before .before .before .before .before .before .before .before .before .before .before .before .before .before .dec .last .1 .1 .1 .1 .1 .0 in
+    let S3 = outState (c .before .before .before .before .before .before .before .before .before .before .before .before .before .before .dec .result) in
+    let S4 = c .before .before .before .before .before .before .before .before .before .state .result in
+    let L5 = c .before .before .before .before .end-node .last .1 .1 .1 .1 .0 in
+    let H5 = c .before .before .before .before .end-node .last .1 .1 .1 .1 .1 .0 in
+    let S5 = c .before .before .before .before .end-node .result in
+    in-steps {m = (mem X0 T0 N0 J0 L0 H0 S0)} {m' = (mem X0 T0 N0 J3 L5 H5 S5)} (c .before .before .before .before .before .before .before .before .before .before .before .before .before .before .before .before .before .before .before .before .before .before .before .before .before .before .before .before .before .before .before .before .before .pre .1 .0) (s-true {a = (mem X0 T0 N0 J0 L0 H0 S0)} {e = (mem X0 T0 N0 J3 L5 H5 S5)} _ _ (kind-is (c .before .before .before .before .before .before .before .before .before .before .before .before .before .before .before .before .before .before .before .before .before .before .before .before .before .before .before .if1 .taken)) (s-by {a = (mem X0 T0 N0 J0 L0 H0 S0)} {c = (mem X0 T0 N0 J0 L2 H2 S2)} {e = (mem X0 T0 N0 J3 L5 H5 S5)} _ (c .before .before .before .before .before .before .before .before .before .before .before .before .before .before .before .before .before .before .before .before .before .before .abs-head .ensures) (s-run {a = (mem X0 T0 N0 J0 L2 H2 S2)} {c = (mem X0 T0 N0 J3 L3 H3 S4)} {e = (mem X0 T0 N0 J3 L5 H5 S5)} (settled (c .before .before .before .before .before .before .before .before .before .state .ensures) (runs-in {a = (mem X0 T0 N0 J0 L2 H2 S2)} {c = (mem X0 T0 N0 J3 L3 H3 S3)} (c .before .before .before .before .before .before .before .before .before .before .before .before .before .before .dec .ensures))) (s-by {a = (mem X0 T0 N0 J3 L3 H3 S4)} {c = (mem X0 T0 N0 J3 L5 H5 S5)} {e = (mem X0 T0 N0 J3 L5 H5 S5)} _ (c .before .before .before .before .end-node .ensures) s-end))))
 
 oth-lo-requires : (t : ℕ) → oth-lts.Need-lo-requires (oth-told t) (oth-at t) oth.Post
 oth-lo-requires t c κs =
@@ -4190,11 +4857,18 @@ oth-same-length-4 t c =
 oth-returns-2 : (t : ℕ) → oth-lts.Need-returns-2 (oth-told t) (oth-at t) oth.Post
 unfolding decl.otherDec plan choose chosen
 oth-returns-2 t c =
-    let pre0 = c .before .before .before .before .before .before .before .before .before .before .before .before .before .before .before .pre .1 .0 in
-    let if1 = c .before .before .before .before .before .before .before .before .before .if1 .left in
-    let if2 = c .before .before .before .before .before .before .before .before .if2 .taken in
-    let lo = c .before .before .before .before .lo .ensures in
-    in-steps pre0 (s-false _ _ (kind-not if1) (s-true _ _ (kind-is if2) (s-by _ lo s-end)))
+    let X0 = c .before .before .before .before .before .before .before .before .before .before .before .before .before .before .before .args .text .now in
+    let T0 = c .before .before .before .before .before .before .before .before .before .before .before .before .before .before .before .args .toks .now in
+    let N0 = c .before .before .before .before .before .before .before .before .before .before .before .before .before .before .before .args .env .now in
+    let J0 = c .before .before .before .before .before .before .before .before .before .before .before .before .before .before .before .args .table .now in
+    let L0 = c .before .before .before .before .before .before .before .before .before .before .before .before .before .before .before .args .scratch .now in
+    let H0 = c .before .before .before .before .before .before .before .before .before .before .before .before .before .before .before .args .finds .now in
+    let S0 = c .before .before .before .before .before .before .before .before .before .before .before .before .before .before .before .args .s in
+    let J3 = c .before .before .before .before .lo .last .1 .1 .1 .0 in
+    let L3 = c .before .before .before .before .lo .last .1 .1 .1 .1 .0 in
+    let H3 = c .before .before .before .before .lo .last .1 .1 .1 .1 .1 .0 in
+    let S3 = outState (c .before .before .before .before .lo .result) in
+    in-steps {m = (mem X0 T0 N0 J0 L0 H0 S0)} {m' = (mem X0 T0 N0 J3 L3 H3 S3)} (c .before .before .before .before .before .before .before .before .before .before .before .before .before .before .before .pre .1 .0) (s-false {a = (mem X0 T0 N0 J0 L0 H0 S0)} {e = (mem X0 T0 N0 J3 L3 H3 S3)} _ _ (kind-not (c .before .before .before .before .before .before .before .before .before .if1 .left)) (s-true {a = (mem X0 T0 N0 J0 L0 H0 S0)} {e = (mem X0 T0 N0 J3 L3 H3 S3)} _ _ (kind-is (c .before .before .before .before .before .before .before .before .if2 .taken)) (s-by {a = (mem X0 T0 N0 J0 L0 H0 S0)} {c = (mem X0 T0 N0 J3 L3 H3 S3)} {e = (mem X0 T0 N0 J3 L3 H3 S3)} _ (c .before .before .before .before .lo .ensures) s-end)))
 
 oth-pre-requires : (t : ℕ) → oth-lts.Need-pre-requires (oth-told t) (oth-at t) oth.Post
 oth-pre-requires t c κs =
@@ -4241,11 +4915,18 @@ oth-same-length-6 t c =
 oth-returns-3 : (t : ℕ) → oth-lts.Need-returns-3 (oth-told t) (oth-at t) oth.Post
 unfolding decl.otherDec plan choose chosen
 oth-returns-3 t c =
-    let pre0 = c .before .before .before .before .before .before .before .before .before .before .before .before .before .before .before .before .before .before .pre .1 .0 in
-    let if1 = c .before .before .before .before .before .before .before .before .before .before .before .before .if1 .left in
-    let if2 = c .before .before .before .before .before .before .before .before .before .before .before .if2 .left in
-    let pre2 = rw (c .before .got .given .1) at (c .before .before .before .before .before .before .before .pre2 .ensures) in
-    in-steps pre0 (s-false _ _ (kind-not if1) (s-false _ _ (kind-not if2) (s-run (runs-in pre2) s-end)))
+    let X0 = c .before .before .before .before .before .before .before .before .before .before .before .before .before .before .before .before .before .before .args .text .now in
+    let T0 = c .before .before .before .before .before .before .before .before .before .before .before .before .before .before .before .before .before .before .args .toks .now in
+    let N0 = c .before .before .before .before .before .before .before .before .before .before .before .before .before .before .before .before .before .before .args .env .now in
+    let J0 = c .before .before .before .before .before .before .before .before .before .before .before .before .before .before .before .before .before .before .args .table .now in
+    let L0 = c .before .before .before .before .before .before .before .before .before .before .before .before .before .before .before .before .before .before .args .scratch .now in
+    let H0 = c .before .before .before .before .before .before .before .before .before .before .before .before .before .before .before .before .before .before .args .finds .now in
+    let S0 = c .before .before .before .before .before .before .before .before .before .before .before .before .before .before .before .before .before .before .args .s in
+    let J3 = c .before .before .before .before .before .before .before .pre2 .last .1 .1 .1 .0 in
+    let L3 = c .before .before .before .before .before .before .before .pre2 .last .1 .1 .1 .1 .0 in
+    let H3 = c .before .before .before .before .before .before .before .pre2 .last .1 .1 .1 .1 .1 .0 in
+    let S3 = c .before .got .given .0 .0 in
+    in-steps {m = (mem X0 T0 N0 J0 L0 H0 S0)} {m' = (mem X0 T0 N0 J3 L3 H3 S3)} (c .before .before .before .before .before .before .before .before .before .before .before .before .before .before .before .before .before .before .pre .1 .0) (s-false {a = (mem X0 T0 N0 J0 L0 H0 S0)} {e = (mem X0 T0 N0 J3 L3 H3 S3)} _ _ (kind-not (c .before .before .before .before .before .before .before .before .before .before .before .before .if1 .left)) (s-false {a = (mem X0 T0 N0 J0 L0 H0 S0)} {e = (mem X0 T0 N0 J3 L3 H3 S3)} _ _ (kind-not (c .before .before .before .before .before .before .before .before .before .before .before .if2 .left)) (s-run {a = (mem X0 T0 N0 J0 L0 H0 S0)} {c = (mem X0 T0 N0 J3 L3 H3 S3)} {e = (mem X0 T0 N0 J3 L3 H3 S3)} (runs-in {a = (mem X0 T0 N0 J0 L0 H0 S0)} {c = (mem X0 T0 N0 J3 L3 H3 S3)} (rw (c .before .got .given .1) at (c .before .before .before .before .before .before .before .pre2 .ensures))) s-end)))
 
 oth-same-length-7 : (t : ℕ) → oth-lts.Need-same-length-7 (oth-told t) (oth-at t) oth.Post
 oth-same-length-7 t c =
@@ -4258,12 +4939,20 @@ oth-same-length-8 t c =
 oth-returns-4 : (t : ℕ) → oth-lts.Need-returns-4 (oth-told t) (oth-at t) oth.Post
 unfolding decl.otherDec plan choose chosen
 oth-returns-4 t c =
-    let pre0 = c .before .before .before .before .before .before .before .before .before .before .before .before .before .before .before .before .before .before .before .before .before .before .pre .1 .0 in
-    let if1 = c .before .before .before .before .before .before .before .before .before .before .before .before .before .before .before .before .if1 .left in
-    let if2 = c .before .before .before .before .before .before .before .before .before .before .before .before .before .before .before .if2 .left in
-    let pre2 = rw (c .before .before .before .before .before .got2 .given .1) at (c .before .before .before .before .before .before .before .before .before .before .before .pre2 .ensures) in
-    let close = c .before .before .close .ensures in
-    in-steps pre0 (s-false _ _ (kind-not if1) (s-false _ _ (kind-not if2) (s-run (runs-in pre2) (s-close close s-end))))
+    let X0 = c .before .before .before .before .before .before .before .before .before .before .before .before .before .before .before .before .before .before .before .before .before .before .args .text .now in
+    let T0 = c .before .before .before .before .before .before .before .before .before .before .before .before .before .before .before .before .before .before .before .before .before .before .args .toks .now in
+    let N0 = c .before .before .before .before .before .before .before .before .before .before .before .before .before .before .before .before .before .before .before .before .before .before .args .env .now in
+    let J0 = c .before .before .before .before .before .before .before .before .before .before .before .before .before .before .before .before .before .before .before .before .before .before .args .table .now in
+    let L0 = c .before .before .before .before .before .before .before .before .before .before .before .before .before .before .before .before .before .before .before .before .before .before .args .scratch .now in
+    let H0 = c .before .before .before .before .before .before .before .before .before .before .before .before .before .before .before .before .before .before .before .before .before .before .args .finds .now in
+    let S0 = c .before .before .before .before .before .before .before .before .before .before .before .before .before .before .before .before .before .before .before .before .before .before .args .s in
+    let J3 = c .before .before .before .before .before .before .before .before .before .before .before .pre2 .last .1 .1 .1 .0 in
+    let L3 = c .before .before .before .before .before .before .before .before .before .before .before .pre2 .last .1 .1 .1 .1 .0 in
+    let H3 = c .before .before .before .before .before .before .before .before .before .before .before .pre2 .last .1 .1 .1 .1 .1 .0 in
+    let S3 = c .before .before .before .before .before .got2 .given .0 .0 in
+    let L4 = c .before .before .close .last .0 in
+    let S4 = c .before .before .close .result in
+    in-steps {m = (mem X0 T0 N0 J0 L0 H0 S0)} {m' = (mem X0 T0 N0 J3 L4 H3 S4)} (c .before .before .before .before .before .before .before .before .before .before .before .before .before .before .before .before .before .before .before .before .before .before .pre .1 .0) (s-false {a = (mem X0 T0 N0 J0 L0 H0 S0)} {e = (mem X0 T0 N0 J3 L4 H3 S4)} _ _ (kind-not (c .before .before .before .before .before .before .before .before .before .before .before .before .before .before .before .before .if1 .left)) (s-false {a = (mem X0 T0 N0 J0 L0 H0 S0)} {e = (mem X0 T0 N0 J3 L4 H3 S4)} _ _ (kind-not (c .before .before .before .before .before .before .before .before .before .before .before .before .before .before .before .if2 .left)) (s-run {a = (mem X0 T0 N0 J0 L0 H0 S0)} {c = (mem X0 T0 N0 J3 L3 H3 S3)} {e = (mem X0 T0 N0 J3 L4 H3 S4)} (runs-in {a = (mem X0 T0 N0 J0 L0 H0 S0)} {c = (mem X0 T0 N0 J3 L3 H3 S3)} (rw (c .before .before .before .before .before .got2 .given .1) at (c .before .before .before .before .before .before .before .before .before .before .before .pre2 .ensures))) (s-close {e = (mem X0 T0 N0 J3 L4 H3 S4)} {x = X0} {t = T0} {n = N0} {j = J3} {l = L3} {h = H3} {s = S3} {s' = S4} {l' = L4} (c .before .before .close .ensures) s-end))))
 
 pa-at-requires : (t : ℕ) → pa-lts.Need-at-requires (pa-told t) (pa-at t) pa.Post
 pa-at-requires t c κs =
@@ -4277,12 +4966,15 @@ pa-refuse-requires t c κs =
 pa-returns : (t : ℕ) → pa-lts.Need-returns (pa-told t) (pa-at t) pa.Post
 unfolding decl.functorArg plan choose chosen hushed
 pa-returns t c =
-    let pre0 = c .before .before .before .before .before .before .before .before .before .pre .1 in
-    let at = c .before .before .before .at .ensures in
-    let if1 = c .before .before .if1 .taken in
-    let if2 = c .before .if2 .taken in
-    let refuse = c .refuse .ensures in
-    by-steps pre0 (λ b. s-kind (s-true _ _ (kind-at _ _ _ _ at if1) (s-shut if2 refuse (λ k l. refl))))
+    let X0 = c .before .before .before .before .before .before .before .before .before .args .text .now in
+    let T0 = c .before .before .before .before .before .before .before .before .before .args .toks .now in
+    let N0 = c .before .before .before .before .before .before .before .before .before .args .env .now in
+    let J0 = c .before .before .before .before .before .before .before .before .before .args .table .now in
+    let L0 = c .before .before .before .before .before .before .before .before .before .args .scratch .now in
+    let H0 = c .before .before .before .before .before .before .before .before .before .args .finds .now in
+    let S0 = c .before .before .before .before .before .before .before .before .before .args .s in
+    let S4 = c .refuse .result in
+    by-steps {m = (mem X0 T0 N0 J0 L0 H0 S0)} {m' = (mem X0 T0 N0 J0 L0 H0 S4)} (c .before .before .before .before .before .before .before .before .before .pre .1) (λ b. s-kind {a = (mem X0 T0 N0 J0 L0 H0 S0)} {e = (mem X0 T0 N0 J0 L0 H0 S4)} (s-true {a = (mem X0 T0 N0 J0 L0 H0 S0)} {e = (mem X0 T0 N0 J0 L0 H0 S4)} _ _ (kind-at _ _ (mem X0 T0 N0 J0 L0 H0 S0) _ (c .before .before .before .at .ensures) (c .before .before .if1 .taken)) (s-shut (c .before .if2 .taken) (c .refuse .ensures) (λ k l. refl))))
 
 pa-mark-requires : (t : ℕ) → pa-lts.Need-mark-requires (pa-told t) (pa-at t) pa.Post
 pa-mark-requires t c κs =
@@ -4346,16 +5038,25 @@ pa-same-length-2 t c =
 pa-returns-2 : (t : ℕ) → pa-lts.Need-returns-2 (pa-told t) (pa-at t) pa.Post
 unfolding decl.functorArg plan choose chosen
 pa-returns-2 t c =
-    let pre0 = c .before .before .before .before .before .before .before .before .before .before .before .before .before .before .before .before .before .before .before .before .before .before .before .before .before .before .before .before .before .pre .1 in
-    let at = c .before .before .before .before .before .before .before .before .before .before .before .before .before .before .before .before .before .before .before .before .before .before .before .at .ensures in
-    let if1 = c .before .before .before .before .before .before .before .before .before .before .before .before .before .before .before .before .before .before .before .before .before .before .if1 .taken in
-    let if2 = c .before .before .before .before .before .before .before .before .before .before .before .before .before .before .before .before .before .before .before .before .before .if2 .left in
-    let mark = c .before .before .before .before .before .before .before .before .before .before .before .before .before .before .before .before .before .before .before .before .mark .ensures in
-    let bump = c .before .before .before .before .before .before .before .before .before .before .before .before .before .before .before .before .before .before .bump .ensures in
-    let bump-ascription = c .before .before .before .before .before .before .before .before .before .before .before .before .before .before .bump-ascription .ensures in
-    let sgm = c .before .before .before .before .before .before .before .before .sgm .ensures in
-    let close = c .before .before .close .ensures in
-    by-steps pre0 (λ b. s-kind (s-true _ _ (kind-at _ _ _ _ at if1) (s-mark if2 mark (s-bump bump (s-takes _ _ _ bump-ascription (s-by _ (runs-in sgm) (s-close close s-end)))))))
+    let X0 = c .before .before .before .before .before .before .before .before .before .before .before .before .before .before .before .before .before .before .before .before .before .before .before .before .before .before .before .before .before .args .text .now in
+    let T0 = c .before .before .before .before .before .before .before .before .before .before .before .before .before .before .before .before .before .before .before .before .before .before .before .before .before .before .before .before .before .args .toks .now in
+    let N0 = c .before .before .before .before .before .before .before .before .before .before .before .before .before .before .before .before .before .before .before .before .before .before .before .before .before .before .before .before .before .args .env .now in
+    let J0 = c .before .before .before .before .before .before .before .before .before .before .before .before .before .before .before .before .before .before .before .before .before .before .before .before .before .before .before .before .before .args .table .now in
+    let L0 = c .before .before .before .before .before .before .before .before .before .before .before .before .before .before .before .before .before .before .before .before .before .before .before .before .before .before .before .before .before .args .scratch .now in
+    let H0 = c .before .before .before .before .before .before .before .before .before .before .before .before .before .before .before .before .before .before .before .before .before .before .before .before .before .before .before .before .before .args .finds .now in
+    let S0 = c .before .before .before .before .before .before .before .before .before .before .before .before .before .before .before .before .before .before .before .before .before .before .before .before .before .before .before .before .before .args .s in
+    let S4 = c .before .before .before .before .before .before .before .before .before .before .before .before .before .before .before .before .before .before .before .before .mark .result in
+    let L5 = c .before .before .before .before .before .before .before .before .before .before .before .before .before .before .before .before .before .before .bump .last .1 .0 in
+    let S5 = c .before .before .before .before .before .before .before .before .before .before .before .before .before .before .before .before .before .before .bump .result in
+    let L6 = c .before .before .before .before .before .before .before .before .before .before .before .before .before .before .bump-ascription .last .1 .0 in
+    let S6 = c .before .before .before .before .before .before .before .before .before .before .before .before .before .before .bump-ascription .result in
+    let J7 = c .before .before .before .before .before .before .before .before .sgm .last .1 .1 .1 .0 in
+    let L7 = c .before .before .before .before .before .before .before .before .sgm .last .1 .1 .1 .1 .0 in
+    let H7 = c .before .before .before .before .before .before .before .before .sgm .last .1 .1 .1 .1 .1 .0 in
+    let S7 = c .before .before .before .before .before .before .before .before .sgm .result in
+    let L8 = c .before .before .close .last .0 in
+    let S8 = c .before .before .close .result in
+    by-steps {m = (mem X0 T0 N0 J0 L0 H0 S0)} {m' = (mem X0 T0 N0 J7 L8 H7 S8)} (c .before .before .before .before .before .before .before .before .before .before .before .before .before .before .before .before .before .before .before .before .before .before .before .before .before .before .before .before .before .pre .1) (λ b. s-kind {a = (mem X0 T0 N0 J0 L0 H0 S0)} {e = (mem X0 T0 N0 J7 L8 H7 S8)} (s-true {a = (mem X0 T0 N0 J0 L0 H0 S0)} {e = (mem X0 T0 N0 J7 L8 H7 S8)} _ _ (kind-at _ _ (mem X0 T0 N0 J0 L0 H0 S0) _ (c .before .before .before .before .before .before .before .before .before .before .before .before .before .before .before .before .before .before .before .before .before .before .before .at .ensures) (c .before .before .before .before .before .before .before .before .before .before .before .before .before .before .before .before .before .before .before .before .before .before .if1 .taken)) (s-mark {e = (mem X0 T0 N0 J7 L8 H7 S8)} {x = X0} {t = T0} {n = N0} {j = J0} {l = L0} {h = H0} {s = S0} {s' = S4} (c .before .before .before .before .before .before .before .before .before .before .before .before .before .before .before .before .before .before .before .before .before .if2 .left) (c .before .before .before .before .before .before .before .before .before .before .before .before .before .before .before .before .before .before .before .before .mark .ensures) (s-bump {e = (mem X0 T0 N0 J7 L8 H7 S8)} {x = X0} {t = T0} {n = N0} {j = J0} {l = L0} {h = H0} {s = S4} {s' = S5} {l' = L5} (c .before .before .before .before .before .before .before .before .before .before .before .before .before .before .before .before .before .before .bump .ensures) (s-takes _ _ {x = X0} {t = T0} {n = N0} {j = J0} {l = L5} {h = H0} {l' = L6} {s = S5} {s' = S6} {e = (mem X0 T0 N0 J7 L8 H7 S8)} _ (c .before .before .before .before .before .before .before .before .before .before .before .before .before .before .bump-ascription .ensures) (s-by {a = (mem X0 T0 N0 J0 L6 H0 S6)} {c = (mem X0 T0 N0 J7 L7 H7 S7)} {e = (mem X0 T0 N0 J7 L8 H7 S8)} _ (runs-in {a = (mem X0 T0 N0 J0 L6 H0 S6)} {c = (mem X0 T0 N0 J7 L7 H7 S7)} (c .before .before .before .before .before .before .before .before .sgm .ensures)) (s-close {e = (mem X0 T0 N0 J7 L8 H7 S8)} {x = X0} {t = T0} {n = N0} {j = J7} {l = L7} {h = H7} {s = S7} {s' = S8} {l' = L8} (c .before .before .close .ensures) s-end)))))))
 
 pa-dec-requires : (t : ℕ) → pa-lts.Need-dec-requires (pa-told t) (pa-at t) pa.Post
 pa-dec-requires t c κs =
@@ -4379,12 +5080,19 @@ pa-same-length-4 t c =
 pa-returns-3 : (t : ℕ) → pa-lts.Need-returns-3 (pa-told t) (pa-at t) pa.Post
 unfolding decl.functorArg plan choose chosen
 pa-returns-3 t c =
-    let pre0 = c .before .before .before .before .before .before .before .before .before .before .before .before .before .before .before .before .pre .1 in
-    let at = c .before .before .before .before .before .before .before .before .before .before .at .ensures in
-    let if1 = c .before .before .before .before .before .before .before .before .before .if1 .left in
-    let dec = c .before .before .before .before .before .dec .ensures in
-    let state = c .state .ensures in
-    by-steps pre0 (λ b. s-kind (s-false _ _ (kind-off _ _ _ _ at if1) (s-run (settled state (runs-in dec)) s-end)))
+    let X0 = c .before .before .before .before .before .before .before .before .before .before .before .before .before .before .before .before .args .text .now in
+    let T0 = c .before .before .before .before .before .before .before .before .before .before .before .before .before .before .before .before .args .toks .now in
+    let N0 = c .before .before .before .before .before .before .before .before .before .before .before .before .before .before .before .before .args .env .now in
+    let J0 = c .before .before .before .before .before .before .before .before .before .before .before .before .before .before .before .before .args .table .now in
+    let L0 = c .before .before .before .before .before .before .before .before .before .before .before .before .before .before .before .before .args .scratch .now in
+    let H0 = c .before .before .before .before .before .before .before .before .before .before .before .before .before .before .before .before .args .finds .now in
+    let S0 = c .before .before .before .before .before .before .before .before .before .before .before .before .before .before .before .before .args .s in
+    let J3 = c .before .before .before .before .before .dec .last .1 .1 .1 .0 in
+    let L3 = c .before .before .before .before .before .dec .last .1 .1 .1 .1 .0 in
+    let H3 = c .before .before .before .before .before .dec .last .1 .1 .1 .1 .1 .0 in
+    let S3 = outState (c .before .before .before .before .before .dec .result) in
+    let S4 = c .state .result in
+    by-steps {m = (mem X0 T0 N0 J0 L0 H0 S0)} {m' = (mem X0 T0 N0 J3 L3 H3 S4)} (c .before .before .before .before .before .before .before .before .before .before .before .before .before .before .before .before .pre .1) (λ b. s-kind {a = (mem X0 T0 N0 J0 L0 H0 S0)} {e = (mem X0 T0 N0 J3 L3 H3 S4)} (s-false {a = (mem X0 T0 N0 J0 L0 H0 S0)} {e = (mem X0 T0 N0 J3 L3 H3 S4)} _ _ (kind-off _ _ (mem X0 T0 N0 J0 L0 H0 S0) _ (c .before .before .before .before .before .before .before .before .before .before .at .ensures) (c .before .before .before .before .before .before .before .before .before .if1 .left)) (s-run {a = (mem X0 T0 N0 J0 L0 H0 S0)} {c = (mem X0 T0 N0 J3 L3 H3 S4)} {e = (mem X0 T0 N0 J3 L3 H3 S4)} (settled (c .state .ensures) (runs-in {a = (mem X0 T0 N0 J0 L0 H0 S0)} {c = (mem X0 T0 N0 J3 L3 H3 S3)} (c .before .before .before .before .before .dec .ensures))) s-end)))
 
 pre-peek-requires : (t : ℕ) → pre-lts.Need-peek-requires (pre-told t) (pre-at t) pre.Post
 pre-peek-requires t c κs =
@@ -4406,9 +5114,14 @@ pre-enum-told t c =
 pre-returns : (t : ℕ) → pre-lts.Need-returns (pre-told t) (pre-at t) pre.Post
 unfolding root.body expr.expScope expr.expHead plan choose chosen
 pre-returns t c =
-    let pre0 = c .before .before .before .before .before .before .before .before .pre .1 in
-    let peek = rw (c .enum-told .given .1) at (c .before .before .peek .ensures) in
-    by-steps pre0 (λ b. s-rule (s-look peek s-end))
+    let X0 = c .before .before .before .before .before .before .before .before .args .text .now in
+    let T0 = c .before .before .before .before .before .before .before .before .args .toks .now in
+    let N0 = c .before .before .before .before .before .before .before .before .args .env .now in
+    let J0 = c .before .before .before .before .before .before .before .before .args .table .now in
+    let L0 = c .before .before .before .before .before .before .before .before .args .scratch .now in
+    let H0 = c .before .before .before .before .before .before .before .before .args .finds .now in
+    let S0 = c .before .before .before .before .before .before .before .before .args .s in
+    by-steps {m = (mem X0 T0 N0 J0 L0 H0 S0)} {m' = (mem X0 T0 N0 J0 L0 H0 S0)} (c .before .before .before .before .before .before .before .before .pre .1) (λ b. s-rule {a = (mem X0 T0 N0 J0 L0 H0 S0)} {e = (mem X0 T0 N0 J0 L0 H0 S0)} (s-look {a = (mem X0 T0 N0 J0 L0 H0 S0)} {e = (mem X0 T0 N0 J0 L0 H0 S0)} (rw (c .enum-told .given .1) at (c .before .before .peek .ensures)) s-end))
 
 pre-refuse-requires : (t : ℕ) → pre-lts.Need-refuse-requires (pre-told t) (pre-at t) pre.Post
 pre-refuse-requires t c κs =
@@ -4417,11 +5130,15 @@ pre-refuse-requires t c κs =
 pre-returns-2 : (t : ℕ) → pre-lts.Need-returns-2 (pre-told t) (pre-at t) pre.Post
 unfolding root.body expr.expScope expr.expHead plan choose chosen expr.expRest expr.atExp hushed
 pre-returns-2 t c =
-    let pre0 = c .before .before .before .before .before .before .before .before .before .before .before .pre .1 in
-    let peek = rw (c .before .before .before .k .given .1) at (c .before .before .before .before .before .peek .ensures) in
-    let if1 = c .before .if1 .taken in
-    let refuse = c .refuse .ensures in
-    by-steps pre0 (λ b. s-rule (s-look peek (s-shut if1 refuse (λ k l. refl))))
+    let X0 = c .before .before .before .before .before .before .before .before .before .before .before .args .text .now in
+    let T0 = c .before .before .before .before .before .before .before .before .before .before .before .args .toks .now in
+    let N0 = c .before .before .before .before .before .before .before .before .before .before .before .args .env .now in
+    let J0 = c .before .before .before .before .before .before .before .before .before .before .before .args .table .now in
+    let L0 = c .before .before .before .before .before .before .before .before .before .before .before .args .scratch .now in
+    let H0 = c .before .before .before .before .before .before .before .before .before .before .before .args .finds .now in
+    let S0 = c .before .before .before .before .before .before .before .before .before .before .before .args .s in
+    let S3 = c .refuse .result in
+    by-steps {m = (mem X0 T0 N0 J0 L0 H0 S0)} {m' = (mem X0 T0 N0 J0 L0 H0 S3)} (c .before .before .before .before .before .before .before .before .before .before .before .pre .1) (λ b. s-rule {a = (mem X0 T0 N0 J0 L0 H0 S0)} {e = (mem X0 T0 N0 J0 L0 H0 S3)} (s-look {a = (mem X0 T0 N0 J0 L0 H0 S0)} {e = (mem X0 T0 N0 J0 L0 H0 S3)} (rw (c .before .before .before .k .given .1) at (c .before .before .before .before .before .peek .ensures)) (s-shut (c .before .if1 .taken) (c .refuse .ensures) (λ k l. refl))))
 
 pre-mark-requires : (t : ℕ) → pre-lts.Need-mark-requires (pre-told t) (pre-at t) pre.Post
 pre-mark-requires t c κs =
@@ -4467,15 +5184,22 @@ pre-same-length-2 t c =
 pre-returns-3 : (t : ℕ) → pre-lts.Need-returns-3 (pre-told t) (pre-at t) pre.Post
 unfolding root.body expr.expScope expr.expHead plan choose chosen
 pre-returns-3 t c =
-    let pre0 = c .before .before .before .before .before .before .before .before .before .before .before .before .before .before .before .before .before .before .before .before .before .before .before .before .before .before .before .before .before .before .pre .1 in
-    let peek = rw (c .before .before .before .before .before .before .before .before .before .before .before .before .before .before .before .before .before .before .before .before .before .before .k .given .1) at (c .before .before .before .before .before .before .before .before .before .before .before .before .before .before .before .before .before .before .before .before .before .before .before .before .peek .ensures) in
-    let if1 = c .before .before .before .before .before .before .before .before .before .before .before .before .before .before .before .before .before .before .before .before .if1 .left in
-    let mark = c .before .before .before .before .before .before .before .before .before .before .before .before .before .before .before .before .before .before .before .mark .ensures in
-    let starts = c .before .before .before .before .before .before .before .before .before .before .before .before .before .before .before .before .before .before .starts .ensures in
-    let if2 = c .before .before .before .before .before .before .before .before .before .before .before .before .before .before .before .before .before .if2 .taken in
-    let keyword = c .before .before .before .before .before .before .before .before .before .before .before .before .keyword .ensures in
-    let kw = c .before .before .before .before .kw .ensures in
-    by-steps pre0 (λ b. s-rule (s-look peek (s-mark if1 mark (s-true _ _ (test-true starts if2) (s-by _ (runs-always keyword) (s-by _ kw s-end))))))
+    let X0 = c .before .before .before .before .before .before .before .before .before .before .before .before .before .before .before .before .before .before .before .before .before .before .before .before .before .before .before .before .before .before .args .text .now in
+    let T0 = c .before .before .before .before .before .before .before .before .before .before .before .before .before .before .before .before .before .before .before .before .before .before .before .before .before .before .before .before .before .before .args .toks .now in
+    let N0 = c .before .before .before .before .before .before .before .before .before .before .before .before .before .before .before .before .before .before .before .before .before .before .before .before .before .before .before .before .before .before .args .env .now in
+    let J0 = c .before .before .before .before .before .before .before .before .before .before .before .before .before .before .before .before .before .before .before .before .before .before .before .before .before .before .before .before .before .before .args .table .now in
+    let L0 = c .before .before .before .before .before .before .before .before .before .before .before .before .before .before .before .before .before .before .before .before .before .before .before .before .before .before .before .before .before .before .args .scratch .now in
+    let H0 = c .before .before .before .before .before .before .before .before .before .before .before .before .before .before .before .before .before .before .before .before .before .before .before .before .before .before .before .before .before .before .args .finds .now in
+    let S0 = c .before .before .before .before .before .before .before .before .before .before .before .before .before .before .before .before .before .before .before .before .before .before .before .before .before .before .before .before .before .before .args .s in
+    let S3 = c .before .before .before .before .before .before .before .before .before .before .before .before .before .before .before .before .before .before .before .mark .result in
+    let L6 = c .before .before .before .before .before .before .before .before .before .before .before .before .keyword .last .1 .1 .1 .1 .0 in
+    let H6 = c .before .before .before .before .before .before .before .before .before .before .before .before .keyword .last .1 .1 .1 .1 .1 .0 in
+    let S6 = c .before .before .before .before .before .before .before .before .before .before .before .before .keyword .result in
+    let J7 = c .before .before .before .before .kw .last .1 .1 .1 .0 in
+    let L7 = c .before .before .before .before .kw .last .1 .1 .1 .1 .0 in
+    let H7 = c .before .before .before .before .kw .last .1 .1 .1 .1 .1 .0 in
+    let S7 = c .before .before .before .before .kw .result in
+    by-steps {m = (mem X0 T0 N0 J0 L0 H0 S0)} {m' = (mem X0 T0 N0 J7 L7 H7 S7)} (c .before .before .before .before .before .before .before .before .before .before .before .before .before .before .before .before .before .before .before .before .before .before .before .before .before .before .before .before .before .before .pre .1) (λ b. s-rule {a = (mem X0 T0 N0 J0 L0 H0 S0)} {e = (mem X0 T0 N0 J7 L7 H7 S7)} (s-look {a = (mem X0 T0 N0 J0 L0 H0 S0)} {e = (mem X0 T0 N0 J7 L7 H7 S7)} (rw (c .before .before .before .before .before .before .before .before .before .before .before .before .before .before .before .before .before .before .before .before .before .before .k .given .1) at (c .before .before .before .before .before .before .before .before .before .before .before .before .before .before .before .before .before .before .before .before .before .before .before .before .peek .ensures)) (s-mark {e = (mem X0 T0 N0 J7 L7 H7 S7)} {x = X0} {t = T0} {n = N0} {j = J0} {l = L0} {h = H0} {s = S0} {s' = S3} (c .before .before .before .before .before .before .before .before .before .before .before .before .before .before .before .before .before .before .before .before .if1 .left) (c .before .before .before .before .before .before .before .before .before .before .before .before .before .before .before .before .before .before .before .mark .ensures) (s-true {a = (mem X0 T0 N0 J0 L0 H0 S3)} {e = (mem X0 T0 N0 J7 L7 H7 S7)} _ _ (test-true (c .before .before .before .before .before .before .before .before .before .before .before .before .before .before .before .before .before .before .starts .ensures) (c .before .before .before .before .before .before .before .before .before .before .before .before .before .before .before .before .before .if2 .taken)) (s-by {a = (mem X0 T0 N0 J0 L0 H0 S3)} {c = (mem X0 T0 N0 J0 L6 H6 S6)} {e = (mem X0 T0 N0 J7 L7 H7 S7)} _ (runs-always {a = (mem X0 T0 N0 J0 L0 H0 S3)} {c = (mem X0 T0 N0 J0 L6 H6 S6)} (c .before .before .before .before .before .before .before .before .before .before .before .before .keyword .ensures)) (s-by {a = (mem X0 T0 N0 J0 L6 H6 S6)} {c = (mem X0 T0 N0 J7 L7 H7 S7)} {e = (mem X0 T0 N0 J7 L7 H7 S7)} _ (c .before .before .before .before .kw .ensures) s-end))))))
 
 pre-rst-requires : (t : ℕ) → pre-lts.Need-rst-requires (pre-told t) (pre-at t) pre.Post
 pre-rst-requires t c κs =
@@ -4498,14 +5222,19 @@ pre-same-length-4 t c =
 pre-returns-4 : (t : ℕ) → pre-lts.Need-returns-4 (pre-told t) (pre-at t) pre.Post
 unfolding root.body expr.expScope expr.expHead plan choose chosen
 pre-returns-4 t c =
-    let pre0 = c .before .before .before .before .before .before .before .before .before .before .before .before .before .before .before .before .before .before .before .before .before .pre .1 in
-    let peek = rw (c .before .before .before .before .before .before .before .before .before .before .before .before .before .k .given .1) at (c .before .before .before .before .before .before .before .before .before .before .before .before .before .before .before .peek .ensures) in
-    let if1 = c .before .before .before .before .before .before .before .before .before .before .before .if1 .left in
-    let mark = c .before .before .before .before .before .before .before .before .before .before .mark .ensures in
-    let starts = c .before .before .before .before .before .before .before .before .before .starts .ensures in
-    let if2 = c .before .before .before .before .before .before .before .before .if2 .left in
-    let rst = c .before .before .before .before .rst .ensures in
-    by-steps pre0 (λ b. s-rule (s-look peek (s-mark if1 mark (s-false _ _ (test-false starts if2) (s-by _ rst s-end)))))
+    let X0 = c .before .before .before .before .before .before .before .before .before .before .before .before .before .before .before .before .before .before .before .before .before .args .text .now in
+    let T0 = c .before .before .before .before .before .before .before .before .before .before .before .before .before .before .before .before .before .before .before .before .before .args .toks .now in
+    let N0 = c .before .before .before .before .before .before .before .before .before .before .before .before .before .before .before .before .before .before .before .before .before .args .env .now in
+    let J0 = c .before .before .before .before .before .before .before .before .before .before .before .before .before .before .before .before .before .before .before .before .before .args .table .now in
+    let L0 = c .before .before .before .before .before .before .before .before .before .before .before .before .before .before .before .before .before .before .before .before .before .args .scratch .now in
+    let H0 = c .before .before .before .before .before .before .before .before .before .before .before .before .before .before .before .before .before .before .before .before .before .args .finds .now in
+    let S0 = c .before .before .before .before .before .before .before .before .before .before .before .before .before .before .before .before .before .before .before .before .before .args .s in
+    let S3 = c .before .before .before .before .before .before .before .before .before .before .mark .result in
+    let J6 = c .before .before .before .before .rst .last .1 .1 .1 .0 in
+    let L6 = c .before .before .before .before .rst .last .1 .1 .1 .1 .0 in
+    let H6 = c .before .before .before .before .rst .last .1 .1 .1 .1 .1 .0 in
+    let S6 = outState (c .before .before .before .before .rst .result) in
+    by-steps {m = (mem X0 T0 N0 J0 L0 H0 S0)} {m' = (mem X0 T0 N0 J6 L6 H6 S6)} (c .before .before .before .before .before .before .before .before .before .before .before .before .before .before .before .before .before .before .before .before .before .pre .1) (λ b. s-rule {a = (mem X0 T0 N0 J0 L0 H0 S0)} {e = (mem X0 T0 N0 J6 L6 H6 S6)} (s-look {a = (mem X0 T0 N0 J0 L0 H0 S0)} {e = (mem X0 T0 N0 J6 L6 H6 S6)} (rw (c .before .before .before .before .before .before .before .before .before .before .before .before .before .k .given .1) at (c .before .before .before .before .before .before .before .before .before .before .before .before .before .before .before .peek .ensures)) (s-mark {e = (mem X0 T0 N0 J6 L6 H6 S6)} {x = X0} {t = T0} {n = N0} {j = J0} {l = L0} {h = H0} {s = S0} {s' = S3} (c .before .before .before .before .before .before .before .before .before .before .before .if1 .left) (c .before .before .before .before .before .before .before .before .before .before .mark .ensures) (s-false {a = (mem X0 T0 N0 J0 L0 H0 S3)} {e = (mem X0 T0 N0 J6 L6 H6 S6)} _ _ (test-false (c .before .before .before .before .before .before .before .before .before .starts .ensures) (c .before .before .before .before .before .before .before .before .if2 .left)) (s-by {a = (mem X0 T0 N0 J0 L0 H0 S3)} {c = (mem X0 T0 N0 J6 L6 H6 S6)} {e = (mem X0 T0 N0 J6 L6 H6 S6)} _ (c .before .before .before .before .rst .ensures) s-end)))))
 
 pt-tl-requires :
     (t : ℕ) →
@@ -4530,10 +5259,18 @@ pt-returns :
     (t : ℕ) → pt-lts.Need-returns (pt-told t) (pt-at t) pt.Post
 unfolding decl.semiClosure plan choose chosen
 pt-returns t c =
-    let pre0 = c .before .before .before .before .before .before .before .before .before .before .before .before .before .before .pre .1 in
-    let if1 = c .before .before .before .before .before .before .before .before .if1 .taken in
-    let tl = c .before .before .before .before .tl .ensures in
-    by-steps pre0 (λ b. s-first _ _ _ _ _ _ (eq-eqb _ _ if1) (s-by _ (runs-in tl) s-end))
+    let X0 = c .before .before .before .before .before .before .before .before .before .before .before .before .before .before .args .text .now in
+    let T0 = c .before .before .before .before .before .before .before .before .before .before .before .before .before .before .args .toks .now in
+    let N0 = c .before .before .before .before .before .before .before .before .before .before .before .before .before .before .args .env .now in
+    let J0 = c .before .before .before .before .before .before .before .before .before .before .before .before .before .before .args .table .now in
+    let L0 = c .before .before .before .before .before .before .before .before .before .before .before .before .before .before .args .scratch .now in
+    let H0 = c .before .before .before .before .before .before .before .before .before .before .before .before .before .before .args .finds .now in
+    let S0 = c .before .before .before .before .before .before .before .before .before .before .before .before .before .before .args .s in
+    let J2 = c .before .before .before .before .tl .last .1 .1 .1 .0 in
+    let L2 = c .before .before .before .before .tl .last .1 .1 .1 .1 .0 in
+    let H2 = c .before .before .before .before .tl .last .1 .1 .1 .1 .1 .0 in
+    let S2 = outState (c .before .before .before .before .tl .result) in
+    by-steps {m = (mem X0 T0 N0 J0 L0 H0 S0)} {m' = (mem X0 T0 N0 J2 L2 H2 S2)} (c .before .before .before .before .before .before .before .before .before .before .before .before .before .before .pre .1) (λ b. s-first {a = (mem X0 T0 N0 J0 L0 H0 S0)} {e = (mem X0 T0 N0 J2 L2 H2 S2)} _ _ _ _ _ _ (eq-eqb _ _ (c .before .before .before .before .before .before .before .before .if1 .taken)) (s-by {a = (mem X0 T0 N0 J0 L0 H0 S0)} {c = (mem X0 T0 N0 J2 L2 H2 S2)} {e = (mem X0 T0 N0 J2 L2 H2 S2)} _ (runs-in {a = (mem X0 T0 N0 J0 L0 H0 S0)} {c = (mem X0 T0 N0 J2 L2 H2 S2)} (c .before .before .before .before .tl .ensures)) s-end))
 
 pt-one-requires :
     (t : ℕ) →
@@ -4556,10 +5293,18 @@ pt-returns-2 :
     (t : ℕ) → pt-lts.Need-returns-2 (pt-told t) (pt-at t) pt.Post
 unfolding decl.semiClosure plan choose chosen
 pt-returns-2 t c =
-    let pre0 = c .before .before .before .before .before .before .before .before .before .before .before .before .before .before .pre .1 in
-    let if1 = c .before .before .before .before .before .before .before .before .if1 .left in
-    let one = c .before .before .before .before .one .ensures in
-    by-steps pre0 (λ b. s-second _ _ _ _ _ _ (ne-eqb _ _ if1) (s-by _ (runs-in one) s-end))
+    let X0 = c .before .before .before .before .before .before .before .before .before .before .before .before .before .before .args .text .now in
+    let T0 = c .before .before .before .before .before .before .before .before .before .before .before .before .before .before .args .toks .now in
+    let N0 = c .before .before .before .before .before .before .before .before .before .before .before .before .before .before .args .env .now in
+    let J0 = c .before .before .before .before .before .before .before .before .before .before .before .before .before .before .args .table .now in
+    let L0 = c .before .before .before .before .before .before .before .before .before .before .before .before .before .before .args .scratch .now in
+    let H0 = c .before .before .before .before .before .before .before .before .before .before .before .before .before .before .args .finds .now in
+    let S0 = c .before .before .before .before .before .before .before .before .before .before .before .before .before .before .args .s in
+    let J2 = c .before .before .before .before .one .last .1 .1 .1 .0 in
+    let L2 = c .before .before .before .before .one .last .1 .1 .1 .1 .0 in
+    let H2 = c .before .before .before .before .one .last .1 .1 .1 .1 .1 .0 in
+    let S2 = outState (c .before .before .before .before .one .result) in
+    by-steps {m = (mem X0 T0 N0 J0 L0 H0 S0)} {m' = (mem X0 T0 N0 J2 L2 H2 S2)} (c .before .before .before .before .before .before .before .before .before .before .before .before .before .before .pre .1) (λ b. s-second {a = (mem X0 T0 N0 J0 L0 H0 S0)} {e = (mem X0 T0 N0 J2 L2 H2 S2)} _ _ _ _ _ _ (ne-eqb _ _ (c .before .before .before .before .before .before .before .before .if1 .left)) (s-by {a = (mem X0 T0 N0 J0 L0 H0 S0)} {c = (mem X0 T0 N0 J2 L2 H2 S2)} {e = (mem X0 T0 N0 J2 L2 H2 S2)} _ (runs-in {a = (mem X0 T0 N0 J0 L0 H0 S0)} {c = (mem X0 T0 N0 J2 L2 H2 S2)} (c .before .before .before .before .one .ensures)) s-end))
 
 rhs-is-ascribed-requires : (t : ℕ) → rhs-lts.Need-is-ascribed-requires (rhs-told t) (rhs-at t) rhs.Post
 rhs-is-ascribed-requires t c κs =
@@ -4701,12 +5446,18 @@ rnd-same-length t c =
 rnd-returns : (t : ℕ) → rnd-lts.Need-returns (rnd-told t) (rnd-at t) rnd.Post
 unfolding expr.atExpLRound expr.endClosure util.choose plan choose chosen
 rnd-returns t c =
-    let pre0 = c .before .before .before .before .before .before .before .before .before .before .before .before .before .before .before .pre .1 .0 in
-    let at = c .before .before .before .before .before .before .before .before .before .at .ensures in
-    let if1 = c .before .before .before .before .before .before .before .before .if1 .taken in
-    let bump = c .before .before .before .before .before .before .bump .ensures in
-    let close = c .before .before .close .ensures in
-    in-steps pre0 (s-kind (s-true _ _ (kind-at _ _ _ _ at if1) (s-bump bump (s-close close s-end))))
+    let X0 = c .before .before .before .before .before .before .before .before .before .before .before .before .before .before .before .args .text .now in
+    let T0 = c .before .before .before .before .before .before .before .before .before .before .before .before .before .before .before .args .toks .now in
+    let N0 = c .before .before .before .before .before .before .before .before .before .before .before .before .before .before .before .args .env .now in
+    let J0 = c .before .before .before .before .before .before .before .before .before .before .before .before .before .before .before .args .table .now in
+    let L0 = c .before .before .before .before .before .before .before .before .before .before .before .before .before .before .before .args .scratch .now in
+    let H0 = c .before .before .before .before .before .before .before .before .before .before .before .before .before .before .before .args .finds .now in
+    let S0 = c .before .before .before .before .before .before .before .before .before .before .before .before .before .before .before .args .s in
+    let L3 = c .before .before .before .before .before .before .bump .last .1 .0 in
+    let S3 = c .before .before .before .before .before .before .bump .result in
+    let L4 = c .before .before .close .last .0 in
+    let S4 = c .before .before .close .result in
+    in-steps {m = (mem X0 T0 N0 J0 L0 H0 S0)} {m' = (mem X0 T0 N0 J0 L4 H0 S4)} (c .before .before .before .before .before .before .before .before .before .before .before .before .before .before .before .pre .1 .0) (s-kind {a = (mem X0 T0 N0 J0 L0 H0 S0)} {e = (mem X0 T0 N0 J0 L4 H0 S4)} (s-true {a = (mem X0 T0 N0 J0 L0 H0 S0)} {e = (mem X0 T0 N0 J0 L4 H0 S4)} _ _ (kind-at _ _ (mem X0 T0 N0 J0 L0 H0 S0) _ (c .before .before .before .before .before .before .before .before .before .at .ensures) (c .before .before .before .before .before .before .before .before .if1 .taken)) (s-bump {e = (mem X0 T0 N0 J0 L4 H0 S4)} {x = X0} {t = T0} {n = N0} {j = J0} {l = L0} {h = H0} {s = S0} {s' = S3} {l' = L3} (c .before .before .before .before .before .before .bump .ensures) (s-close {e = (mem X0 T0 N0 J0 L4 H0 S4)} {x = X0} {t = T0} {n = N0} {j = J0} {l = L3} {h = H0} {s = S3} {s' = S4} {l' = L4} (c .before .before .close .ensures) s-end))))
 
 rnd-refuse-requires : (t : ℕ) → rnd-lts.Need-refuse-requires (rnd-told t) (rnd-at t) rnd.Post
 rnd-refuse-requires t c κs =
@@ -4715,12 +5466,15 @@ rnd-refuse-requires t c κs =
 rnd-returns-2 : (t : ℕ) → rnd-lts.Need-returns-2 (rnd-told t) (rnd-at t) rnd.Post
 unfolding expr.atExpLRound expr.endClosure util.choose plan choose chosen expr.parenEnd hushed
 rnd-returns-2 t c =
-    let pre0 = c .before .before .before .before .before .before .before .before .before .pre .1 .0 in
-    let at = c .before .before .before .at .ensures in
-    let if1 = c .before .before .if1 .left in
-    let if2 = c .before .if2 .taken in
-    let refuse = c .refuse .ensures in
-    in-steps pre0 (s-kind (s-false _ _ (kind-off _ _ _ _ at if1) (s-shut if2 refuse (λ k l. refl))))
+    let X0 = c .before .before .before .before .before .before .before .before .before .args .text .now in
+    let T0 = c .before .before .before .before .before .before .before .before .before .args .toks .now in
+    let N0 = c .before .before .before .before .before .before .before .before .before .args .env .now in
+    let J0 = c .before .before .before .before .before .before .before .before .before .args .table .now in
+    let L0 = c .before .before .before .before .before .before .before .before .before .args .scratch .now in
+    let H0 = c .before .before .before .before .before .before .before .before .before .args .finds .now in
+    let S0 = c .before .before .before .before .before .before .before .before .before .args .s in
+    let S4 = c .refuse .result in
+    in-steps {m = (mem X0 T0 N0 J0 L0 H0 S0)} {m' = (mem X0 T0 N0 J0 L0 H0 S4)} (c .before .before .before .before .before .before .before .before .before .pre .1 .0) (s-kind {a = (mem X0 T0 N0 J0 L0 H0 S0)} {e = (mem X0 T0 N0 J0 L0 H0 S4)} (s-false {a = (mem X0 T0 N0 J0 L0 H0 S0)} {e = (mem X0 T0 N0 J0 L0 H0 S4)} _ _ (kind-off _ _ (mem X0 T0 N0 J0 L0 H0 S0) _ (c .before .before .before .at .ensures) (c .before .before .if1 .left)) (s-shut (c .before .if2 .taken) (c .refuse .ensures) (λ k l. refl))))
 
 rnd-mark-requires : (t : ℕ) → rnd-lts.Need-mark-requires (rnd-told t) (rnd-at t) rnd.Post
 rnd-mark-requires t c κs =
@@ -4788,15 +5542,22 @@ rnd-same-length-3 t c =
 rnd-returns-3 : (t : ℕ) → rnd-lts.Need-returns-3 (rnd-told t) (rnd-at t) rnd.Post
 unfolding expr.atExpLRound expr.endClosure util.choose plan choose chosen
 rnd-returns-3 t c =
-    let pre0 = c .before .before .before .before .before .before .before .before .before .before .before .before .before .before .before .before .before .before .before .before .before .before .before .before .before .before .before .before .before .pre .1 .0 in
-    let at = c .before .before .before .before .before .before .before .before .before .before .before .before .before .before .before .before .before .before .before .before .before .before .before .at .ensures in
-    let if1 = c .before .before .before .before .before .before .before .before .before .before .before .before .before .before .before .before .before .before .before .before .before .before .if1 .left in
-    let if2 = c .before .before .before .before .before .before .before .before .before .before .before .before .before .before .before .before .before .before .before .before .before .if2 .left in
-    let mark = c .before .before .before .before .before .before .before .before .before .before .before .before .before .before .before .before .before .before .before .before .mark .ensures in
-    let exp = c .before .before .before .before .before .before .before .before .before .before .before .before .before .before .before .before .exp .ensures in
-    let peek = rw (c .before .before .before .before .before .before .before .before .before .enum-told .given .1) at (c .before .before .before .before .before .before .before .before .before .before .before .peek .ensures) in
-    let paren-end = c .before .before .before .before .paren-end .ensures in
-    in-steps pre0 (s-kind (s-false _ _ (kind-off _ _ _ _ at if1) (s-mark if2 mark (s-by _ (runs-in exp) (s-look peek (s-by _ paren-end s-end))))))
+    let X0 = c .before .before .before .before .before .before .before .before .before .before .before .before .before .before .before .before .before .before .before .before .before .before .before .before .before .before .before .before .before .args .text .now in
+    let T0 = c .before .before .before .before .before .before .before .before .before .before .before .before .before .before .before .before .before .before .before .before .before .before .before .before .before .before .before .before .before .args .toks .now in
+    let N0 = c .before .before .before .before .before .before .before .before .before .before .before .before .before .before .before .before .before .before .before .before .before .before .before .before .before .before .before .before .before .args .env .now in
+    let J0 = c .before .before .before .before .before .before .before .before .before .before .before .before .before .before .before .before .before .before .before .before .before .before .before .before .before .before .before .before .before .args .table .now in
+    let L0 = c .before .before .before .before .before .before .before .before .before .before .before .before .before .before .before .before .before .before .before .before .before .before .before .before .before .before .before .before .before .args .scratch .now in
+    let H0 = c .before .before .before .before .before .before .before .before .before .before .before .before .before .before .before .before .before .before .before .before .before .before .before .before .before .before .before .before .before .args .finds .now in
+    let S0 = c .before .before .before .before .before .before .before .before .before .before .before .before .before .before .before .before .before .before .before .before .before .before .before .before .before .before .before .before .before .args .s in
+    let S4 = c .before .before .before .before .before .before .before .before .before .before .before .before .before .before .before .before .before .before .before .before .mark .result in
+    let J5 = c .before .before .before .before .before .before .before .before .before .before .before .before .before .before .before .before .exp .last .1 .1 .1 .0 in
+    let L5 = c .before .before .before .before .before .before .before .before .before .before .before .before .before .before .before .before .exp .last .1 .1 .1 .1 .0 in
+    let H5 = c .before .before .before .before .before .before .before .before .before .before .before .before .before .before .before .before .exp .last .1 .1 .1 .1 .1 .0 in
+    let S5 = c .before .before .before .before .before .before .before .before .before .before .before .before .before .before .before .before .exp .result in
+    let L7 = c .before .before .before .before .paren-end .last .1 .1 .1 .1 .0 in
+    let H7 = c .before .before .before .before .paren-end .last .1 .1 .1 .1 .1 .0 in
+    let S7 = outState (c .before .before .before .before .paren-end .result) in
+    in-steps {m = (mem X0 T0 N0 J0 L0 H0 S0)} {m' = (mem X0 T0 N0 J5 L7 H7 S7)} (c .before .before .before .before .before .before .before .before .before .before .before .before .before .before .before .before .before .before .before .before .before .before .before .before .before .before .before .before .before .pre .1 .0) (s-kind {a = (mem X0 T0 N0 J0 L0 H0 S0)} {e = (mem X0 T0 N0 J5 L7 H7 S7)} (s-false {a = (mem X0 T0 N0 J0 L0 H0 S0)} {e = (mem X0 T0 N0 J5 L7 H7 S7)} _ _ (kind-off _ _ (mem X0 T0 N0 J0 L0 H0 S0) _ (c .before .before .before .before .before .before .before .before .before .before .before .before .before .before .before .before .before .before .before .before .before .before .before .at .ensures) (c .before .before .before .before .before .before .before .before .before .before .before .before .before .before .before .before .before .before .before .before .before .before .if1 .left)) (s-mark {e = (mem X0 T0 N0 J5 L7 H7 S7)} {x = X0} {t = T0} {n = N0} {j = J0} {l = L0} {h = H0} {s = S0} {s' = S4} (c .before .before .before .before .before .before .before .before .before .before .before .before .before .before .before .before .before .before .before .before .before .if2 .left) (c .before .before .before .before .before .before .before .before .before .before .before .before .before .before .before .before .before .before .before .before .mark .ensures) (s-by {a = (mem X0 T0 N0 J0 L0 H0 S4)} {c = (mem X0 T0 N0 J5 L5 H5 S5)} {e = (mem X0 T0 N0 J5 L7 H7 S7)} _ (runs-in {a = (mem X0 T0 N0 J0 L0 H0 S4)} {c = (mem X0 T0 N0 J5 L5 H5 S5)} (c .before .before .before .before .before .before .before .before .before .before .before .before .before .before .before .before .exp .ensures)) (s-look {a = (mem X0 T0 N0 J5 L5 H5 S5)} {e = (mem X0 T0 N0 J5 L7 H7 S7)} (rw (c .before .before .before .before .before .before .before .before .before .enum-told .given .1) at (c .before .before .before .before .before .before .before .before .before .before .before .peek .ensures)) (s-by {a = (mem X0 T0 N0 J5 L5 H5 S5)} {c = (mem X0 T0 N0 J5 L7 H7 S7)} {e = (mem X0 T0 N0 J5 L7 H7 S7)} _ (c .before .before .before .before .paren-end .ensures) s-end))))))
 
 rnd-bump-requires-2 : (t : ℕ) → rnd-lts.Need-bump-requires-2 (rnd-told t) (rnd-at t) rnd.Post
 rnd-bump-requires-2 t c κs =
@@ -4841,18 +5602,27 @@ rnd-same-length-5 t c =
 rnd-returns-4 : (t : ℕ) → rnd-lts.Need-returns-4 (rnd-told t) (rnd-at t) rnd.Post
 unfolding expr.atExpLRound expr.endClosure util.choose plan choose chosen
 rnd-returns-4 t c =
-    let pre0 = c .before .before .before .before .before .before .before .before .before .before .before .before .before .before .before .before .before .before .before .before .before .before .before .before .before .before .before .before .before .before .before .before .before .before .before .before .before .before .pre .1 .0 in
-    let at = c .before .before .before .before .before .before .before .before .before .before .before .before .before .before .before .before .before .before .before .before .before .before .before .before .before .before .before .before .before .before .before .before .at .ensures in
-    let if1 = c .before .before .before .before .before .before .before .before .before .before .before .before .before .before .before .before .before .before .before .before .before .before .before .before .before .before .before .before .before .before .before .if1 .left in
-    let if2 = c .before .before .before .before .before .before .before .before .before .before .before .before .before .before .before .before .before .before .before .before .before .before .before .before .before .before .before .before .before .before .if2 .left in
-    let mark = c .before .before .before .before .before .before .before .before .before .before .before .before .before .before .before .before .before .before .before .before .before .before .before .before .before .before .before .before .before .mark .ensures in
-    let exp = c .before .before .before .before .before .before .before .before .before .before .before .before .before .before .before .before .before .before .before .before .before .before .before .before .before .exp .ensures in
-    let peek = rw (c .before .before .before .before .before .before .before .before .before .before .before .before .before .before .before .before .before .before .k .given .1) at (c .before .before .before .before .before .before .before .before .before .before .before .before .before .before .before .before .before .before .before .before .peek .ensures) in
-    let if3 = c .before .before .before .before .before .before .before .before .before .before .before .before .before .before .before .before .if3 .taken in
-    let bump2 = c .before .before .before .before .before .before .before .before .before .before .before .before .before .before .bump2 .ensures in
-    let close2 = c .before .before .before .before .before .before .before .before .before .before .close2 .ensures in
-    let cl = c .before .before .before .before .cl .ensures in
-    in-steps pre0 (s-kind (s-false _ _ (kind-off _ _ _ _ at if1) (s-mark if2 mark (s-by _ (runs-in exp) (s-look peek (s-true _ _ (kind-is if3) (s-bump bump2 (s-close close2 (s-by _ cl s-end)))))))))
+    let X0 = c .before .before .before .before .before .before .before .before .before .before .before .before .before .before .before .before .before .before .before .before .before .before .before .before .before .before .before .before .before .before .before .before .before .before .before .before .before .before .args .text .now in
+    let T0 = c .before .before .before .before .before .before .before .before .before .before .before .before .before .before .before .before .before .before .before .before .before .before .before .before .before .before .before .before .before .before .before .before .before .before .before .before .before .before .args .toks .now in
+    let N0 = c .before .before .before .before .before .before .before .before .before .before .before .before .before .before .before .before .before .before .before .before .before .before .before .before .before .before .before .before .before .before .before .before .before .before .before .before .before .before .args .env .now in
+    let J0 = c .before .before .before .before .before .before .before .before .before .before .before .before .before .before .before .before .before .before .before .before .before .before .before .before .before .before .before .before .before .before .before .before .before .before .before .before .before .before .args .table .now in
+    let L0 = c .before .before .before .before .before .before .before .before .before .before .before .before .before .before .before .before .before .before .before .before .before .before .before .before .before .before .before .before .before .before .before .before .before .before .before .before .before .before .args .scratch .now in
+    let H0 = c .before .before .before .before .before .before .before .before .before .before .before .before .before .before .before .before .before .before .before .before .before .before .before .before .before .before .before .before .before .before .before .before .before .before .before .before .before .before .args .finds .now in
+    let S0 = c .before .before .before .before .before .before .before .before .before .before .before .before .before .before .before .before .before .before .before .before .before .before .before .before .before .before .before .before .before .before .before .before .before .before .before .before .before .before .args .s in
+    let S4 = c .before .before .before .before .before .before .before .before .before .before .before .before .before .before .before .before .before .before .before .before .before .before .before .before .before .before .before .before .before .mark .result in
+    let J5 = c .before .before .before .before .before .before .before .before .before .before .before .before .before .before .before .before .before .before .before .before .before .before .before .before .before .exp .last .1 .1 .1 .0 in
+    let L5 = c .before .before .before .before .before .before .before .before .before .before .before .before .before .before .before .before .before .before .before .before .before .before .before .before .before .exp .last .1 .1 .1 .1 .0 in
+    let H5 = c .before .before .before .before .before .before .before .before .before .before .before .before .before .before .before .before .before .before .before .before .before .before .before .before .before .exp .last .1 .1 .1 .1 .1 .0 in
+    let S5 = c .before .before .before .before .before .before .before .before .before .before .before .before .before .before .before .before .before .before .before .before .before .before .before .before .before .exp .result in
+    let L8 = c .before .before .before .before .before .before .before .before .before .before .before .before .before .before .bump2 .last .1 .0 in
+    let S8 = c .before .before .before .before .before .before .before .before .before .before .before .before .before .before .bump2 .result in
+    let L9 = c .before .before .before .before .before .before .before .before .before .before .close2 .last .0 in
+    let S9 = c .before .before .before .before .before .before .before .before .before .before .close2 .result in
+    let J10 = c .before .before .before .before .cl .last .1 .1 .1 .0 in
+    let L10 = c .before .before .before .before .cl .last .1 .1 .1 .1 .0 in
+    let H10 = c .before .before .before .before .cl .last .1 .1 .1 .1 .1 .0 in
+    let S10 = c .before .before .before .before .cl .result in
+    in-steps {m = (mem X0 T0 N0 J0 L0 H0 S0)} {m' = (mem X0 T0 N0 J10 L10 H10 S10)} (c .before .before .before .before .before .before .before .before .before .before .before .before .before .before .before .before .before .before .before .before .before .before .before .before .before .before .before .before .before .before .before .before .before .before .before .before .before .before .pre .1 .0) (s-kind {a = (mem X0 T0 N0 J0 L0 H0 S0)} {e = (mem X0 T0 N0 J10 L10 H10 S10)} (s-false {a = (mem X0 T0 N0 J0 L0 H0 S0)} {e = (mem X0 T0 N0 J10 L10 H10 S10)} _ _ (kind-off _ _ (mem X0 T0 N0 J0 L0 H0 S0) _ (c .before .before .before .before .before .before .before .before .before .before .before .before .before .before .before .before .before .before .before .before .before .before .before .before .before .before .before .before .before .before .before .before .at .ensures) (c .before .before .before .before .before .before .before .before .before .before .before .before .before .before .before .before .before .before .before .before .before .before .before .before .before .before .before .before .before .before .before .if1 .left)) (s-mark {e = (mem X0 T0 N0 J10 L10 H10 S10)} {x = X0} {t = T0} {n = N0} {j = J0} {l = L0} {h = H0} {s = S0} {s' = S4} (c .before .before .before .before .before .before .before .before .before .before .before .before .before .before .before .before .before .before .before .before .before .before .before .before .before .before .before .before .before .before .if2 .left) (c .before .before .before .before .before .before .before .before .before .before .before .before .before .before .before .before .before .before .before .before .before .before .before .before .before .before .before .before .before .mark .ensures) (s-by {a = (mem X0 T0 N0 J0 L0 H0 S4)} {c = (mem X0 T0 N0 J5 L5 H5 S5)} {e = (mem X0 T0 N0 J10 L10 H10 S10)} _ (runs-in {a = (mem X0 T0 N0 J0 L0 H0 S4)} {c = (mem X0 T0 N0 J5 L5 H5 S5)} (c .before .before .before .before .before .before .before .before .before .before .before .before .before .before .before .before .before .before .before .before .before .before .before .before .before .exp .ensures)) (s-look {a = (mem X0 T0 N0 J5 L5 H5 S5)} {e = (mem X0 T0 N0 J10 L10 H10 S10)} (rw (c .before .before .before .before .before .before .before .before .before .before .before .before .before .before .before .before .before .before .k .given .1) at (c .before .before .before .before .before .before .before .before .before .before .before .before .before .before .before .before .before .before .before .before .peek .ensures)) (s-true {a = (mem X0 T0 N0 J5 L5 H5 S5)} {e = (mem X0 T0 N0 J10 L10 H10 S10)} _ _ (kind-is (c .before .before .before .before .before .before .before .before .before .before .before .before .before .before .before .before .if3 .taken)) (s-bump {e = (mem X0 T0 N0 J10 L10 H10 S10)} {x = X0} {t = T0} {n = N0} {j = J5} {l = L5} {h = H5} {s = S5} {s' = S8} {l' = L8} (c .before .before .before .before .before .before .before .before .before .before .before .before .before .before .bump2 .ensures) (s-close {e = (mem X0 T0 N0 J10 L10 H10 S10)} {x = X0} {t = T0} {n = N0} {j = J5} {l = L8} {h = H5} {s = S8} {s' = S9} {l' = L9} (c .before .before .before .before .before .before .before .before .before .before .close2 .ensures) (s-by {a = (mem X0 T0 N0 J5 L9 H5 S9)} {c = (mem X0 T0 N0 J10 L10 H10 S10)} {e = (mem X0 T0 N0 J10 L10 H10 S10)} _ (c .before .before .before .before .cl .ensures) s-end)))))))))
 
 rnd-bump-requires-3 : (t : ℕ) → rnd-lts.Need-bump-requires-3 (rnd-told t) (rnd-at t) rnd.Post
 rnd-bump-requires-3 t c κs =
@@ -4898,19 +5668,27 @@ rnd-same-length-7 t c =
 rnd-returns-5 : (t : ℕ) → rnd-lts.Need-returns-5 (rnd-told t) (rnd-at t) rnd.Post
 unfolding expr.atExpLRound expr.endClosure util.choose plan choose chosen
 rnd-returns-5 t c =
-    let pre0 = c .before .before .before .before .before .before .before .before .before .before .before .before .before .before .before .before .before .before .before .before .before .before .before .before .before .before .before .before .before .before .before .before .before .before .before .before .before .before .before .pre .1 .0 in
-    let at = c .before .before .before .before .before .before .before .before .before .before .before .before .before .before .before .before .before .before .before .before .before .before .before .before .before .before .before .before .before .before .before .before .before .at .ensures in
-    let if1 = c .before .before .before .before .before .before .before .before .before .before .before .before .before .before .before .before .before .before .before .before .before .before .before .before .before .before .before .before .before .before .before .before .if1 .left in
-    let if2 = c .before .before .before .before .before .before .before .before .before .before .before .before .before .before .before .before .before .before .before .before .before .before .before .before .before .before .before .before .before .before .before .if2 .left in
-    let mark = c .before .before .before .before .before .before .before .before .before .before .before .before .before .before .before .before .before .before .before .before .before .before .before .before .before .before .before .before .before .before .mark .ensures in
-    let exp = c .before .before .before .before .before .before .before .before .before .before .before .before .before .before .before .before .before .before .before .before .before .before .before .before .before .before .exp .ensures in
-    let peek = rw (c .before .before .before .before .before .before .before .before .before .before .before .before .before .before .before .before .before .before .before .k .given .1) at (c .before .before .before .before .before .before .before .before .before .before .before .before .before .before .before .before .before .before .before .before .before .peek .ensures) in
-    let if3 = c .before .before .before .before .before .before .before .before .before .before .before .before .before .before .before .before .before .if3 .left in
-    let if4 = c .before .before .before .before .before .before .before .before .before .before .before .before .before .before .before .before .if4 .taken in
-    let bump3 = c .before .before .before .before .before .before .before .before .before .before .before .before .before .before .bump3 .ensures in
-    let close3 = c .before .before .before .before .before .before .before .before .before .before .close3 .ensures in
-    let cl2 = c .before .before .before .before .cl2 .ensures in
-    in-steps pre0 (s-kind (s-false _ _ (kind-off _ _ _ _ at if1) (s-mark if2 mark (s-by _ (runs-in exp) (s-look peek (s-false _ _ (kind-not if3) (s-true _ _ (kind-is if4) (s-bump bump3 (s-close close3 (s-by _ cl2 s-end))))))))))
+    let X0 = c .before .before .before .before .before .before .before .before .before .before .before .before .before .before .before .before .before .before .before .before .before .before .before .before .before .before .before .before .before .before .before .before .before .before .before .before .before .before .before .args .text .now in
+    let T0 = c .before .before .before .before .before .before .before .before .before .before .before .before .before .before .before .before .before .before .before .before .before .before .before .before .before .before .before .before .before .before .before .before .before .before .before .before .before .before .before .args .toks .now in
+    let N0 = c .before .before .before .before .before .before .before .before .before .before .before .before .before .before .before .before .before .before .before .before .before .before .before .before .before .before .before .before .before .before .before .before .before .before .before .before .before .before .before .args .env .now in
+    let J0 = c .before .before .before .before .before .before .before .before .before .before .before .before .before .before .before .before .before .before .before .before .before .before .before .before .before .before .before .before .before .before .before .before .before .before .before .before .before .before .before .args .table .now in
+    let L0 = c .before .before .before .before .before .before .before .before .before .before .before .before .before .before .before .before .before .before .before .before .before .before .before .before .before .before .before .before .before .before .before .before .before .before .before .before .before .before .before .args .scratch .now in
+    let H0 = c .before .before .before .before .before .before .before .before .before .before .before .before .before .before .before .before .before .before .before .before .before .before .before .before .before .before .before .before .before .before .before .before .before .before .before .before .before .before .before .args .finds .now in
+    let S0 = c .before .before .before .before .before .before .before .before .before .before .before .before .before .before .before .before .before .before .before .before .before .before .before .before .before .before .before .before .before .before .before .before .before .before .before .before .before .before .before .args .s in
+    let S4 = c .before .before .before .before .before .before .before .before .before .before .before .before .before .before .before .before .before .before .before .before .before .before .before .before .before .before .before .before .before .before .mark .result in
+    let J5 = c .before .before .before .before .before .before .before .before .before .before .before .before .before .before .before .before .before .before .before .before .before .before .before .before .before .before .exp .last .1 .1 .1 .0 in
+    let L5 = c .before .before .before .before .before .before .before .before .before .before .before .before .before .before .before .before .before .before .before .before .before .before .before .before .before .before .exp .last .1 .1 .1 .1 .0 in
+    let H5 = c .before .before .before .before .before .before .before .before .before .before .before .before .before .before .before .before .before .before .before .before .before .before .before .before .before .before .exp .last .1 .1 .1 .1 .1 .0 in
+    let S5 = c .before .before .before .before .before .before .before .before .before .before .before .before .before .before .before .before .before .before .before .before .before .before .before .before .before .before .exp .result in
+    let L9 = c .before .before .before .before .before .before .before .before .before .before .before .before .before .before .bump3 .last .1 .0 in
+    let S9 = c .before .before .before .before .before .before .before .before .before .before .before .before .before .before .bump3 .result in
+    let L10 = c .before .before .before .before .before .before .before .before .before .before .close3 .last .0 in
+    let S10 = c .before .before .before .before .before .before .before .before .before .before .close3 .result in
+    let J11 = c .before .before .before .before .cl2 .last .1 .1 .1 .0 in
+    let L11 = c .before .before .before .before .cl2 .last .1 .1 .1 .1 .0 in
+    let H11 = c .before .before .before .before .cl2 .last .1 .1 .1 .1 .1 .0 in
+    let S11 = c .before .before .before .before .cl2 .result in
+    in-steps {m = (mem X0 T0 N0 J0 L0 H0 S0)} {m' = (mem X0 T0 N0 J11 L11 H11 S11)} (c .before .before .before .before .before .before .before .before .before .before .before .before .before .before .before .before .before .before .before .before .before .before .before .before .before .before .before .before .before .before .before .before .before .before .before .before .before .before .before .pre .1 .0) (s-kind {a = (mem X0 T0 N0 J0 L0 H0 S0)} {e = (mem X0 T0 N0 J11 L11 H11 S11)} (s-false {a = (mem X0 T0 N0 J0 L0 H0 S0)} {e = (mem X0 T0 N0 J11 L11 H11 S11)} _ _ (kind-off _ _ (mem X0 T0 N0 J0 L0 H0 S0) _ (c .before .before .before .before .before .before .before .before .before .before .before .before .before .before .before .before .before .before .before .before .before .before .before .before .before .before .before .before .before .before .before .before .before .at .ensures) (c .before .before .before .before .before .before .before .before .before .before .before .before .before .before .before .before .before .before .before .before .before .before .before .before .before .before .before .before .before .before .before .before .if1 .left)) (s-mark {e = (mem X0 T0 N0 J11 L11 H11 S11)} {x = X0} {t = T0} {n = N0} {j = J0} {l = L0} {h = H0} {s = S0} {s' = S4} (c .before .before .before .before .before .before .before .before .before .before .before .before .before .before .before .before .before .before .before .before .before .before .before .before .before .before .before .before .before .before .before .if2 .left) (c .before .before .before .before .before .before .before .before .before .before .before .before .before .before .before .before .before .before .before .before .before .before .before .before .before .before .before .before .before .before .mark .ensures) (s-by {a = (mem X0 T0 N0 J0 L0 H0 S4)} {c = (mem X0 T0 N0 J5 L5 H5 S5)} {e = (mem X0 T0 N0 J11 L11 H11 S11)} _ (runs-in {a = (mem X0 T0 N0 J0 L0 H0 S4)} {c = (mem X0 T0 N0 J5 L5 H5 S5)} (c .before .before .before .before .before .before .before .before .before .before .before .before .before .before .before .before .before .before .before .before .before .before .before .before .before .before .exp .ensures)) (s-look {a = (mem X0 T0 N0 J5 L5 H5 S5)} {e = (mem X0 T0 N0 J11 L11 H11 S11)} (rw (c .before .before .before .before .before .before .before .before .before .before .before .before .before .before .before .before .before .before .before .k .given .1) at (c .before .before .before .before .before .before .before .before .before .before .before .before .before .before .before .before .before .before .before .before .before .peek .ensures)) (s-false {a = (mem X0 T0 N0 J5 L5 H5 S5)} {e = (mem X0 T0 N0 J11 L11 H11 S11)} _ _ (kind-not (c .before .before .before .before .before .before .before .before .before .before .before .before .before .before .before .before .before .if3 .left)) (s-true {a = (mem X0 T0 N0 J5 L5 H5 S5)} {e = (mem X0 T0 N0 J11 L11 H11 S11)} _ _ (kind-is (c .before .before .before .before .before .before .before .before .before .before .before .before .before .before .before .before .if4 .taken)) (s-bump {e = (mem X0 T0 N0 J11 L11 H11 S11)} {x = X0} {t = T0} {n = N0} {j = J5} {l = L5} {h = H5} {s = S5} {s' = S9} {l' = L9} (c .before .before .before .before .before .before .before .before .before .before .before .before .before .before .bump3 .ensures) (s-close {e = (mem X0 T0 N0 J11 L11 H11 S11)} {x = X0} {t = T0} {n = N0} {j = J5} {l = L9} {h = H5} {s = S9} {s' = S10} {l' = L10} (c .before .before .before .before .before .before .before .before .before .before .close3 .ensures) (s-by {a = (mem X0 T0 N0 J5 L10 H5 S10)} {c = (mem X0 T0 N0 J11 L11 H11 S11)} {e = (mem X0 T0 N0 J11 L11 H11 S11)} _ (c .before .before .before .before .cl2 .ensures) s-end))))))))))
 
 rnd-paren-end-requires-2 : (t : ℕ) → rnd-lts.Need-paren-end-requires-2 (rnd-told t) (rnd-at t) rnd.Post
 rnd-paren-end-requires-2 t c κs =
@@ -4930,17 +5708,22 @@ rnd-same-length-9 t c =
 rnd-returns-6 : (t : ℕ) → rnd-lts.Need-returns-6 (rnd-told t) (rnd-at t) rnd.Post
 unfolding expr.atExpLRound expr.endClosure util.choose plan choose chosen
 rnd-returns-6 t c =
-    let pre0 = c .before .before .before .before .before .before .before .before .before .before .before .before .before .before .before .before .before .before .before .before .before .before .before .before .before .before .before .before .before .before .before .before .pre .1 .0 in
-    let at = c .before .before .before .before .before .before .before .before .before .before .before .before .before .before .before .before .before .before .before .before .before .before .before .before .before .before .at .ensures in
-    let if1 = c .before .before .before .before .before .before .before .before .before .before .before .before .before .before .before .before .before .before .before .before .before .before .before .before .before .if1 .left in
-    let if2 = c .before .before .before .before .before .before .before .before .before .before .before .before .before .before .before .before .before .before .before .before .before .before .before .before .if2 .left in
-    let mark = c .before .before .before .before .before .before .before .before .before .before .before .before .before .before .before .before .before .before .before .before .before .before .before .mark .ensures in
-    let exp = c .before .before .before .before .before .before .before .before .before .before .before .before .before .before .before .before .before .before .before .exp .ensures in
-    let peek = rw (c .before .before .before .before .before .before .before .before .before .before .before .before .k .given .1) at (c .before .before .before .before .before .before .before .before .before .before .before .before .before .before .peek .ensures) in
-    let if3 = c .before .before .before .before .before .before .before .before .before .before .if3 .left in
-    let if4 = c .before .before .before .before .before .before .before .before .before .if4 .left in
-    let paren-end2 = c .before .before .before .before .paren-end2 .ensures in
-    in-steps pre0 (s-kind (s-false _ _ (kind-off _ _ _ _ at if1) (s-mark if2 mark (s-by _ (runs-in exp) (s-look peek (s-false _ _ (kind-not if3) (s-false _ _ (kind-not if4) (s-by _ paren-end2 s-end))))))))
+    let X0 = c .before .before .before .before .before .before .before .before .before .before .before .before .before .before .before .before .before .before .before .before .before .before .before .before .before .before .before .before .before .before .before .before .args .text .now in
+    let T0 = c .before .before .before .before .before .before .before .before .before .before .before .before .before .before .before .before .before .before .before .before .before .before .before .before .before .before .before .before .before .before .before .before .args .toks .now in
+    let N0 = c .before .before .before .before .before .before .before .before .before .before .before .before .before .before .before .before .before .before .before .before .before .before .before .before .before .before .before .before .before .before .before .before .args .env .now in
+    let J0 = c .before .before .before .before .before .before .before .before .before .before .before .before .before .before .before .before .before .before .before .before .before .before .before .before .before .before .before .before .before .before .before .before .args .table .now in
+    let L0 = c .before .before .before .before .before .before .before .before .before .before .before .before .before .before .before .before .before .before .before .before .before .before .before .before .before .before .before .before .before .before .before .before .args .scratch .now in
+    let H0 = c .before .before .before .before .before .before .before .before .before .before .before .before .before .before .before .before .before .before .before .before .before .before .before .before .before .before .before .before .before .before .before .before .args .finds .now in
+    let S0 = c .before .before .before .before .before .before .before .before .before .before .before .before .before .before .before .before .before .before .before .before .before .before .before .before .before .before .before .before .before .before .before .before .args .s in
+    let S4 = c .before .before .before .before .before .before .before .before .before .before .before .before .before .before .before .before .before .before .before .before .before .before .before .mark .result in
+    let J5 = c .before .before .before .before .before .before .before .before .before .before .before .before .before .before .before .before .before .before .before .exp .last .1 .1 .1 .0 in
+    let L5 = c .before .before .before .before .before .before .before .before .before .before .before .before .before .before .before .before .before .before .before .exp .last .1 .1 .1 .1 .0 in
+    let H5 = c .before .before .before .before .before .before .before .before .before .before .before .before .before .before .before .before .before .before .before .exp .last .1 .1 .1 .1 .1 .0 in
+    let S5 = c .before .before .before .before .before .before .before .before .before .before .before .before .before .before .before .before .before .before .before .exp .result in
+    let L9 = c .before .before .before .before .paren-end2 .last .1 .1 .1 .1 .0 in
+    let H9 = c .before .before .before .before .paren-end2 .last .1 .1 .1 .1 .1 .0 in
+    let S9 = outState (c .before .before .before .before .paren-end2 .result) in
+    in-steps {m = (mem X0 T0 N0 J0 L0 H0 S0)} {m' = (mem X0 T0 N0 J5 L9 H9 S9)} (c .before .before .before .before .before .before .before .before .before .before .before .before .before .before .before .before .before .before .before .before .before .before .before .before .before .before .before .before .before .before .before .before .pre .1 .0) (s-kind {a = (mem X0 T0 N0 J0 L0 H0 S0)} {e = (mem X0 T0 N0 J5 L9 H9 S9)} (s-false {a = (mem X0 T0 N0 J0 L0 H0 S0)} {e = (mem X0 T0 N0 J5 L9 H9 S9)} _ _ (kind-off _ _ (mem X0 T0 N0 J0 L0 H0 S0) _ (c .before .before .before .before .before .before .before .before .before .before .before .before .before .before .before .before .before .before .before .before .before .before .before .before .before .before .at .ensures) (c .before .before .before .before .before .before .before .before .before .before .before .before .before .before .before .before .before .before .before .before .before .before .before .before .before .if1 .left)) (s-mark {e = (mem X0 T0 N0 J5 L9 H9 S9)} {x = X0} {t = T0} {n = N0} {j = J0} {l = L0} {h = H0} {s = S0} {s' = S4} (c .before .before .before .before .before .before .before .before .before .before .before .before .before .before .before .before .before .before .before .before .before .before .before .before .if2 .left) (c .before .before .before .before .before .before .before .before .before .before .before .before .before .before .before .before .before .before .before .before .before .before .before .mark .ensures) (s-by {a = (mem X0 T0 N0 J0 L0 H0 S4)} {c = (mem X0 T0 N0 J5 L5 H5 S5)} {e = (mem X0 T0 N0 J5 L9 H9 S9)} _ (runs-in {a = (mem X0 T0 N0 J0 L0 H0 S4)} {c = (mem X0 T0 N0 J5 L5 H5 S5)} (c .before .before .before .before .before .before .before .before .before .before .before .before .before .before .before .before .before .before .before .exp .ensures)) (s-look {a = (mem X0 T0 N0 J5 L5 H5 S5)} {e = (mem X0 T0 N0 J5 L9 H9 S9)} (rw (c .before .before .before .before .before .before .before .before .before .before .before .before .k .given .1) at (c .before .before .before .before .before .before .before .before .before .before .before .before .before .before .peek .ensures)) (s-false {a = (mem X0 T0 N0 J5 L5 H5 S5)} {e = (mem X0 T0 N0 J5 L9 H9 S9)} _ _ (kind-not (c .before .before .before .before .before .before .before .before .before .before .if3 .left)) (s-false {a = (mem X0 T0 N0 J5 L5 H5 S5)} {e = (mem X0 T0 N0 J5 L9 H9 S9)} _ _ (kind-not (c .before .before .before .before .before .before .before .before .before .if4 .left)) (s-by {a = (mem X0 T0 N0 J5 L5 H5 S5)} {c = (mem X0 T0 N0 J5 L9 H9 S9)} {e = (mem X0 T0 N0 J5 L9 H9 S9)} _ (c .before .before .before .before .paren-end2 .ensures) s-end))))))))
 
 rst-peek-requires : (t : ℕ) → rst-lts.Need-peek-requires (rst-told t) (rst-at t) rst.Post
 rst-peek-requires t c κs =
@@ -4964,9 +5747,14 @@ rst-enum-told t c =
 rst-returns : (t : ℕ) → rst-lts.Need-returns (rst-told t) (rst-at t) rst.Post
 unfolding expr.expRest expr.atExp plan choose chosen
 rst-returns t c =
-    let pre0 = c .before .before .before .before .before .before .before .before .pre .1 .0 in
-    let peek = rw (c .enum-told .given .1) at (c .before .before .peek .ensures) in
-    in-steps pre0 (s-look peek s-end)
+    let X0 = c .before .before .before .before .before .before .before .before .args .text .now in
+    let T0 = c .before .before .before .before .before .before .before .before .args .toks .now in
+    let N0 = c .before .before .before .before .before .before .before .before .args .env .now in
+    let J0 = c .before .before .before .before .before .before .before .before .args .table .now in
+    let L0 = c .before .before .before .before .before .before .before .before .args .scratch .now in
+    let H0 = c .before .before .before .before .before .before .before .before .args .finds .now in
+    let S0 = c .before .before .before .before .before .before .before .before .args .s in
+    in-steps {m = (mem X0 T0 N0 J0 L0 H0 S0)} {m' = (mem X0 T0 N0 J0 L0 H0 S0)} (c .before .before .before .before .before .before .before .before .pre .1 .0) (s-look {a = (mem X0 T0 N0 J0 L0 H0 S0)} {e = (mem X0 T0 N0 J0 L0 H0 S0)} (rw (c .enum-told .given .1) at (c .before .before .peek .ensures)) s-end)
 
 rst-refuse-requires : (t : ℕ) → rst-lts.Need-refuse-requires (rst-told t) (rst-at t) rst.Post
 rst-refuse-requires t c κs =
@@ -4975,11 +5763,15 @@ rst-refuse-requires t c κs =
 rst-returns-2 : (t : ℕ) → rst-lts.Need-returns-2 (rst-told t) (rst-at t) rst.Post
 unfolding expr.expRest expr.atExp plan choose chosen hushed
 rst-returns-2 t c =
-    let pre0 = c .before .before .before .before .before .before .before .before .before .before .before .pre .1 .0 in
-    let peek = rw (c .before .before .before .k .given .1) at (c .before .before .before .before .before .peek .ensures) in
-    let if1 = c .before .if1 .taken in
-    let refuse = c .refuse .ensures in
-    in-steps pre0 (s-look peek (s-shut if1 refuse (λ k l. refl)))
+    let X0 = c .before .before .before .before .before .before .before .before .before .before .before .args .text .now in
+    let T0 = c .before .before .before .before .before .before .before .before .before .before .before .args .toks .now in
+    let N0 = c .before .before .before .before .before .before .before .before .before .before .before .args .env .now in
+    let J0 = c .before .before .before .before .before .before .before .before .before .before .before .args .table .now in
+    let L0 = c .before .before .before .before .before .before .before .before .before .before .before .args .scratch .now in
+    let H0 = c .before .before .before .before .before .before .before .before .before .before .before .args .finds .now in
+    let S0 = c .before .before .before .before .before .before .before .before .before .before .before .args .s in
+    let S3 = c .refuse .result in
+    in-steps {m = (mem X0 T0 N0 J0 L0 H0 S0)} {m' = (mem X0 T0 N0 J0 L0 H0 S3)} (c .before .before .before .before .before .before .before .before .before .before .before .pre .1 .0) (s-look {a = (mem X0 T0 N0 J0 L0 H0 S0)} {e = (mem X0 T0 N0 J0 L0 H0 S3)} (rw (c .before .before .before .k .given .1) at (c .before .before .before .before .before .peek .ensures)) (s-shut (c .before .if1 .taken) (c .refuse .ensures) (λ k l. refl)))
 
 rst-mark-requires : (t : ℕ) → rst-lts.Need-mark-requires (rst-told t) (rst-at t) rst.Post
 rst-mark-requires t c κs =
@@ -5039,12 +5831,19 @@ rst-same-length-2 t c =
 rst-returns-3 : (t : ℕ) → rst-lts.Need-returns-3 (rst-told t) (rst-at t) rst.Post
 unfolding expr.expRest expr.atExp plan choose chosen
 rst-returns-3 t c =
-    let pre0 = c .before .before .before .before .before .before .before .before .before .before .before .before .before .before .before .before .before .before .before .before .before .before .pre .1 .0 in
-    let peek = rw (c .before .before .before .before .before .before .before .before .before .before .before .before .before .before .k .given .1) at (c .before .before .before .before .before .before .before .before .before .before .before .before .before .before .before .before .peek .ensures) in
-    let if1 = c .before .before .before .before .before .before .before .before .before .before .before .before .if1 .left in
-    let mark = c .before .before .before .before .before .before .before .before .before .before .before .mark .ensures in
-    let atm = rw (c .before .head .given .1) at (c .before .before .before .before .before .before .before .atm .ensures) in
-    in-steps pre0 (s-look peek (s-mark if1 mark (s-by _ atm s-end)))
+    let X0 = c .before .before .before .before .before .before .before .before .before .before .before .before .before .before .before .before .before .before .before .before .before .before .args .text .now in
+    let T0 = c .before .before .before .before .before .before .before .before .before .before .before .before .before .before .before .before .before .before .before .before .before .before .args .toks .now in
+    let N0 = c .before .before .before .before .before .before .before .before .before .before .before .before .before .before .before .before .before .before .before .before .before .before .args .env .now in
+    let J0 = c .before .before .before .before .before .before .before .before .before .before .before .before .before .before .before .before .before .before .before .before .before .before .args .table .now in
+    let L0 = c .before .before .before .before .before .before .before .before .before .before .before .before .before .before .before .before .before .before .before .before .before .before .args .scratch .now in
+    let H0 = c .before .before .before .before .before .before .before .before .before .before .before .before .before .before .before .before .before .before .before .before .before .before .args .finds .now in
+    let S0 = c .before .before .before .before .before .before .before .before .before .before .before .before .before .before .before .before .before .before .before .before .before .before .args .s in
+    let S3 = c .before .before .before .before .before .before .before .before .before .before .before .mark .result in
+    let J4 = c .before .before .before .before .before .before .before .atm .last .1 .1 .1 .0 in
+    let L4 = c .before .before .before .before .before .before .before .atm .last .1 .1 .1 .1 .0 in
+    let H4 = c .before .before .before .before .before .before .before .atm .last .1 .1 .1 .1 .1 .0 in
+    let S4 = c .before .head .given .0 .0 in
+    in-steps {m = (mem X0 T0 N0 J0 L0 H0 S0)} {m' = (mem X0 T0 N0 J4 L4 H4 S4)} (c .before .before .before .before .before .before .before .before .before .before .before .before .before .before .before .before .before .before .before .before .before .before .pre .1 .0) (s-look {a = (mem X0 T0 N0 J0 L0 H0 S0)} {e = (mem X0 T0 N0 J4 L4 H4 S4)} (rw (c .before .before .before .before .before .before .before .before .before .before .before .before .before .before .k .given .1) at (c .before .before .before .before .before .before .before .before .before .before .before .before .before .before .before .before .peek .ensures)) (s-mark {e = (mem X0 T0 N0 J4 L4 H4 S4)} {x = X0} {t = T0} {n = N0} {j = J0} {l = L0} {h = H0} {s = S0} {s' = S3} (c .before .before .before .before .before .before .before .before .before .before .before .before .if1 .left) (c .before .before .before .before .before .before .before .before .before .before .before .mark .ensures) (s-by {a = (mem X0 T0 N0 J0 L0 H0 S3)} {c = (mem X0 T0 N0 J4 L4 H4 S4)} {e = (mem X0 T0 N0 J4 L4 H4 S4)} _ (rw (c .before .head .given .1) at (c .before .before .before .before .before .before .before .atm .ensures)) s-end)))
 
 rst-same-length-3 : (t : ℕ) → rst-lts.Need-same-length-3 (rst-told t) (rst-at t) rst.Post
 rst-same-length-3 t c =
@@ -5057,13 +5856,23 @@ rst-same-length-4 t c =
 rst-returns-4 : (t : ℕ) → rst-lts.Need-returns-4 (rst-told t) (rst-at t) rst.Post
 unfolding expr.expRest expr.atExp plan choose chosen
 rst-returns-4 t c =
-    let pre0 = c .before .before .before .before .before .before .before .before .before .before .before .before .before .before .before .before .before .before .before .before .before .before .before .before .before .before .before .before .before .before .pre .1 .0 in
-    let peek = rw (c .before .before .before .before .before .before .before .before .before .before .before .before .before .before .before .before .before .before .before .before .before .before .k .given .1) at (c .before .before .before .before .before .before .before .before .before .before .before .before .before .before .before .before .before .before .before .before .before .before .before .before .peek .ensures) in
-    let if1 = c .before .before .before .before .before .before .before .before .before .before .before .before .before .before .before .before .before .before .before .before .if1 .left in
-    let mark = c .before .before .before .before .before .before .before .before .before .before .before .before .before .before .before .before .before .before .before .mark .ensures in
-    let atm = rw (c .before .before .before .before .before .before .before .before .before .head2 .given .1) at (c .before .before .before .before .before .before .before .before .before .before .before .before .before .before .before .atm .ensures) in
-    let ops = c .before .before .before .before .ops .ensures in
-    in-steps pre0 (s-look peek (s-mark if1 mark (s-by _ atm (s-run ops s-end))))
+    let X0 = c .before .before .before .before .before .before .before .before .before .before .before .before .before .before .before .before .before .before .before .before .before .before .before .before .before .before .before .before .before .before .args .text .now in
+    let T0 = c .before .before .before .before .before .before .before .before .before .before .before .before .before .before .before .before .before .before .before .before .before .before .before .before .before .before .before .before .before .before .args .toks .now in
+    let N0 = c .before .before .before .before .before .before .before .before .before .before .before .before .before .before .before .before .before .before .before .before .before .before .before .before .before .before .before .before .before .before .args .env .now in
+    let J0 = c .before .before .before .before .before .before .before .before .before .before .before .before .before .before .before .before .before .before .before .before .before .before .before .before .before .before .before .before .before .before .args .table .now in
+    let L0 = c .before .before .before .before .before .before .before .before .before .before .before .before .before .before .before .before .before .before .before .before .before .before .before .before .before .before .before .before .before .before .args .scratch .now in
+    let H0 = c .before .before .before .before .before .before .before .before .before .before .before .before .before .before .before .before .before .before .before .before .before .before .before .before .before .before .before .before .before .before .args .finds .now in
+    let S0 = c .before .before .before .before .before .before .before .before .before .before .before .before .before .before .before .before .before .before .before .before .before .before .before .before .before .before .before .before .before .before .args .s in
+    let S3 = c .before .before .before .before .before .before .before .before .before .before .before .before .before .before .before .before .before .before .before .mark .result in
+    let J4 = c .before .before .before .before .before .before .before .before .before .before .before .before .before .before .before .atm .last .1 .1 .1 .0 in
+    let L4 = c .before .before .before .before .before .before .before .before .before .before .before .before .before .before .before .atm .last .1 .1 .1 .1 .0 in
+    let H4 = c .before .before .before .before .before .before .before .before .before .before .before .before .before .before .before .atm .last .1 .1 .1 .1 .1 .0 in
+    let S4 = c .before .before .before .before .before .before .before .before .before .head2 .given .0 .0 in
+    let J5 = c .before .before .before .before .ops .last .1 .1 .1 .0 in
+    let L5 = c .before .before .before .before .ops .last .1 .1 .1 .1 .0 in
+    let H5 = c .before .before .before .before .ops .last .1 .1 .1 .1 .1 .0 in
+    let S5 = c .before .before .before .before .ops .result in
+    in-steps {m = (mem X0 T0 N0 J0 L0 H0 S0)} {m' = (mem X0 T0 N0 J5 L5 H5 S5)} (c .before .before .before .before .before .before .before .before .before .before .before .before .before .before .before .before .before .before .before .before .before .before .before .before .before .before .before .before .before .before .pre .1 .0) (s-look {a = (mem X0 T0 N0 J0 L0 H0 S0)} {e = (mem X0 T0 N0 J5 L5 H5 S5)} (rw (c .before .before .before .before .before .before .before .before .before .before .before .before .before .before .before .before .before .before .before .before .before .before .k .given .1) at (c .before .before .before .before .before .before .before .before .before .before .before .before .before .before .before .before .before .before .before .before .before .before .before .before .peek .ensures)) (s-mark {e = (mem X0 T0 N0 J5 L5 H5 S5)} {x = X0} {t = T0} {n = N0} {j = J0} {l = L0} {h = H0} {s = S0} {s' = S3} (c .before .before .before .before .before .before .before .before .before .before .before .before .before .before .before .before .before .before .before .before .if1 .left) (c .before .before .before .before .before .before .before .before .before .before .before .before .before .before .before .before .before .before .before .mark .ensures) (s-by {a = (mem X0 T0 N0 J0 L0 H0 S3)} {c = (mem X0 T0 N0 J4 L4 H4 S4)} {e = (mem X0 T0 N0 J5 L5 H5 S5)} _ (rw (c .before .before .before .before .before .before .before .before .before .head2 .given .1) at (c .before .before .before .before .before .before .before .before .before .before .before .before .before .before .before .atm .ensures)) (s-run {a = (mem X0 T0 N0 J4 L4 H4 S4)} {c = (mem X0 T0 N0 J5 L5 H5 S5)} {e = (mem X0 T0 N0 J5 L5 H5 S5)} (c .before .before .before .before .ops .ensures) s-end))))
 
 sem-refuse-requires : (t : ℕ) → sem-lts.Need-refuse-requires (sem-told t) (sem-at t) sem.Post
 sem-refuse-requires t c κs =
@@ -5500,9 +6309,17 @@ sgb-same-length-2 t c =
 sgb-returns : (t : ℕ) → sgb-lts.Need-returns (sgb-told t) (sgb-at t) sgb.Post
 unfolding decl.sigBind plan choose chosen
 sgb-returns t c =
-    let pre0 = c .before .before .before .before .before .before .before .before .before .before .before .before .before .before .before .pre .1 in
-    let eat = rw (c .before .name .given .1) at (c .before .before .before .before .before .before .before .eat .ensures) in
-    by-steps pre0 (λ b. s-eats _ _ _ eat s-end)
+    let X0 = c .before .before .before .before .before .before .before .before .before .before .before .before .before .before .before .args .text .now in
+    let T0 = c .before .before .before .before .before .before .before .before .before .before .before .before .before .before .before .args .toks .now in
+    let N0 = c .before .before .before .before .before .before .before .before .before .before .before .before .before .before .before .args .env .now in
+    let J0 = c .before .before .before .before .before .before .before .before .before .before .before .before .before .before .before .args .table .now in
+    let L0 = c .before .before .before .before .before .before .before .before .before .before .before .before .before .before .before .args .scratch .now in
+    let H0 = c .before .before .before .before .before .before .before .before .before .before .before .before .before .before .before .args .finds .now in
+    let S0 = c .before .before .before .before .before .before .before .before .before .before .before .before .before .before .before .args .s in
+    let L1 = c .before .before .before .before .before .before .before .eat .last .1 .0 in
+    let H1 = c .before .before .before .before .before .before .before .eat .last .1 .1 .0 in
+    let S1 = c .before .name .given .0 .0 in
+    by-steps {m = (mem X0 T0 N0 J0 L0 H0 S0)} {m' = (mem X0 T0 N0 J0 L1 H1 S1)} (c .before .before .before .before .before .before .before .before .before .before .before .before .before .before .before .pre .1) (λ b. s-eats _ _ {x = X0} {t = T0} {n = N0} {j = J0} {l = L0} {h = H0} {l' = L1} {s = S0} {s' = S1} {e = (mem X0 T0 N0 J0 L1 H1 S1)} _ {h' = H1} (rw (c .before .name .given .1) at (c .before .before .before .before .before .before .before .eat .ensures)) s-end)
 
 sgb-same-length-3 : (t : ℕ) → sgb-lts.Need-same-length-3 (sgb-told t) (sgb-at t) sgb.Post
 sgb-same-length-3 t c =
@@ -5515,11 +6332,24 @@ sgb-same-length-4 t c =
 sgb-returns-2 : (t : ℕ) → sgb-lts.Need-returns-2 (sgb-told t) (sgb-at t) sgb.Post
 unfolding decl.sigBind plan choose chosen
 sgb-returns-2 t c =
-    let pre0 = c .before .before .before .before .before .before .before .before .before .before .before .before .before .before .before .before .before .before .before .before .before .before .before .before .before .before .before .before .before .before .pre .1 in
-    let eat = rw (c .before .before .before .before .before .before .before .before .before .before .before .before .before .before .before .before .name2 .given .1) at (c .before .before .before .before .before .before .before .before .before .before .before .before .before .before .before .before .before .before .before .before .before .before .eat .ensures) in
-    let want = c .before .before .before .before .before .before .before .before .before .before .before .before .want .ensures in
-    let sgm = c .before .before .before .before .sgm .ensures in
-    by-steps pre0 (λ b. s-eats _ _ _ eat (s-eats _ _ _ want (s-by _ (runs-in sgm) s-end)))
+    let X0 = c .before .before .before .before .before .before .before .before .before .before .before .before .before .before .before .before .before .before .before .before .before .before .before .before .before .before .before .before .before .before .args .text .now in
+    let T0 = c .before .before .before .before .before .before .before .before .before .before .before .before .before .before .before .before .before .before .before .before .before .before .before .before .before .before .before .before .before .before .args .toks .now in
+    let N0 = c .before .before .before .before .before .before .before .before .before .before .before .before .before .before .before .before .before .before .before .before .before .before .before .before .before .before .before .before .before .before .args .env .now in
+    let J0 = c .before .before .before .before .before .before .before .before .before .before .before .before .before .before .before .before .before .before .before .before .before .before .before .before .before .before .before .before .before .before .args .table .now in
+    let L0 = c .before .before .before .before .before .before .before .before .before .before .before .before .before .before .before .before .before .before .before .before .before .before .before .before .before .before .before .before .before .before .args .scratch .now in
+    let H0 = c .before .before .before .before .before .before .before .before .before .before .before .before .before .before .before .before .before .before .before .before .before .before .before .before .before .before .before .before .before .before .args .finds .now in
+    let S0 = c .before .before .before .before .before .before .before .before .before .before .before .before .before .before .before .before .before .before .before .before .before .before .before .before .before .before .before .before .before .before .args .s in
+    let L1 = c .before .before .before .before .before .before .before .before .before .before .before .before .before .before .before .before .before .before .before .before .before .before .eat .last .1 .0 in
+    let H1 = c .before .before .before .before .before .before .before .before .before .before .before .before .before .before .before .before .before .before .before .before .before .before .eat .last .1 .1 .0 in
+    let S1 = c .before .before .before .before .before .before .before .before .before .before .before .before .before .before .before .before .name2 .given .0 .0 in
+    let L2 = c .before .before .before .before .before .before .before .before .before .before .before .before .want .last .1 .0 in
+    let H2 = c .before .before .before .before .before .before .before .before .before .before .before .before .want .last .1 .1 .0 in
+    let S2 = c .before .before .before .before .before .before .before .before .before .before .before .before .want .result in
+    let J3 = c .before .before .before .before .sgm .last .1 .1 .1 .0 in
+    let L3 = c .before .before .before .before .sgm .last .1 .1 .1 .1 .0 in
+    let H3 = c .before .before .before .before .sgm .last .1 .1 .1 .1 .1 .0 in
+    let S3 = c .before .before .before .before .sgm .result in
+    by-steps {m = (mem X0 T0 N0 J0 L0 H0 S0)} {m' = (mem X0 T0 N0 J3 L3 H3 S3)} (c .before .before .before .before .before .before .before .before .before .before .before .before .before .before .before .before .before .before .before .before .before .before .before .before .before .before .before .before .before .before .pre .1) (λ b. s-eats _ _ {x = X0} {t = T0} {n = N0} {j = J0} {l = L0} {h = H0} {l' = L1} {s = S0} {s' = S1} {e = (mem X0 T0 N0 J3 L3 H3 S3)} _ {h' = H1} (rw (c .before .before .before .before .before .before .before .before .before .before .before .before .before .before .before .before .name2 .given .1) at (c .before .before .before .before .before .before .before .before .before .before .before .before .before .before .before .before .before .before .before .before .before .before .eat .ensures)) (s-eats _ _ {x = X0} {t = T0} {n = N0} {j = J0} {l = L1} {h = H1} {l' = L2} {s = S1} {s' = S2} {e = (mem X0 T0 N0 J3 L3 H3 S3)} _ {h' = H2} (c .before .before .before .before .before .before .before .before .before .before .before .before .want .ensures) (s-by {a = (mem X0 T0 N0 J0 L2 H2 S2)} {c = (mem X0 T0 N0 J3 L3 H3 S3)} {e = (mem X0 T0 N0 J3 L3 H3 S3)} _ (runs-in {a = (mem X0 T0 N0 J0 L2 H2 S2)} {c = (mem X0 T0 N0 J3 L3 H3 S3)} (c .before .before .before .before .sgm .ensures)) s-end)))
 
 sgm-sgx-requires : (t : ℕ) → sgm-lts.Need-sgx-requires (sgm-told t) (sgm-at t) sgm.Post
 sgm-sgx-requires t c κs =
@@ -5557,9 +6387,18 @@ sgm-same-length-2 t c =
 sgm-returns : (t : ℕ) → sgm-lts.Need-returns (sgm-told t) (sgm-at t) sgm.Post
 unfolding decl.sigMust plan choose chosen
 sgm-returns t c =
-    let pre0 = c .before .before .before .before .before .before .before .before .before .before .before .before .before .before .before .before .pre .1 in
-    let sgx = rw (c .before .got .given .1) at (c .before .before .before .before .before .before .before .sgx .ensures) in
-    by-steps pre0 (λ b. s-run (runs-in sgx) s-end)
+    let X0 = c .before .before .before .before .before .before .before .before .before .before .before .before .before .before .before .before .args .text .now in
+    let T0 = c .before .before .before .before .before .before .before .before .before .before .before .before .before .before .before .before .args .toks .now in
+    let N0 = c .before .before .before .before .before .before .before .before .before .before .before .before .before .before .before .before .args .env .now in
+    let J0 = c .before .before .before .before .before .before .before .before .before .before .before .before .before .before .before .before .args .table .now in
+    let L0 = c .before .before .before .before .before .before .before .before .before .before .before .before .before .before .before .before .args .scratch .now in
+    let H0 = c .before .before .before .before .before .before .before .before .before .before .before .before .before .before .before .before .args .finds .now in
+    let S0 = c .before .before .before .before .before .before .before .before .before .before .before .before .before .before .before .before .args .s in
+    let J1 = c .before .before .before .before .before .before .before .sgx .last .1 .1 .1 .0 in
+    let L1 = c .before .before .before .before .before .before .before .sgx .last .1 .1 .1 .1 .0 in
+    let H1 = c .before .before .before .before .before .before .before .sgx .last .1 .1 .1 .1 .1 .0 in
+    let S1 = c .before .got .given .0 .0 in
+    by-steps {m = (mem X0 T0 N0 J0 L0 H0 S0)} {m' = (mem X0 T0 N0 J1 L1 H1 S1)} (c .before .before .before .before .before .before .before .before .before .before .before .before .before .before .before .before .pre .1) (λ b. s-run {a = (mem X0 T0 N0 J0 L0 H0 S0)} {c = (mem X0 T0 N0 J1 L1 H1 S1)} {e = (mem X0 T0 N0 J1 L1 H1 S1)} (runs-in {a = (mem X0 T0 N0 J0 L0 H0 S0)} {c = (mem X0 T0 N0 J1 L1 H1 S1)} (rw (c .before .got .given .1) at (c .before .before .before .before .before .before .before .sgx .ensures))) s-end)
 
 sgm-same-length-3 : (t : ℕ) → sgm-lts.Need-same-length-3 (sgm-told t) (sgm-at t) sgm.Post
 sgm-same-length-3 t c =
@@ -5572,10 +6411,20 @@ sgm-same-length-4 t c =
 sgm-returns-2 : (t : ℕ) → sgm-lts.Need-returns-2 (sgm-told t) (sgm-at t) sgm.Post
 unfolding decl.sigMust plan choose chosen
 sgm-returns-2 t c =
-    let pre0 = c .before .before .before .before .before .before .before .before .before .before .before .before .before .before .before .before .before .before .before .before .pre .1 in
-    let sgx = rw (c .before .before .before .before .before .got2 .given .1) at (c .before .before .before .before .before .before .before .before .before .before .before .sgx .ensures) in
-    let report = c .before .before .report .ensures in
-    by-steps pre0 (λ b. s-run (runs-in sgx) (s-report report s-end))
+    let X0 = c .before .before .before .before .before .before .before .before .before .before .before .before .before .before .before .before .before .before .before .before .args .text .now in
+    let T0 = c .before .before .before .before .before .before .before .before .before .before .before .before .before .before .before .before .before .before .before .before .args .toks .now in
+    let N0 = c .before .before .before .before .before .before .before .before .before .before .before .before .before .before .before .before .before .before .before .before .args .env .now in
+    let J0 = c .before .before .before .before .before .before .before .before .before .before .before .before .before .before .before .before .before .before .before .before .args .table .now in
+    let L0 = c .before .before .before .before .before .before .before .before .before .before .before .before .before .before .before .before .before .before .before .before .args .scratch .now in
+    let H0 = c .before .before .before .before .before .before .before .before .before .before .before .before .before .before .before .before .before .before .before .before .args .finds .now in
+    let S0 = c .before .before .before .before .before .before .before .before .before .before .before .before .before .before .before .before .before .before .before .before .args .s in
+    let J1 = c .before .before .before .before .before .before .before .before .before .before .before .sgx .last .1 .1 .1 .0 in
+    let L1 = c .before .before .before .before .before .before .before .before .before .before .before .sgx .last .1 .1 .1 .1 .0 in
+    let H1 = c .before .before .before .before .before .before .before .before .before .before .before .sgx .last .1 .1 .1 .1 .1 .0 in
+    let S1 = c .before .before .before .before .before .got2 .given .0 .0 in
+    let H2 = c .before .before .report .last .0 in
+    let S2 = c .before .before .report .result in
+    by-steps {m = (mem X0 T0 N0 J0 L0 H0 S0)} {m' = (mem X0 T0 N0 J1 L1 H2 S2)} (c .before .before .before .before .before .before .before .before .before .before .before .before .before .before .before .before .before .before .before .before .pre .1) (λ b. s-run {a = (mem X0 T0 N0 J0 L0 H0 S0)} {c = (mem X0 T0 N0 J1 L1 H1 S1)} {e = (mem X0 T0 N0 J1 L1 H2 S2)} (runs-in {a = (mem X0 T0 N0 J0 L0 H0 S0)} {c = (mem X0 T0 N0 J1 L1 H1 S1)} (rw (c .before .before .before .before .before .got2 .given .1) at (c .before .before .before .before .before .before .before .before .before .before .before .sgx .ensures))) (s-report {e = (mem X0 T0 N0 J1 L1 H2 S2)} {x = X0} {t = T0} {n = N0} {j = J1} {l = L1} {h = H1} {s = S1} {s' = S2} {h' = H2} (c .before .before .report .ensures) s-end))
 
 sgx-peek-requires : (t : ℕ) → sgx-lts.Need-peek-requires (sgx-told t) (sgx-at t) sgx.Post
 sgx-peek-requires t c κs =
@@ -5597,9 +6446,14 @@ sgx-enum-told t c =
 sgx-returns : (t : ℕ) → sgx-lts.Need-returns (sgx-told t) (sgx-at t) sgx.Post
 unfolding root.body decl.sigScope decl.sigHead plan choose chosen
 sgx-returns t c =
-    let pre0 = c .before .before .before .before .before .before .before .before .pre .1 in
-    let peek = rw (c .enum-told .given .1) at (c .before .before .peek .ensures) in
-    by-steps pre0 (λ b. s-rule (s-look peek s-end))
+    let X0 = c .before .before .before .before .before .before .before .before .args .text .now in
+    let T0 = c .before .before .before .before .before .before .before .before .args .toks .now in
+    let N0 = c .before .before .before .before .before .before .before .before .args .env .now in
+    let J0 = c .before .before .before .before .before .before .before .before .args .table .now in
+    let L0 = c .before .before .before .before .before .before .before .before .args .scratch .now in
+    let H0 = c .before .before .before .before .before .before .before .before .args .finds .now in
+    let S0 = c .before .before .before .before .before .before .before .before .args .s in
+    by-steps {m = (mem X0 T0 N0 J0 L0 H0 S0)} {m' = (mem X0 T0 N0 J0 L0 H0 S0)} (c .before .before .before .before .before .before .before .before .pre .1) (λ b. s-rule {a = (mem X0 T0 N0 J0 L0 H0 S0)} {e = (mem X0 T0 N0 J0 L0 H0 S0)} (s-look {a = (mem X0 T0 N0 J0 L0 H0 S0)} {e = (mem X0 T0 N0 J0 L0 H0 S0)} (rw (c .enum-told .given .1) at (c .before .before .peek .ensures)) s-end))
 
 sgx-refuse-requires : (t : ℕ) → sgx-lts.Need-refuse-requires (sgx-told t) (sgx-at t) sgx.Post
 sgx-refuse-requires t c κs =
@@ -5608,11 +6462,15 @@ sgx-refuse-requires t c κs =
 sgx-returns-2 : (t : ℕ) → sgx-lts.Need-returns-2 (sgx-told t) (sgx-at t) sgx.Post
 unfolding root.body decl.sigScope decl.sigHead plan choose chosen hushed
 sgx-returns-2 t c =
-    let pre0 = c .before .before .before .before .before .before .before .before .before .before .before .pre .1 in
-    let peek = rw (c .before .before .before .k .given .1) at (c .before .before .before .before .before .peek .ensures) in
-    let if1 = c .before .if1 .taken in
-    let refuse = c .refuse .ensures in
-    by-steps pre0 (λ b. s-rule (s-look peek (s-shut if1 refuse (λ k l. refl))))
+    let X0 = c .before .before .before .before .before .before .before .before .before .before .before .args .text .now in
+    let T0 = c .before .before .before .before .before .before .before .before .before .before .before .args .toks .now in
+    let N0 = c .before .before .before .before .before .before .before .before .before .before .before .args .env .now in
+    let J0 = c .before .before .before .before .before .before .before .before .before .before .before .args .table .now in
+    let L0 = c .before .before .before .before .before .before .before .before .before .before .before .args .scratch .now in
+    let H0 = c .before .before .before .before .before .before .before .before .before .before .before .args .finds .now in
+    let S0 = c .before .before .before .before .before .before .before .before .before .before .before .args .s in
+    let S3 = c .refuse .result in
+    by-steps {m = (mem X0 T0 N0 J0 L0 H0 S0)} {m' = (mem X0 T0 N0 J0 L0 H0 S3)} (c .before .before .before .before .before .before .before .before .before .before .before .pre .1) (λ b. s-rule {a = (mem X0 T0 N0 J0 L0 H0 S0)} {e = (mem X0 T0 N0 J0 L0 H0 S3)} (s-look {a = (mem X0 T0 N0 J0 L0 H0 S0)} {e = (mem X0 T0 N0 J0 L0 H0 S3)} (rw (c .before .before .before .k .given .1) at (c .before .before .before .before .before .peek .ensures)) (s-shut (c .before .if1 .taken) (c .refuse .ensures) (λ k l. refl))))
 
 sgx-sub-n : (t : ℕ) → sgx-lts.Need-sub-n (sgx-told t) (sgx-at t) sgx.Post
 sgx-sub-n t c =
@@ -5686,18 +6544,29 @@ sgx-same-length-2 t c =
 sgx-returns-3 : (t : ℕ) → sgx-lts.Need-returns-3 (sgx-told t) (sgx-at t) sgx.Post
 unfolding root.body decl.sigScope decl.sigHead plan choose chosen
 sgx-returns-3 t c =
-    let pre0 = c .before .before .before .before .before .before .before .before .before .before .before .before .before .before .before .before .before .before .before .before .before .before .before .before .before .before .before .before .before .before .before .before .before .before .before .before .before .before .before .before .before .before .before .before .pre .1 in
-    let peek = rw (c .before .before .before .before .before .before .before .before .before .before .before .before .before .before .before .before .before .before .before .before .before .before .before .before .before .before .before .before .before .before .before .before .before .before .before .before .k .given .1) at (c .before .before .before .before .before .before .before .before .before .before .before .before .before .before .before .before .before .before .before .before .before .before .before .before .before .before .before .before .before .before .before .before .before .before .before .before .before .before .peek .ensures) in
-    let if1 = c .before .before .before .before .before .before .before .before .before .before .before .before .before .before .before .before .before .before .before .before .before .before .before .before .before .before .before .before .before .before .before .before .before .before .if1 .left in
-    let mark = c .before .before .before .before .before .before .before .before .before .before .before .before .before .before .before .before .before .before .before .before .before .before .before .before .before .before .before .before .before .before .before .before .before .mark .ensures in
-    let if2 = c .before .before .before .before .before .before .before .before .before .before .before .before .before .before .before .before .before .before .before .before .before .before .before .before .before .before .before .before .before .before .before .before .if2 .taken in
-    let bump = c .before .before .before .before .before .before .before .before .before .before .before .before .before .before .before .before .before .before .before .before .before .before .before .before .before .before .before .before .before .before .bump .ensures in
-    let dec = c .before .before .before .before .before .before .before .before .before .before .before .before .before .before .before .before .before .before .before .before .before .before .before .before .dec .ensures in
-    let state = c .before .before .before .before .before .before .before .before .before .before .before .before .before .before .before .before .before .before .before .state .ensures in
-    let give-back = c .before .before .before .before .before .before .before .before .before .before .before .before .before .before .before .before .before .before .give-back .ensures in
-    let end-node = c .before .before .before .before .before .before .before .before .before .before .before .before .before .end-node .ensures in
-    let wheres = c .before .before .before .before .wheres .ensures in
-    by-steps pre0 (λ b. s-rule (s-look peek (s-mark if1 mark (s-true _ _ (kind-is if2) (s-bump bump (s-scoped (settled state (runs-in dec)) give-back (s-by _ end-node (s-by _ wheres s-end))))))))
+    let X0 = c .before .before .before .before .before .before .before .before .before .before .before .before .before .before .before .before .before .before .before .before .before .before .before .before .before .before .before .before .before .before .before .before .before .before .before .before .before .before .before .before .before .before .before .before .args .text .now in
+    let T0 = c .before .before .before .before .before .before .before .before .before .before .before .before .before .before .before .before .before .before .before .before .before .before .before .before .before .before .before .before .before .before .before .before .before .before .before .before .before .before .before .before .before .before .before .before .args .toks .now in
+    let N0 = c .before .before .before .before .before .before .before .before .before .before .before .before .before .before .before .before .before .before .before .before .before .before .before .before .before .before .before .before .before .before .before .before .before .before .before .before .before .before .before .before .before .before .before .before .args .env .now in
+    let J0 = c .before .before .before .before .before .before .before .before .before .before .before .before .before .before .before .before .before .before .before .before .before .before .before .before .before .before .before .before .before .before .before .before .before .before .before .before .before .before .before .before .before .before .before .before .args .table .now in
+    let L0 = c .before .before .before .before .before .before .before .before .before .before .before .before .before .before .before .before .before .before .before .before .before .before .before .before .before .before .before .before .before .before .before .before .before .before .before .before .before .before .before .before .before .before .before .before .args .scratch .now in
+    let H0 = c .before .before .before .before .before .before .before .before .before .before .before .before .before .before .before .before .before .before .before .before .before .before .before .before .before .before .before .before .before .before .before .before .before .before .before .before .before .before .before .before .before .before .before .before .args .finds .now in
+    let S0 = c .before .before .before .before .before .before .before .before .before .before .before .before .before .before .before .before .before .before .before .before .before .before .before .before .before .before .before .before .before .before .before .before .before .before .before .before .before .before .before .before .before .before .before .before .args .s in
+    let S3 = c .before .before .before .before .before .before .before .before .before .before .before .before .before .before .before .before .before .before .before .before .before .before .before .before .before .before .before .before .before .before .before .before .before .mark .result in
+    let L5 = c .before .before .before .before .before .before .before .before .before .before .before .before .before .before .before .before .before .before .before .before .before .before .before .before .before .before .before .before .before .before .bump .last .1 .0 in
+    let S5 = c .before .before .before .before .before .before .before .before .before .before .before .before .before .before .before .before .before .before .before .before .before .before .before .before .before .before .before .before .before .before .bump .result in
+    let J6 = c .before .before .before .before .before .before .before .before .before .before .before .before .before .before .before .before .before .before .before .before .before .before .before .before .dec .last .1 .1 .1 .0 in
+    let L6 = c .before .before .before .before .before .before .before .before .before .before .before .before .before .before .before .before .before .before .before .before .before .before .before .before .dec .last .1 .1 .1 .1 .0 in
+    let H6 = c .before .before .before .before .before .before .before .before .before .before .before .before .before .before .before .before .before .before .before .before .before .before .before .before .dec .last .1 .1 .1 .1 .1 .0 in
+    let S6 = outState (c .before .before .before .before .before .before .before .before .before .before .before .before .before .before .before .before .before .before .before .before .before .before .before .before .dec .result) in
+    let S7 = c .before .before .before .before .before .before .before .before .before .before .before .before .before .before .before .before .before .before .before .state .result in
+    let S8 = c .before .before .before .before .before .before .before .before .before .before .before .before .before .before .before .before .before .before .give-back .result in
+    let L9 = c .before .before .before .before .before .before .before .before .before .before .before .before .before .end-node .last .1 .1 .1 .1 .0 in
+    let H9 = c .before .before .before .before .before .before .before .before .before .before .before .before .before .end-node .last .1 .1 .1 .1 .1 .0 in
+    let S9 = c .before .before .before .before .before .before .before .before .before .before .before .before .before .end-node .result in
+    let L10 = c .before .before .before .before .wheres .last .1 .1 .1 .1 .0 in
+    let H10 = c .before .before .before .before .wheres .last .1 .1 .1 .1 .1 .0 in
+    let S10 = c .before .before .before .before .wheres .result in
+    by-steps {m = (mem X0 T0 N0 J0 L0 H0 S0)} {m' = (mem X0 T0 N0 J6 L10 H10 S10)} (c .before .before .before .before .before .before .before .before .before .before .before .before .before .before .before .before .before .before .before .before .before .before .before .before .before .before .before .before .before .before .before .before .before .before .before .before .before .before .before .before .before .before .before .before .pre .1) (λ b. s-rule {a = (mem X0 T0 N0 J0 L0 H0 S0)} {e = (mem X0 T0 N0 J6 L10 H10 S10)} (s-look {a = (mem X0 T0 N0 J0 L0 H0 S0)} {e = (mem X0 T0 N0 J6 L10 H10 S10)} (rw (c .before .before .before .before .before .before .before .before .before .before .before .before .before .before .before .before .before .before .before .before .before .before .before .before .before .before .before .before .before .before .before .before .before .before .before .before .k .given .1) at (c .before .before .before .before .before .before .before .before .before .before .before .before .before .before .before .before .before .before .before .before .before .before .before .before .before .before .before .before .before .before .before .before .before .before .before .before .before .before .peek .ensures)) (s-mark {e = (mem X0 T0 N0 J6 L10 H10 S10)} {x = X0} {t = T0} {n = N0} {j = J0} {l = L0} {h = H0} {s = S0} {s' = S3} (c .before .before .before .before .before .before .before .before .before .before .before .before .before .before .before .before .before .before .before .before .before .before .before .before .before .before .before .before .before .before .before .before .before .before .if1 .left) (c .before .before .before .before .before .before .before .before .before .before .before .before .before .before .before .before .before .before .before .before .before .before .before .before .before .before .before .before .before .before .before .before .before .mark .ensures) (s-true {a = (mem X0 T0 N0 J0 L0 H0 S3)} {e = (mem X0 T0 N0 J6 L10 H10 S10)} _ _ (kind-is (c .before .before .before .before .before .before .before .before .before .before .before .before .before .before .before .before .before .before .before .before .before .before .before .before .before .before .before .before .before .before .before .before .if2 .taken)) (s-bump {e = (mem X0 T0 N0 J6 L10 H10 S10)} {x = X0} {t = T0} {n = N0} {j = J0} {l = L0} {h = H0} {s = S3} {s' = S5} {l' = L5} (c .before .before .before .before .before .before .before .before .before .before .before .before .before .before .before .before .before .before .before .before .before .before .before .before .before .before .before .before .before .before .bump .ensures) (s-scoped {x = X0} {t = T0} {e = N0} {j = J0} {l = L5} {y = H0} {j' = J6} {l' = L6} {y' = H6} {s = S5} {s' = S7} {c = (mem X0 T0 N0 J6 L10 H10 S10)} {r = S8} (settled (c .before .before .before .before .before .before .before .before .before .before .before .before .before .before .before .before .before .before .before .state .ensures) (runs-in {a = (mem X0 T0 N0 J0 L5 H0 S5)} {c = (mem X0 T0 N0 J6 L6 H6 S6)} (c .before .before .before .before .before .before .before .before .before .before .before .before .before .before .before .before .before .before .before .before .before .before .before .before .dec .ensures))) (c .before .before .before .before .before .before .before .before .before .before .before .before .before .before .before .before .before .before .give-back .ensures) (s-by {a = (mem X0 T0 N0 J6 L6 H6 S8)} {c = (mem X0 T0 N0 J6 L9 H9 S9)} {e = (mem X0 T0 N0 J6 L10 H10 S10)} _ (c .before .before .before .before .before .before .before .before .before .before .before .before .before .end-node .ensures) (s-by {a = (mem X0 T0 N0 J6 L9 H9 S9)} {c = (mem X0 T0 N0 J6 L10 H10 S10)} {e = (mem X0 T0 N0 J6 L10 H10 S10)} _ (c .before .before .before .before .wheres .ensures) s-end))))))))
 
 sgx-bump-requires-2 : (t : ℕ) → sgx-lts.Need-bump-requires-2 (sgx-told t) (sgx-at t) sgx.Post
 sgx-bump-requires-2 t c κs =
@@ -5737,27 +6606,35 @@ sgx-same-length-4 t c =
 sgx-returns-4 : (t : ℕ) → sgx-lts.Need-returns-4 (sgx-told t) (sgx-at t) sgx.Post
 unfolding root.body decl.sigScope decl.sigHead plan choose chosen
 sgx-returns-4 t c =
-    let pre0 = c .before .before .before .before .before .before .before .before .before .before .before .before .before .before .before .before .before .before .before .before .before .before .before .before .before .before .before .before .before .before .pre .1 in
-    let peek = rw (c .before .before .before .before .before .before .before .before .before .before .before .before .before .before .before .before .before .before .before .before .before .before .k .given .1) at (c .before .before .before .before .before .before .before .before .before .before .before .before .before .before .before .before .before .before .before .before .before .before .before .before .peek .ensures) in
-    let if1 = c .before .before .before .before .before .before .before .before .before .before .before .before .before .before .before .before .before .before .before .before .if1 .left in
-    let mark = c .before .before .before .before .before .before .before .before .before .before .before .before .before .before .before .before .before .before .before .mark .ensures in
-    let if2 = c .before .before .before .before .before .before .before .before .before .before .before .before .before .before .before .before .before .before .if2 .left in
-    let if3 = c .before .before .before .before .before .before .before .before .before .before .before .before .before .before .before .before .before .if3 .taken in
-    let bump2 = c .before .before .before .before .before .before .before .before .before .before .before .before .before .before .before .bump2 .ensures in
-    let close = c .before .before .before .before .before .before .before .before .before .before .before .close .ensures in
-    let wheres2 = c .before .before .before .before .wheres2 .ensures in
-    by-steps pre0 (λ b. s-rule (s-look peek (s-mark if1 mark (s-false _ _ (kind-not if2) (s-true _ _ (kind-is if3) (s-bump bump2 (s-close close (s-by _ wheres2 s-end))))))))
+    let X0 = c .before .before .before .before .before .before .before .before .before .before .before .before .before .before .before .before .before .before .before .before .before .before .before .before .before .before .before .before .before .before .args .text .now in
+    let T0 = c .before .before .before .before .before .before .before .before .before .before .before .before .before .before .before .before .before .before .before .before .before .before .before .before .before .before .before .before .before .before .args .toks .now in
+    let N0 = c .before .before .before .before .before .before .before .before .before .before .before .before .before .before .before .before .before .before .before .before .before .before .before .before .before .before .before .before .before .before .args .env .now in
+    let J0 = c .before .before .before .before .before .before .before .before .before .before .before .before .before .before .before .before .before .before .before .before .before .before .before .before .before .before .before .before .before .before .args .table .now in
+    let L0 = c .before .before .before .before .before .before .before .before .before .before .before .before .before .before .before .before .before .before .before .before .before .before .before .before .before .before .before .before .before .before .args .scratch .now in
+    let H0 = c .before .before .before .before .before .before .before .before .before .before .before .before .before .before .before .before .before .before .before .before .before .before .before .before .before .before .before .before .before .before .args .finds .now in
+    let S0 = c .before .before .before .before .before .before .before .before .before .before .before .before .before .before .before .before .before .before .before .before .before .before .before .before .before .before .before .before .before .before .args .s in
+    let S3 = c .before .before .before .before .before .before .before .before .before .before .before .before .before .before .before .before .before .before .before .mark .result in
+    let L6 = c .before .before .before .before .before .before .before .before .before .before .before .before .before .before .before .bump2 .last .1 .0 in
+    let S6 = c .before .before .before .before .before .before .before .before .before .before .before .before .before .before .before .bump2 .result in
+    let L7 = c .before .before .before .before .before .before .before .before .before .before .before .close .last .0 in
+    let S7 = c .before .before .before .before .before .before .before .before .before .before .before .close .result in
+    let L8 = c .before .before .before .before .wheres2 .last .1 .1 .1 .1 .0 in
+    let H8 = c .before .before .before .before .wheres2 .last .1 .1 .1 .1 .1 .0 in
+    let S8 = c .before .before .before .before .wheres2 .result in
+    by-steps {m = (mem X0 T0 N0 J0 L0 H0 S0)} {m' = (mem X0 T0 N0 J0 L8 H8 S8)} (c .before .before .before .before .before .before .before .before .before .before .before .before .before .before .before .before .before .before .before .before .before .before .before .before .before .before .before .before .before .before .pre .1) (λ b. s-rule {a = (mem X0 T0 N0 J0 L0 H0 S0)} {e = (mem X0 T0 N0 J0 L8 H8 S8)} (s-look {a = (mem X0 T0 N0 J0 L0 H0 S0)} {e = (mem X0 T0 N0 J0 L8 H8 S8)} (rw (c .before .before .before .before .before .before .before .before .before .before .before .before .before .before .before .before .before .before .before .before .before .before .k .given .1) at (c .before .before .before .before .before .before .before .before .before .before .before .before .before .before .before .before .before .before .before .before .before .before .before .before .peek .ensures)) (s-mark {e = (mem X0 T0 N0 J0 L8 H8 S8)} {x = X0} {t = T0} {n = N0} {j = J0} {l = L0} {h = H0} {s = S0} {s' = S3} (c .before .before .before .before .before .before .before .before .before .before .before .before .before .before .before .before .before .before .before .before .if1 .left) (c .before .before .before .before .before .before .before .before .before .before .before .before .before .before .before .before .before .before .before .mark .ensures) (s-false {a = (mem X0 T0 N0 J0 L0 H0 S3)} {e = (mem X0 T0 N0 J0 L8 H8 S8)} _ _ (kind-not (c .before .before .before .before .before .before .before .before .before .before .before .before .before .before .before .before .before .before .if2 .left)) (s-true {a = (mem X0 T0 N0 J0 L0 H0 S3)} {e = (mem X0 T0 N0 J0 L8 H8 S8)} _ _ (kind-is (c .before .before .before .before .before .before .before .before .before .before .before .before .before .before .before .before .before .if3 .taken)) (s-bump {e = (mem X0 T0 N0 J0 L8 H8 S8)} {x = X0} {t = T0} {n = N0} {j = J0} {l = L0} {h = H0} {s = S3} {s' = S6} {l' = L6} (c .before .before .before .before .before .before .before .before .before .before .before .before .before .before .before .bump2 .ensures) (s-close {e = (mem X0 T0 N0 J0 L8 H8 S8)} {x = X0} {t = T0} {n = N0} {j = J0} {l = L6} {h = H0} {s = S6} {s' = S7} {l' = L7} (c .before .before .before .before .before .before .before .before .before .before .before .close .ensures) (s-by {a = (mem X0 T0 N0 J0 L7 H0 S7)} {c = (mem X0 T0 N0 J0 L8 H8 S8)} {e = (mem X0 T0 N0 J0 L8 H8 S8)} _ (c .before .before .before .before .wheres2 .ensures) s-end))))))))
 
 sgx-returns-5 : (t : ℕ) → sgx-lts.Need-returns-5 (sgx-told t) (sgx-at t) sgx.Post
 unfolding root.body decl.sigScope decl.sigHead plan choose chosen
 sgx-returns-5 t c =
-    let pre0 = c .before .before .before .before .before .before .before .before .before .before .before .before .before .pre .1 in
-    let peek = rw (c .before .before .before .before .before .k .given .1) at (c .before .before .before .before .before .before .before .peek .ensures) in
-    let if1 = c .before .before .before .if1 .left in
-    let mark = c .before .before .mark .ensures in
-    let if2 = c .before .if2 .left in
-    let if3 = c .if3 .left in
-    by-steps pre0 (λ b. s-rule (s-look peek (s-mark if1 mark (s-false _ _ (kind-not if2) (s-false _ _ (kind-not if3) s-end)))))
+    let X0 = c .before .before .before .before .before .before .before .before .before .before .before .before .before .args .text .now in
+    let T0 = c .before .before .before .before .before .before .before .before .before .before .before .before .before .args .toks .now in
+    let N0 = c .before .before .before .before .before .before .before .before .before .before .before .before .before .args .env .now in
+    let J0 = c .before .before .before .before .before .before .before .before .before .before .before .before .before .args .table .now in
+    let L0 = c .before .before .before .before .before .before .before .before .before .before .before .before .before .args .scratch .now in
+    let H0 = c .before .before .before .before .before .before .before .before .before .before .before .before .before .args .finds .now in
+    let S0 = c .before .before .before .before .before .before .before .before .before .before .before .before .before .args .s in
+    let S3 = c .before .before .mark .result in
+    by-steps {m = (mem X0 T0 N0 J0 L0 H0 S0)} {m' = (mem X0 T0 N0 J0 L0 H0 S3)} (c .before .before .before .before .before .before .before .before .before .before .before .before .before .pre .1) (λ b. s-rule {a = (mem X0 T0 N0 J0 L0 H0 S0)} {e = (mem X0 T0 N0 J0 L0 H0 S3)} (s-look {a = (mem X0 T0 N0 J0 L0 H0 S0)} {e = (mem X0 T0 N0 J0 L0 H0 S3)} (rw (c .before .before .before .before .before .k .given .1) at (c .before .before .before .before .before .before .before .peek .ensures)) (s-mark {e = (mem X0 T0 N0 J0 L0 H0 S3)} {x = X0} {t = T0} {n = N0} {j = J0} {l = L0} {h = H0} {s = S0} {s' = S3} (c .before .before .before .if1 .left) (c .before .before .mark .ensures) (s-false {a = (mem X0 T0 N0 J0 L0 H0 S3)} {e = (mem X0 T0 N0 J0 L0 H0 S3)} _ _ (kind-not (c .before .if2 .left)) (s-false {a = (mem X0 T0 N0 J0 L0 H0 S3)} {e = (mem X0 T0 N0 J0 L0 H0 S3)} _ _ (kind-not (c .if3 .left)) s-end)))))
 
 slt-dec-requires : (t : ℕ) → slt-lts.Need-dec-requires (slt-told t) (slt-at t) slt.Post
 slt-dec-requires t c κs =
@@ -5800,12 +6677,26 @@ slt-same-length-2 t c =
 slt-returns : (t : ℕ) → slt-lts.Need-returns (slt-told t) (slt-at t) slt.Post
 unfolding decl.strLet plan choose chosen
 slt-returns t c =
-    let pre0 = c .before .before .before .before .before .before .before .before .before .before .before .before .before .before .before .before .before .before .before .before .before .before .before .before .before .before .before .before .before .pre .1 in
-    let dec = c .before .before .before .before .before .before .before .before .before .before .before .before .before .before .before .before .before .before .before .before .dec .ensures in
-    let state = c .before .before .before .before .before .before .before .before .before .before .before .before .before .before .before .state .ensures in
-    let want = c .before .before .before .before .before .before .before .before .before .before .before .before .want .ensures in
-    let stm = c .before .before .before .before .stm .ensures in
-    by-steps pre0 (λ b. s-run (settled state (runs-in dec)) (s-eats _ _ _ want (s-by _ (runs-in stm) s-end)))
+    let X0 = c .before .before .before .before .before .before .before .before .before .before .before .before .before .before .before .before .before .before .before .before .before .before .before .before .before .before .before .before .before .args .text .now in
+    let T0 = c .before .before .before .before .before .before .before .before .before .before .before .before .before .before .before .before .before .before .before .before .before .before .before .before .before .before .before .before .before .args .toks .now in
+    let N0 = c .before .before .before .before .before .before .before .before .before .before .before .before .before .before .before .before .before .before .before .before .before .before .before .before .before .before .before .before .before .args .env .now in
+    let J0 = c .before .before .before .before .before .before .before .before .before .before .before .before .before .before .before .before .before .before .before .before .before .before .before .before .before .before .before .before .before .args .table .now in
+    let L0 = c .before .before .before .before .before .before .before .before .before .before .before .before .before .before .before .before .before .before .before .before .before .before .before .before .before .before .before .before .before .args .scratch .now in
+    let H0 = c .before .before .before .before .before .before .before .before .before .before .before .before .before .before .before .before .before .before .before .before .before .before .before .before .before .before .before .before .before .args .finds .now in
+    let S0 = c .before .before .before .before .before .before .before .before .before .before .before .before .before .before .before .before .before .before .before .before .before .before .before .before .before .before .before .before .before .args .s in
+    let J1 = c .before .before .before .before .before .before .before .before .before .before .before .before .before .before .before .before .before .before .before .before .dec .last .1 .1 .1 .0 in
+    let L1 = c .before .before .before .before .before .before .before .before .before .before .before .before .before .before .before .before .before .before .before .before .dec .last .1 .1 .1 .1 .0 in
+    let H1 = c .before .before .before .before .before .before .before .before .before .before .before .before .before .before .before .before .before .before .before .before .dec .last .1 .1 .1 .1 .1 .0 in
+    let S1 = outState (c .before .before .before .before .before .before .before .before .before .before .before .before .before .before .before .before .before .before .before .before .dec .result) in
+    let S2 = c .before .before .before .before .before .before .before .before .before .before .before .before .before .before .before .state .result in
+    let L3 = c .before .before .before .before .before .before .before .before .before .before .before .before .want .last .1 .0 in
+    let H3 = c .before .before .before .before .before .before .before .before .before .before .before .before .want .last .1 .1 .0 in
+    let S3 = c .before .before .before .before .before .before .before .before .before .before .before .before .want .result in
+    let J4 = c .before .before .before .before .stm .last .1 .1 .1 .0 in
+    let L4 = c .before .before .before .before .stm .last .1 .1 .1 .1 .0 in
+    let H4 = c .before .before .before .before .stm .last .1 .1 .1 .1 .1 .0 in
+    let S4 = c .before .before .before .before .stm .result in
+    by-steps {m = (mem X0 T0 N0 J0 L0 H0 S0)} {m' = (mem X0 T0 N0 J4 L4 H4 S4)} (c .before .before .before .before .before .before .before .before .before .before .before .before .before .before .before .before .before .before .before .before .before .before .before .before .before .before .before .before .before .pre .1) (λ b. s-run {a = (mem X0 T0 N0 J0 L0 H0 S0)} {c = (mem X0 T0 N0 J1 L1 H1 S2)} {e = (mem X0 T0 N0 J4 L4 H4 S4)} (settled (c .before .before .before .before .before .before .before .before .before .before .before .before .before .before .before .state .ensures) (runs-in {a = (mem X0 T0 N0 J0 L0 H0 S0)} {c = (mem X0 T0 N0 J1 L1 H1 S1)} (c .before .before .before .before .before .before .before .before .before .before .before .before .before .before .before .before .before .before .before .before .dec .ensures))) (s-eats _ _ {x = X0} {t = T0} {n = N0} {j = J1} {l = L1} {h = H1} {l' = L3} {s = S2} {s' = S3} {e = (mem X0 T0 N0 J4 L4 H4 S4)} _ {h' = H3} (c .before .before .before .before .before .before .before .before .before .before .before .before .want .ensures) (s-by {a = (mem X0 T0 N0 J1 L3 H3 S3)} {c = (mem X0 T0 N0 J4 L4 H4 S4)} {e = (mem X0 T0 N0 J4 L4 H4 S4)} _ (runs-in {a = (mem X0 T0 N0 J1 L3 H3 S3)} {c = (mem X0 T0 N0 J4 L4 H4 S4)} (c .before .before .before .before .stm .ensures)) s-end)))
 
 stb-eat-requires : (t : ℕ) → stb-lts.Need-eat-requires (stb-told t) (stb-at t) stb.Post
 stb-eat-requires t c κs =
@@ -5854,14 +6745,22 @@ stb-same-length-2 t c =
 stb-returns : (t : ℕ) → stb-lts.Need-returns (stb-told t) (stb-at t) stb.Post
 unfolding decl.strBind plan choose chosen hushed
 stb-returns t c =
-    let pre0 = c .before .before .before .before .before .before .before .before .before .before .before .before .before .before .before .before .before .before .before .before .before .before .before .before .before .before .before .pre .1 in
-    let eat = rw (c .before .before .before .before .before .before .before .before .before .before .before .before .before .name2 .given .1) at (c .before .before .before .before .before .before .before .before .before .before .before .before .before .before .before .before .before .before .before .eat .ensures) in
-    let aso = c .before .before .before .before .before .before .before .before .aso .ensures in
-    let at = c .before .before .before .at .ensures in
-    let if1 = c .before .before .if1 .taken in
-    let if2 = c .before .if2 .taken in
-    let refuse = c .refuse .ensures in
-    by-steps pre0 (λ b. s-eats _ _ _ eat (s-by _ (runs-in aso) (s-kind (s-true _ _ (kind-at _ _ _ _ at if1) (s-shut if2 refuse (λ k l. refl))))))
+    let X0 = c .before .before .before .before .before .before .before .before .before .before .before .before .before .before .before .before .before .before .before .before .before .before .before .before .before .before .before .args .text .now in
+    let T0 = c .before .before .before .before .before .before .before .before .before .before .before .before .before .before .before .before .before .before .before .before .before .before .before .before .before .before .before .args .toks .now in
+    let N0 = c .before .before .before .before .before .before .before .before .before .before .before .before .before .before .before .before .before .before .before .before .before .before .before .before .before .before .before .args .env .now in
+    let J0 = c .before .before .before .before .before .before .before .before .before .before .before .before .before .before .before .before .before .before .before .before .before .before .before .before .before .before .before .args .table .now in
+    let L0 = c .before .before .before .before .before .before .before .before .before .before .before .before .before .before .before .before .before .before .before .before .before .before .before .before .before .before .before .args .scratch .now in
+    let H0 = c .before .before .before .before .before .before .before .before .before .before .before .before .before .before .before .before .before .before .before .before .before .before .before .before .before .before .before .args .finds .now in
+    let S0 = c .before .before .before .before .before .before .before .before .before .before .before .before .before .before .before .before .before .before .before .before .before .before .before .before .before .before .before .args .s in
+    let L1 = c .before .before .before .before .before .before .before .before .before .before .before .before .before .before .before .before .before .before .before .eat .last .1 .0 in
+    let H1 = c .before .before .before .before .before .before .before .before .before .before .before .before .before .before .before .before .before .before .before .eat .last .1 .1 .0 in
+    let S1 = c .before .before .before .before .before .before .before .before .before .before .before .before .before .name2 .given .0 .0 in
+    let J2 = c .before .before .before .before .before .before .before .before .aso .last .1 .1 .1 .0 in
+    let L2 = c .before .before .before .before .before .before .before .before .aso .last .1 .1 .1 .1 .0 in
+    let H2 = c .before .before .before .before .before .before .before .before .aso .last .1 .1 .1 .1 .1 .0 in
+    let S2 = c .before .before .before .before .before .before .before .before .aso .result in
+    let S6 = c .refuse .result in
+    by-steps {m = (mem X0 T0 N0 J0 L0 H0 S0)} {m' = (mem X0 T0 N0 J2 L2 H2 S6)} (c .before .before .before .before .before .before .before .before .before .before .before .before .before .before .before .before .before .before .before .before .before .before .before .before .before .before .before .pre .1) (λ b. s-eats _ _ {x = X0} {t = T0} {n = N0} {j = J0} {l = L0} {h = H0} {l' = L1} {s = S0} {s' = S1} {e = (mem X0 T0 N0 J2 L2 H2 S6)} _ {h' = H1} (rw (c .before .before .before .before .before .before .before .before .before .before .before .before .before .name2 .given .1) at (c .before .before .before .before .before .before .before .before .before .before .before .before .before .before .before .before .before .before .before .eat .ensures)) (s-by {a = (mem X0 T0 N0 J0 L1 H1 S1)} {c = (mem X0 T0 N0 J2 L2 H2 S2)} {e = (mem X0 T0 N0 J2 L2 H2 S6)} _ (runs-in {a = (mem X0 T0 N0 J0 L1 H1 S1)} {c = (mem X0 T0 N0 J2 L2 H2 S2)} (c .before .before .before .before .before .before .before .before .aso .ensures)) (s-kind {a = (mem X0 T0 N0 J2 L2 H2 S2)} {e = (mem X0 T0 N0 J2 L2 H2 S6)} (s-true {a = (mem X0 T0 N0 J2 L2 H2 S2)} {e = (mem X0 T0 N0 J2 L2 H2 S6)} _ _ (kind-at _ _ (mem X0 T0 N0 J2 L2 H2 S2) _ (c .before .before .before .at .ensures) (c .before .before .if1 .taken)) (s-shut (c .before .if2 .taken) (c .refuse .ensures) (λ k l. refl))))))
 
 stb-mark-requires : (t : ℕ) → stb-lts.Need-mark-requires (stb-told t) (stb-at t) stb.Post
 stb-mark-requires t c κs =
@@ -5917,17 +6816,30 @@ stb-same-length-4 t c =
 stb-returns-2 : (t : ℕ) → stb-lts.Need-returns-2 (stb-told t) (stb-at t) stb.Post
 unfolding decl.strBind plan choose chosen
 stb-returns-2 t c =
-    let pre0 = c .before .before .before .before .before .before .before .before .before .before .before .before .before .before .before .before .before .before .before .before .before .before .before .before .before .before .before .before .before .before .before .before .before .before .before .before .before .before .before .before .before .before .before .pre .1 in
-    let eat = rw (c .before .before .before .before .before .before .before .before .before .before .before .before .before .before .before .before .before .before .before .before .before .before .before .before .before .before .before .before .before .name2 .given .1) at (c .before .before .before .before .before .before .before .before .before .before .before .before .before .before .before .before .before .before .before .before .before .before .before .before .before .before .before .before .before .before .before .before .before .before .before .eat .ensures) in
-    let aso = c .before .before .before .before .before .before .before .before .before .before .before .before .before .before .before .before .before .before .before .before .before .before .before .before .aso .ensures in
-    let at = c .before .before .before .before .before .before .before .before .before .before .before .before .before .before .before .before .before .before .before .at .ensures in
-    let if1 = c .before .before .before .before .before .before .before .before .before .before .before .before .before .before .before .before .before .before .if1 .taken in
-    let if2 = c .before .before .before .before .before .before .before .before .before .before .before .before .before .before .before .before .before .if2 .left in
-    let mark = c .before .before .before .before .before .before .before .before .before .before .before .before .before .before .before .before .mark .ensures in
-    let bump = c .before .before .before .before .before .before .before .before .before .before .before .before .before .before .bump .ensures in
-    let stm = c .before .before .before .before .before .before .before .before .stm .ensures in
-    let close = c .before .before .close .ensures in
-    by-steps pre0 (λ b. s-eats _ _ _ eat (s-by _ (runs-in aso) (s-kind (s-true _ _ (kind-at _ _ _ _ at if1) (s-mark if2 mark (s-bump bump (s-by _ (runs-in stm) (s-close close s-end))))))))
+    let X0 = c .before .before .before .before .before .before .before .before .before .before .before .before .before .before .before .before .before .before .before .before .before .before .before .before .before .before .before .before .before .before .before .before .before .before .before .before .before .before .before .before .before .before .before .args .text .now in
+    let T0 = c .before .before .before .before .before .before .before .before .before .before .before .before .before .before .before .before .before .before .before .before .before .before .before .before .before .before .before .before .before .before .before .before .before .before .before .before .before .before .before .before .before .before .before .args .toks .now in
+    let N0 = c .before .before .before .before .before .before .before .before .before .before .before .before .before .before .before .before .before .before .before .before .before .before .before .before .before .before .before .before .before .before .before .before .before .before .before .before .before .before .before .before .before .before .before .args .env .now in
+    let J0 = c .before .before .before .before .before .before .before .before .before .before .before .before .before .before .before .before .before .before .before .before .before .before .before .before .before .before .before .before .before .before .before .before .before .before .before .before .before .before .before .before .before .before .before .args .table .now in
+    let L0 = c .before .before .before .before .before .before .before .before .before .before .before .before .before .before .before .before .before .before .before .before .before .before .before .before .before .before .before .before .before .before .before .before .before .before .before .before .before .before .before .before .before .before .before .args .scratch .now in
+    let H0 = c .before .before .before .before .before .before .before .before .before .before .before .before .before .before .before .before .before .before .before .before .before .before .before .before .before .before .before .before .before .before .before .before .before .before .before .before .before .before .before .before .before .before .before .args .finds .now in
+    let S0 = c .before .before .before .before .before .before .before .before .before .before .before .before .before .before .before .before .before .before .before .before .before .before .before .before .before .before .before .before .before .before .before .before .before .before .before .before .before .before .before .before .before .before .before .args .s in
+    let L1 = c .before .before .before .before .before .before .before .before .before .before .before .before .before .before .before .before .before .before .before .before .before .before .before .before .before .before .before .before .before .before .before .before .before .before .before .eat .last .1 .0 in
+    let H1 = c .before .before .before .before .before .before .before .before .before .before .before .before .before .before .before .before .before .before .before .before .before .before .before .before .before .before .before .before .before .before .before .before .before .before .before .eat .last .1 .1 .0 in
+    let S1 = c .before .before .before .before .before .before .before .before .before .before .before .before .before .before .before .before .before .before .before .before .before .before .before .before .before .before .before .before .before .name2 .given .0 .0 in
+    let J2 = c .before .before .before .before .before .before .before .before .before .before .before .before .before .before .before .before .before .before .before .before .before .before .before .before .aso .last .1 .1 .1 .0 in
+    let L2 = c .before .before .before .before .before .before .before .before .before .before .before .before .before .before .before .before .before .before .before .before .before .before .before .before .aso .last .1 .1 .1 .1 .0 in
+    let H2 = c .before .before .before .before .before .before .before .before .before .before .before .before .before .before .before .before .before .before .before .before .before .before .before .before .aso .last .1 .1 .1 .1 .1 .0 in
+    let S2 = c .before .before .before .before .before .before .before .before .before .before .before .before .before .before .before .before .before .before .before .before .before .before .before .before .aso .result in
+    let S6 = c .before .before .before .before .before .before .before .before .before .before .before .before .before .before .before .before .mark .result in
+    let L7 = c .before .before .before .before .before .before .before .before .before .before .before .before .before .before .bump .last .1 .0 in
+    let S7 = c .before .before .before .before .before .before .before .before .before .before .before .before .before .before .bump .result in
+    let J8 = c .before .before .before .before .before .before .before .before .stm .last .1 .1 .1 .0 in
+    let L8 = c .before .before .before .before .before .before .before .before .stm .last .1 .1 .1 .1 .0 in
+    let H8 = c .before .before .before .before .before .before .before .before .stm .last .1 .1 .1 .1 .1 .0 in
+    let S8 = c .before .before .before .before .before .before .before .before .stm .result in
+    let L9 = c .before .before .close .last .0 in
+    let S9 = c .before .before .close .result in
+    by-steps {m = (mem X0 T0 N0 J0 L0 H0 S0)} {m' = (mem X0 T0 N0 J8 L9 H8 S9)} (c .before .before .before .before .before .before .before .before .before .before .before .before .before .before .before .before .before .before .before .before .before .before .before .before .before .before .before .before .before .before .before .before .before .before .before .before .before .before .before .before .before .before .before .pre .1) (λ b. s-eats _ _ {x = X0} {t = T0} {n = N0} {j = J0} {l = L0} {h = H0} {l' = L1} {s = S0} {s' = S1} {e = (mem X0 T0 N0 J8 L9 H8 S9)} _ {h' = H1} (rw (c .before .before .before .before .before .before .before .before .before .before .before .before .before .before .before .before .before .before .before .before .before .before .before .before .before .before .before .before .before .name2 .given .1) at (c .before .before .before .before .before .before .before .before .before .before .before .before .before .before .before .before .before .before .before .before .before .before .before .before .before .before .before .before .before .before .before .before .before .before .before .eat .ensures)) (s-by {a = (mem X0 T0 N0 J0 L1 H1 S1)} {c = (mem X0 T0 N0 J2 L2 H2 S2)} {e = (mem X0 T0 N0 J8 L9 H8 S9)} _ (runs-in {a = (mem X0 T0 N0 J0 L1 H1 S1)} {c = (mem X0 T0 N0 J2 L2 H2 S2)} (c .before .before .before .before .before .before .before .before .before .before .before .before .before .before .before .before .before .before .before .before .before .before .before .before .aso .ensures)) (s-kind {a = (mem X0 T0 N0 J2 L2 H2 S2)} {e = (mem X0 T0 N0 J8 L9 H8 S9)} (s-true {a = (mem X0 T0 N0 J2 L2 H2 S2)} {e = (mem X0 T0 N0 J8 L9 H8 S9)} _ _ (kind-at _ _ (mem X0 T0 N0 J2 L2 H2 S2) _ (c .before .before .before .before .before .before .before .before .before .before .before .before .before .before .before .before .before .before .before .at .ensures) (c .before .before .before .before .before .before .before .before .before .before .before .before .before .before .before .before .before .before .if1 .taken)) (s-mark {e = (mem X0 T0 N0 J8 L9 H8 S9)} {x = X0} {t = T0} {n = N0} {j = J2} {l = L2} {h = H2} {s = S2} {s' = S6} (c .before .before .before .before .before .before .before .before .before .before .before .before .before .before .before .before .before .if2 .left) (c .before .before .before .before .before .before .before .before .before .before .before .before .before .before .before .before .mark .ensures) (s-bump {e = (mem X0 T0 N0 J8 L9 H8 S9)} {x = X0} {t = T0} {n = N0} {j = J2} {l = L2} {h = H2} {s = S6} {s' = S7} {l' = L7} (c .before .before .before .before .before .before .before .before .before .before .before .before .before .before .bump .ensures) (s-by {a = (mem X0 T0 N0 J2 L7 H2 S7)} {c = (mem X0 T0 N0 J8 L8 H8 S8)} {e = (mem X0 T0 N0 J8 L9 H8 S9)} _ (runs-in {a = (mem X0 T0 N0 J2 L7 H2 S7)} {c = (mem X0 T0 N0 J8 L8 H8 S8)} (c .before .before .before .before .before .before .before .before .stm .ensures)) (s-close {e = (mem X0 T0 N0 J8 L9 H8 S9)} {x = X0} {t = T0} {n = N0} {j = J8} {l = L8} {h = H8} {s = S8} {s' = S9} {l' = L9} (c .before .before .close .ensures) s-end))))))))
 
 stb-same-length-5 : (t : ℕ) → stb-lts.Need-same-length-5 (stb-told t) (stb-at t) stb.Post
 stb-same-length-5 t c =
@@ -5940,9 +6852,17 @@ stb-same-length-6 t c =
 stb-returns-3 : (t : ℕ) → stb-lts.Need-returns-3 (stb-told t) (stb-at t) stb.Post
 unfolding decl.strBind plan choose chosen
 stb-returns-3 t c =
-    let pre0 = c .before .before .before .before .before .before .before .before .before .before .before .before .before .before .before .pre .1 in
-    let eat = rw (c .before .name .given .1) at (c .before .before .before .before .before .before .before .eat .ensures) in
-    by-steps pre0 (λ b. s-eats _ _ _ eat s-end)
+    let X0 = c .before .before .before .before .before .before .before .before .before .before .before .before .before .before .before .args .text .now in
+    let T0 = c .before .before .before .before .before .before .before .before .before .before .before .before .before .before .before .args .toks .now in
+    let N0 = c .before .before .before .before .before .before .before .before .before .before .before .before .before .before .before .args .env .now in
+    let J0 = c .before .before .before .before .before .before .before .before .before .before .before .before .before .before .before .args .table .now in
+    let L0 = c .before .before .before .before .before .before .before .before .before .before .before .before .before .before .before .args .scratch .now in
+    let H0 = c .before .before .before .before .before .before .before .before .before .before .before .before .before .before .before .args .finds .now in
+    let S0 = c .before .before .before .before .before .before .before .before .before .before .before .before .before .before .before .args .s in
+    let L1 = c .before .before .before .before .before .before .before .eat .last .1 .0 in
+    let H1 = c .before .before .before .before .before .before .before .eat .last .1 .1 .0 in
+    let S1 = c .before .name .given .0 .0 in
+    by-steps {m = (mem X0 T0 N0 J0 L0 H0 S0)} {m' = (mem X0 T0 N0 J0 L1 H1 S1)} (c .before .before .before .before .before .before .before .before .before .before .before .before .before .before .before .pre .1) (λ b. s-eats _ _ {x = X0} {t = T0} {n = N0} {j = J0} {l = L0} {h = H0} {l' = L1} {s = S0} {s' = S1} {e = (mem X0 T0 N0 J0 L1 H1 S1)} _ {h' = H1} (rw (c .before .name .given .1) at (c .before .before .before .before .before .before .before .eat .ensures)) s-end)
 
 stb-same-length-7 : (t : ℕ) → stb-lts.Need-same-length-7 (stb-told t) (stb-at t) stb.Post
 stb-same-length-7 t c =
@@ -5955,12 +6875,21 @@ stb-same-length-8 t c =
 stb-returns-4 : (t : ℕ) → stb-lts.Need-returns-4 (stb-told t) (stb-at t) stb.Post
 unfolding decl.strBind plan choose chosen
 stb-returns-4 t c =
-    let pre0 = c .before .before .before .before .before .before .before .before .before .before .before .before .before .before .before .before .before .before .before .before .before .before .before .before .before .pre .1 in
-    let eat = rw (c .before .before .before .before .before .before .before .before .before .before .before .name2 .given .1) at (c .before .before .before .before .before .before .before .before .before .before .before .before .before .before .before .before .before .eat .ensures) in
-    let aso = c .before .before .before .before .before .before .aso .ensures in
-    let at = c .before .at .ensures in
-    let if1 = c .if1 .left in
-    by-steps pre0 (λ b. s-eats _ _ _ eat (s-by _ (runs-in aso) (s-kind (s-false _ _ (kind-off _ _ _ _ at if1) s-end))))
+    let X0 = c .before .before .before .before .before .before .before .before .before .before .before .before .before .before .before .before .before .before .before .before .before .before .before .before .before .args .text .now in
+    let T0 = c .before .before .before .before .before .before .before .before .before .before .before .before .before .before .before .before .before .before .before .before .before .before .before .before .before .args .toks .now in
+    let N0 = c .before .before .before .before .before .before .before .before .before .before .before .before .before .before .before .before .before .before .before .before .before .before .before .before .before .args .env .now in
+    let J0 = c .before .before .before .before .before .before .before .before .before .before .before .before .before .before .before .before .before .before .before .before .before .before .before .before .before .args .table .now in
+    let L0 = c .before .before .before .before .before .before .before .before .before .before .before .before .before .before .before .before .before .before .before .before .before .before .before .before .before .args .scratch .now in
+    let H0 = c .before .before .before .before .before .before .before .before .before .before .before .before .before .before .before .before .before .before .before .before .before .before .before .before .before .args .finds .now in
+    let S0 = c .before .before .before .before .before .before .before .before .before .before .before .before .before .before .before .before .before .before .before .before .before .before .before .before .before .args .s in
+    let L1 = c .before .before .before .before .before .before .before .before .before .before .before .before .before .before .before .before .before .eat .last .1 .0 in
+    let H1 = c .before .before .before .before .before .before .before .before .before .before .before .before .before .before .before .before .before .eat .last .1 .1 .0 in
+    let S1 = c .before .before .before .before .before .before .before .before .before .before .before .name2 .given .0 .0 in
+    let J2 = c .before .before .before .before .before .before .aso .last .1 .1 .1 .0 in
+    let L2 = c .before .before .before .before .before .before .aso .last .1 .1 .1 .1 .0 in
+    let H2 = c .before .before .before .before .before .before .aso .last .1 .1 .1 .1 .1 .0 in
+    let S2 = c .before .before .before .before .before .before .aso .result in
+    by-steps {m = (mem X0 T0 N0 J0 L0 H0 S0)} {m' = (mem X0 T0 N0 J2 L2 H2 S2)} (c .before .before .before .before .before .before .before .before .before .before .before .before .before .before .before .before .before .before .before .before .before .before .before .before .before .pre .1) (λ b. s-eats _ _ {x = X0} {t = T0} {n = N0} {j = J0} {l = L0} {h = H0} {l' = L1} {s = S0} {s' = S1} {e = (mem X0 T0 N0 J2 L2 H2 S2)} _ {h' = H1} (rw (c .before .before .before .before .before .before .before .before .before .before .before .name2 .given .1) at (c .before .before .before .before .before .before .before .before .before .before .before .before .before .before .before .before .before .eat .ensures)) (s-by {a = (mem X0 T0 N0 J0 L1 H1 S1)} {c = (mem X0 T0 N0 J2 L2 H2 S2)} {e = (mem X0 T0 N0 J2 L2 H2 S2)} _ (runs-in {a = (mem X0 T0 N0 J0 L1 H1 S1)} {c = (mem X0 T0 N0 J2 L2 H2 S2)} (c .before .before .before .before .before .before .aso .ensures)) (s-kind {a = (mem X0 T0 N0 J2 L2 H2 S2)} {e = (mem X0 T0 N0 J2 L2 H2 S2)} (s-false {a = (mem X0 T0 N0 J2 L2 H2 S2)} {e = (mem X0 T0 N0 J2 L2 H2 S2)} _ _ (kind-off _ _ (mem X0 T0 N0 J2 L2 H2 S2) _ (c .before .at .ensures) (c .if1 .left)) s-end))))
 
 sth-bump-requires : (t : ℕ) → sth-lts.Need-bump-requires (sth-told t) (sth-at t) sth.Post
 sth-bump-requires t c κs =
@@ -6010,14 +6939,25 @@ sth-same-length-2 t c =
 sth-returns : (t : ℕ) → sth-lts.Need-returns (sth-told t) (sth-at t) sth.Post
 unfolding decl.strHead plan choose chosen
 sth-returns t c =
-    let pre0 = c .before .before .before .before .before .before .before .before .before .before .before .before .before .before .before .before .before .before .before .before .before .before .before .before .before .before .before .before .before .pre .1 .0 in
-    let if1 = c .before .before .before .before .before .before .before .before .before .before .before .before .before .before .before .before .before .before .before .before .before .before .before .if1 .taken in
-    let bump = c .before .before .before .before .before .before .before .before .before .before .before .before .before .before .before .before .before .before .before .before .before .bump .ensures in
-    let dec = c .before .before .before .before .before .before .before .before .before .before .before .before .before .before .before .dec .ensures in
-    let state = c .before .before .before .before .before .before .before .before .before .before .state .ensures in
-    let give-back = c .before .before .before .before .before .before .before .before .before .give-back .ensures in
-    let end-node = c .before .before .before .before .end-node .ensures in
-    in-steps pre0 (s-true _ _ (kind-is if1) (s-bump bump (s-scoped (settled state (runs-in dec)) give-back (s-by _ end-node s-end))))
+    let X0 = c .before .before .before .before .before .before .before .before .before .before .before .before .before .before .before .before .before .before .before .before .before .before .before .before .before .before .before .before .before .args .text .now in
+    let T0 = c .before .before .before .before .before .before .before .before .before .before .before .before .before .before .before .before .before .before .before .before .before .before .before .before .before .before .before .before .before .args .toks .now in
+    let N0 = c .before .before .before .before .before .before .before .before .before .before .before .before .before .before .before .before .before .before .before .before .before .before .before .before .before .before .before .before .before .args .env .now in
+    let J0 = c .before .before .before .before .before .before .before .before .before .before .before .before .before .before .before .before .before .before .before .before .before .before .before .before .before .before .before .before .before .args .table .now in
+    let L0 = c .before .before .before .before .before .before .before .before .before .before .before .before .before .before .before .before .before .before .before .before .before .before .before .before .before .before .before .before .before .args .scratch .now in
+    let H0 = c .before .before .before .before .before .before .before .before .before .before .before .before .before .before .before .before .before .before .before .before .before .before .before .before .before .before .before .before .before .args .finds .now in
+    let S0 = c .before .before .before .before .before .before .before .before .before .before .before .before .before .before .before .before .before .before .before .before .before .before .before .before .before .before .before .before .before .args .s in
+    let L2 = c .before .before .before .before .before .before .before .before .before .before .before .before .before .before .before .before .before .before .before .before .before .bump .last .1 .0 in
+    let S2 = c .before .before .before .before .before .before .before .before .before .before .before .before .before .before .before .before .before .before .before .before .before .bump .result in
+    let J3 = c .before .before .before .before .before .before .before .before .before .before .before .before .before .before .before .dec .last .1 .1 .1 .0 in
+    let L3 = c .before .before .before .before .before .before .before .before .before .before .before .before .before .before .before .dec .last .1 .1 .1 .1 .0 in
+    let H3 = c .before .before .before .before .before .before .before .before .before .before .before .before .before .before .before .dec .last .1 .1 .1 .1 .1 .0 in
+    let S3 = outState (c .before .before .before .before .before .before .before .before .before .before .before .before .before .before .before .dec .result) in
+    let S4 = c .before .before .before .before .before .before .before .before .before .before .state .result in
+    let S5 = c .before .before .before .before .before .before .before .before .before .give-back .result in
+    let L6 = c .before .before .before .before .end-node .last .1 .1 .1 .1 .0 in
+    let H6 = c .before .before .before .before .end-node .last .1 .1 .1 .1 .1 .0 in
+    let S6 = c .before .before .before .before .end-node .result in
+    in-steps {m = (mem X0 T0 N0 J0 L0 H0 S0)} {m' = (mem X0 T0 N0 J3 L6 H6 S6)} (c .before .before .before .before .before .before .before .before .before .before .before .before .before .before .before .before .before .before .before .before .before .before .before .before .before .before .before .before .before .pre .1 .0) (s-true {a = (mem X0 T0 N0 J0 L0 H0 S0)} {e = (mem X0 T0 N0 J3 L6 H6 S6)} _ _ (kind-is (c .before .before .before .before .before .before .before .before .before .before .before .before .before .before .before .before .before .before .before .before .before .before .before .if1 .taken)) (s-bump {e = (mem X0 T0 N0 J3 L6 H6 S6)} {x = X0} {t = T0} {n = N0} {j = J0} {l = L0} {h = H0} {s = S0} {s' = S2} {l' = L2} (c .before .before .before .before .before .before .before .before .before .before .before .before .before .before .before .before .before .before .before .before .before .bump .ensures) (s-scoped {x = X0} {t = T0} {e = N0} {j = J0} {l = L2} {y = H0} {j' = J3} {l' = L3} {y' = H3} {s = S2} {s' = S4} {c = (mem X0 T0 N0 J3 L6 H6 S6)} {r = S5} (settled (c .before .before .before .before .before .before .before .before .before .before .state .ensures) (runs-in {a = (mem X0 T0 N0 J0 L2 H0 S2)} {c = (mem X0 T0 N0 J3 L3 H3 S3)} (c .before .before .before .before .before .before .before .before .before .before .before .before .before .before .before .dec .ensures))) (c .before .before .before .before .before .before .before .before .before .give-back .ensures) (s-by {a = (mem X0 T0 N0 J3 L3 H3 S5)} {c = (mem X0 T0 N0 J3 L6 H6 S6)} {e = (mem X0 T0 N0 J3 L6 H6 S6)} _ (c .before .before .before .before .end-node .ensures) s-end))))
 
 sth-bump-requires-2 : (t : ℕ) → sth-lts.Need-bump-requires-2 (sth-told t) (sth-at t) sth.Post
 sth-bump-requires-2 t c κs =
@@ -6064,14 +7004,24 @@ sth-same-length-4 t c =
 sth-returns-2 : (t : ℕ) → sth-lts.Need-returns-2 (sth-told t) (sth-at t) sth.Post
 unfolding decl.strHead plan choose chosen
 sth-returns-2 t c =
-    let pre0 = c .before .before .before .before .before .before .before .before .before .before .before .before .before .before .before .before .before .before .before .before .before .before .before .before .before .before .before .before .before .pre .1 .0 in
-    let if1 = c .before .before .before .before .before .before .before .before .before .before .before .before .before .before .before .before .before .before .before .before .before .before .before .if1 .left in
-    let if2 = c .before .before .before .before .before .before .before .before .before .before .before .before .before .before .before .before .before .before .before .before .before .before .if2 .taken in
-    let bump2 = c .before .before .before .before .before .before .before .before .before .before .before .before .before .before .before .before .before .before .before .before .bump2 .ensures in
-    let slt = c .before .before .before .before .before .before .before .before .before .before .before .before .before .before .slt .ensures in
-    let give-back2 = c .before .before .before .before .before .before .before .before .before .give-back2 .ensures in
-    let end-node2 = c .before .before .before .before .end-node2 .ensures in
-    in-steps pre0 (s-false _ _ (kind-not if1) (s-true _ _ (kind-is if2) (s-bump bump2 (s-scoped (runs-in slt) give-back2 (s-by _ end-node2 s-end)))))
+    let X0 = c .before .before .before .before .before .before .before .before .before .before .before .before .before .before .before .before .before .before .before .before .before .before .before .before .before .before .before .before .before .args .text .now in
+    let T0 = c .before .before .before .before .before .before .before .before .before .before .before .before .before .before .before .before .before .before .before .before .before .before .before .before .before .before .before .before .before .args .toks .now in
+    let N0 = c .before .before .before .before .before .before .before .before .before .before .before .before .before .before .before .before .before .before .before .before .before .before .before .before .before .before .before .before .before .args .env .now in
+    let J0 = c .before .before .before .before .before .before .before .before .before .before .before .before .before .before .before .before .before .before .before .before .before .before .before .before .before .before .before .before .before .args .table .now in
+    let L0 = c .before .before .before .before .before .before .before .before .before .before .before .before .before .before .before .before .before .before .before .before .before .before .before .before .before .before .before .before .before .args .scratch .now in
+    let H0 = c .before .before .before .before .before .before .before .before .before .before .before .before .before .before .before .before .before .before .before .before .before .before .before .before .before .before .before .before .before .args .finds .now in
+    let S0 = c .before .before .before .before .before .before .before .before .before .before .before .before .before .before .before .before .before .before .before .before .before .before .before .before .before .before .before .before .before .args .s in
+    let L3 = c .before .before .before .before .before .before .before .before .before .before .before .before .before .before .before .before .before .before .before .before .bump2 .last .1 .0 in
+    let S3 = c .before .before .before .before .before .before .before .before .before .before .before .before .before .before .before .before .before .before .before .before .bump2 .result in
+    let J4 = c .before .before .before .before .before .before .before .before .before .before .before .before .before .before .slt .last .1 .1 .1 .0 in
+    let L4 = c .before .before .before .before .before .before .before .before .before .before .before .before .before .before .slt .last .1 .1 .1 .1 .0 in
+    let H4 = c .before .before .before .before .before .before .before .before .before .before .before .before .before .before .slt .last .1 .1 .1 .1 .1 .0 in
+    let S4 = c .before .before .before .before .before .before .before .before .before .before .before .before .before .before .slt .result in
+    let S5 = c .before .before .before .before .before .before .before .before .before .give-back2 .result in
+    let L6 = c .before .before .before .before .end-node2 .last .1 .1 .1 .1 .0 in
+    let H6 = c .before .before .before .before .end-node2 .last .1 .1 .1 .1 .1 .0 in
+    let S6 = c .before .before .before .before .end-node2 .result in
+    in-steps {m = (mem X0 T0 N0 J0 L0 H0 S0)} {m' = (mem X0 T0 N0 J4 L6 H6 S6)} (c .before .before .before .before .before .before .before .before .before .before .before .before .before .before .before .before .before .before .before .before .before .before .before .before .before .before .before .before .before .pre .1 .0) (s-false {a = (mem X0 T0 N0 J0 L0 H0 S0)} {e = (mem X0 T0 N0 J4 L6 H6 S6)} _ _ (kind-not (c .before .before .before .before .before .before .before .before .before .before .before .before .before .before .before .before .before .before .before .before .before .before .before .if1 .left)) (s-true {a = (mem X0 T0 N0 J0 L0 H0 S0)} {e = (mem X0 T0 N0 J4 L6 H6 S6)} _ _ (kind-is (c .before .before .before .before .before .before .before .before .before .before .before .before .before .before .before .before .before .before .before .before .before .before .if2 .taken)) (s-bump {e = (mem X0 T0 N0 J4 L6 H6 S6)} {x = X0} {t = T0} {n = N0} {j = J0} {l = L0} {h = H0} {s = S0} {s' = S3} {l' = L3} (c .before .before .before .before .before .before .before .before .before .before .before .before .before .before .before .before .before .before .before .before .bump2 .ensures) (s-scoped {x = X0} {t = T0} {e = N0} {j = J0} {l = L3} {y = H0} {j' = J4} {l' = L4} {y' = H4} {s = S3} {s' = S4} {c = (mem X0 T0 N0 J4 L6 H6 S6)} {r = S5} (runs-in {a = (mem X0 T0 N0 J0 L3 H0 S3)} {c = (mem X0 T0 N0 J4 L4 H4 S4)} (c .before .before .before .before .before .before .before .before .before .before .before .before .before .before .slt .ensures)) (c .before .before .before .before .before .before .before .before .before .give-back2 .ensures) (s-by {a = (mem X0 T0 N0 J4 L4 H4 S5)} {c = (mem X0 T0 N0 J4 L6 H6 S6)} {e = (mem X0 T0 N0 J4 L6 H6 S6)} _ (c .before .before .before .before .end-node2 .ensures) s-end)))))
 
 sth-at-n-requires : (t : ℕ) → sth-lts.Need-at-n-requires (sth-told t) (sth-at t) sth.Post
 sth-at-n-requires t c κs =
@@ -6100,14 +7050,18 @@ sth-same-length-6 t c =
 sth-returns-3 : (t : ℕ) → sth-lts.Need-returns-3 (sth-told t) (sth-at t) sth.Post
 unfolding decl.strHead plan choose chosen
 sth-returns-3 t c =
-    let pre0 = c .before .before .before .before .before .before .before .before .before .before .before .before .before .before .before .before .before .before .pre .1 .0 in
-    let if1 = c .before .before .before .before .before .before .before .before .before .before .before .before .if1 .left in
-    let if2 = c .before .before .before .before .before .before .before .before .before .before .before .if2 .left in
-    let if3 = c .before .before .before .before .before .before .before .before .before .before .if3 .taken in
-    let at-n = c .before .before .before .before .before .before .before .before .before .at-n .ensures in
-    let if4 = c .before .before .before .before .before .before .before .before .if4 .taken in
-    let fap = c .before .before .before .before .fap .ensures in
-    in-steps pre0 (s-false _ _ (kind-not if1) (s-false _ _ (kind-not if2) (s-true _ _ (kind-is if3) (s-kind (s-true _ _ (kind-at _ _ _ _ at-n if4) (s-by _ fap s-end))))))
+    let X0 = c .before .before .before .before .before .before .before .before .before .before .before .before .before .before .before .before .before .before .args .text .now in
+    let T0 = c .before .before .before .before .before .before .before .before .before .before .before .before .before .before .before .before .before .before .args .toks .now in
+    let N0 = c .before .before .before .before .before .before .before .before .before .before .before .before .before .before .before .before .before .before .args .env .now in
+    let J0 = c .before .before .before .before .before .before .before .before .before .before .before .before .before .before .before .before .before .before .args .table .now in
+    let L0 = c .before .before .before .before .before .before .before .before .before .before .before .before .before .before .before .before .before .before .args .scratch .now in
+    let H0 = c .before .before .before .before .before .before .before .before .before .before .before .before .before .before .before .before .before .before .args .finds .now in
+    let S0 = c .before .before .before .before .before .before .before .before .before .before .before .before .before .before .before .before .before .before .args .s in
+    let J6 = c .before .before .before .before .fap .last .1 .1 .1 .0 in
+    let L6 = c .before .before .before .before .fap .last .1 .1 .1 .1 .0 in
+    let H6 = c .before .before .before .before .fap .last .1 .1 .1 .1 .1 .0 in
+    let S6 = outState (c .before .before .before .before .fap .result) in
+    in-steps {m = (mem X0 T0 N0 J0 L0 H0 S0)} {m' = (mem X0 T0 N0 J6 L6 H6 S6)} (c .before .before .before .before .before .before .before .before .before .before .before .before .before .before .before .before .before .before .pre .1 .0) (s-false {a = (mem X0 T0 N0 J0 L0 H0 S0)} {e = (mem X0 T0 N0 J6 L6 H6 S6)} _ _ (kind-not (c .before .before .before .before .before .before .before .before .before .before .before .before .if1 .left)) (s-false {a = (mem X0 T0 N0 J0 L0 H0 S0)} {e = (mem X0 T0 N0 J6 L6 H6 S6)} _ _ (kind-not (c .before .before .before .before .before .before .before .before .before .before .before .if2 .left)) (s-true {a = (mem X0 T0 N0 J0 L0 H0 S0)} {e = (mem X0 T0 N0 J6 L6 H6 S6)} _ _ (kind-is (c .before .before .before .before .before .before .before .before .before .before .if3 .taken)) (s-kind {a = (mem X0 T0 N0 J0 L0 H0 S0)} {e = (mem X0 T0 N0 J6 L6 H6 S6)} (s-true {a = (mem X0 T0 N0 J0 L0 H0 S0)} {e = (mem X0 T0 N0 J6 L6 H6 S6)} _ _ (kind-at _ _ (mem X0 T0 N0 J0 L0 H0 S0) _ (c .before .before .before .before .before .before .before .before .before .at-n .ensures) (c .before .before .before .before .before .before .before .before .if4 .taken)) (s-by {a = (mem X0 T0 N0 J0 L0 H0 S0)} {c = (mem X0 T0 N0 J6 L6 H6 S6)} {e = (mem X0 T0 N0 J6 L6 H6 S6)} _ (c .before .before .before .before .fap .ensures) s-end))))))
 
 sth-str-path-requires : (t : ℕ) → sth-lts.Need-str-path-requires (sth-told t) (sth-at t) sth.Post
 sth-str-path-requires t c κs =
@@ -6126,14 +7080,17 @@ sth-same-length-8 t c =
 sth-returns-4 : (t : ℕ) → sth-lts.Need-returns-4 (sth-told t) (sth-at t) sth.Post
 unfolding decl.strHead plan choose chosen
 sth-returns-4 t c =
-    let pre0 = c .before .before .before .before .before .before .before .before .before .before .before .before .before .before .before .before .before .before .before .pre .1 .0 in
-    let if1 = c .before .before .before .before .before .before .before .before .before .before .before .before .before .if1 .left in
-    let if2 = c .before .before .before .before .before .before .before .before .before .before .before .before .if2 .left in
-    let if3 = c .before .before .before .before .before .before .before .before .before .before .before .if3 .taken in
-    let at-n = c .before .before .before .before .before .before .before .before .before .before .at-n .ensures in
-    let if4 = c .before .before .before .before .before .before .before .before .before .if4 .left in
-    let str-path = c .before .before .before .before .str-path .ensures in
-    in-steps pre0 (s-false _ _ (kind-not if1) (s-false _ _ (kind-not if2) (s-true _ _ (kind-is if3) (s-kind (s-false _ _ (kind-off _ _ _ _ at-n if4) (s-by _ str-path s-end))))))
+    let X0 = c .before .before .before .before .before .before .before .before .before .before .before .before .before .before .before .before .before .before .before .args .text .now in
+    let T0 = c .before .before .before .before .before .before .before .before .before .before .before .before .before .before .before .before .before .before .before .args .toks .now in
+    let N0 = c .before .before .before .before .before .before .before .before .before .before .before .before .before .before .before .before .before .before .before .args .env .now in
+    let J0 = c .before .before .before .before .before .before .before .before .before .before .before .before .before .before .before .before .before .before .before .args .table .now in
+    let L0 = c .before .before .before .before .before .before .before .before .before .before .before .before .before .before .before .before .before .before .before .args .scratch .now in
+    let H0 = c .before .before .before .before .before .before .before .before .before .before .before .before .before .before .before .before .before .before .before .args .finds .now in
+    let S0 = c .before .before .before .before .before .before .before .before .before .before .before .before .before .before .before .before .before .before .before .args .s in
+    let L6 = c .before .before .before .before .str-path .last .1 .1 .1 .1 .0 in
+    let H6 = c .before .before .before .before .str-path .last .1 .1 .1 .1 .1 .0 in
+    let S6 = outState (c .before .before .before .before .str-path .result) in
+    in-steps {m = (mem X0 T0 N0 J0 L0 H0 S0)} {m' = (mem X0 T0 N0 J0 L6 H6 S6)} (c .before .before .before .before .before .before .before .before .before .before .before .before .before .before .before .before .before .before .before .pre .1 .0) (s-false {a = (mem X0 T0 N0 J0 L0 H0 S0)} {e = (mem X0 T0 N0 J0 L6 H6 S6)} _ _ (kind-not (c .before .before .before .before .before .before .before .before .before .before .before .before .before .if1 .left)) (s-false {a = (mem X0 T0 N0 J0 L0 H0 S0)} {e = (mem X0 T0 N0 J0 L6 H6 S6)} _ _ (kind-not (c .before .before .before .before .before .before .before .before .before .before .before .before .if2 .left)) (s-true {a = (mem X0 T0 N0 J0 L0 H0 S0)} {e = (mem X0 T0 N0 J0 L6 H6 S6)} _ _ (kind-is (c .before .before .before .before .before .before .before .before .before .before .before .if3 .taken)) (s-kind {a = (mem X0 T0 N0 J0 L0 H0 S0)} {e = (mem X0 T0 N0 J0 L6 H6 S6)} (s-false {a = (mem X0 T0 N0 J0 L0 H0 S0)} {e = (mem X0 T0 N0 J0 L6 H6 S6)} _ _ (kind-off _ _ (mem X0 T0 N0 J0 L0 H0 S0) _ (c .before .before .before .before .before .before .before .before .before .before .at-n .ensures) (c .before .before .before .before .before .before .before .before .before .if4 .left)) (s-by {a = (mem X0 T0 N0 J0 L0 H0 S0)} {c = (mem X0 T0 N0 J0 L6 H6 S6)} {e = (mem X0 T0 N0 J0 L6 H6 S6)} _ (c .before .before .before .before .str-path .ensures) s-end))))))
 
 sth-returns-5 : (t : ℕ) → sth-lts.Need-returns-5 (sth-told t) (sth-at t) sth.Post
 unfolding decl.strHead plan choose chosen
@@ -6180,9 +7137,18 @@ stm-same-length-2 t c =
 stm-returns : (t : ℕ) → stm-lts.Need-returns (stm-told t) (stm-at t) stm.Post
 unfolding decl.strMust plan choose chosen
 stm-returns t c =
-    let pre0 = c .before .before .before .before .before .before .before .before .before .before .before .before .before .before .before .before .pre .1 in
-    let stx = rw (c .before .got .given .1) at (c .before .before .before .before .before .before .before .stx .ensures) in
-    by-steps pre0 (λ b. s-run (runs-in stx) s-end)
+    let X0 = c .before .before .before .before .before .before .before .before .before .before .before .before .before .before .before .before .args .text .now in
+    let T0 = c .before .before .before .before .before .before .before .before .before .before .before .before .before .before .before .before .args .toks .now in
+    let N0 = c .before .before .before .before .before .before .before .before .before .before .before .before .before .before .before .before .args .env .now in
+    let J0 = c .before .before .before .before .before .before .before .before .before .before .before .before .before .before .before .before .args .table .now in
+    let L0 = c .before .before .before .before .before .before .before .before .before .before .before .before .before .before .before .before .args .scratch .now in
+    let H0 = c .before .before .before .before .before .before .before .before .before .before .before .before .before .before .before .before .args .finds .now in
+    let S0 = c .before .before .before .before .before .before .before .before .before .before .before .before .before .before .before .before .args .s in
+    let J1 = c .before .before .before .before .before .before .before .stx .last .1 .1 .1 .0 in
+    let L1 = c .before .before .before .before .before .before .before .stx .last .1 .1 .1 .1 .0 in
+    let H1 = c .before .before .before .before .before .before .before .stx .last .1 .1 .1 .1 .1 .0 in
+    let S1 = c .before .got .given .0 .0 in
+    by-steps {m = (mem X0 T0 N0 J0 L0 H0 S0)} {m' = (mem X0 T0 N0 J1 L1 H1 S1)} (c .before .before .before .before .before .before .before .before .before .before .before .before .before .before .before .before .pre .1) (λ b. s-run {a = (mem X0 T0 N0 J0 L0 H0 S0)} {c = (mem X0 T0 N0 J1 L1 H1 S1)} {e = (mem X0 T0 N0 J1 L1 H1 S1)} (runs-in {a = (mem X0 T0 N0 J0 L0 H0 S0)} {c = (mem X0 T0 N0 J1 L1 H1 S1)} (rw (c .before .got .given .1) at (c .before .before .before .before .before .before .before .stx .ensures))) s-end)
 
 stm-same-length-3 : (t : ℕ) → stm-lts.Need-same-length-3 (stm-told t) (stm-at t) stm.Post
 stm-same-length-3 t c =
@@ -6195,10 +7161,20 @@ stm-same-length-4 t c =
 stm-returns-2 : (t : ℕ) → stm-lts.Need-returns-2 (stm-told t) (stm-at t) stm.Post
 unfolding decl.strMust plan choose chosen
 stm-returns-2 t c =
-    let pre0 = c .before .before .before .before .before .before .before .before .before .before .before .before .before .before .before .before .before .before .before .before .pre .1 in
-    let stx = rw (c .before .before .before .before .before .got2 .given .1) at (c .before .before .before .before .before .before .before .before .before .before .before .stx .ensures) in
-    let report = c .before .before .report .ensures in
-    by-steps pre0 (λ b. s-run (runs-in stx) (s-report report s-end))
+    let X0 = c .before .before .before .before .before .before .before .before .before .before .before .before .before .before .before .before .before .before .before .before .args .text .now in
+    let T0 = c .before .before .before .before .before .before .before .before .before .before .before .before .before .before .before .before .before .before .before .before .args .toks .now in
+    let N0 = c .before .before .before .before .before .before .before .before .before .before .before .before .before .before .before .before .before .before .before .before .args .env .now in
+    let J0 = c .before .before .before .before .before .before .before .before .before .before .before .before .before .before .before .before .before .before .before .before .args .table .now in
+    let L0 = c .before .before .before .before .before .before .before .before .before .before .before .before .before .before .before .before .before .before .before .before .args .scratch .now in
+    let H0 = c .before .before .before .before .before .before .before .before .before .before .before .before .before .before .before .before .before .before .before .before .args .finds .now in
+    let S0 = c .before .before .before .before .before .before .before .before .before .before .before .before .before .before .before .before .before .before .before .before .args .s in
+    let J1 = c .before .before .before .before .before .before .before .before .before .before .before .stx .last .1 .1 .1 .0 in
+    let L1 = c .before .before .before .before .before .before .before .before .before .before .before .stx .last .1 .1 .1 .1 .0 in
+    let H1 = c .before .before .before .before .before .before .before .before .before .before .before .stx .last .1 .1 .1 .1 .1 .0 in
+    let S1 = c .before .before .before .before .before .got2 .given .0 .0 in
+    let H2 = c .before .before .report .last .0 in
+    let S2 = c .before .before .report .result in
+    by-steps {m = (mem X0 T0 N0 J0 L0 H0 S0)} {m' = (mem X0 T0 N0 J1 L1 H2 S2)} (c .before .before .before .before .before .before .before .before .before .before .before .before .before .before .before .before .before .before .before .before .pre .1) (λ b. s-run {a = (mem X0 T0 N0 J0 L0 H0 S0)} {c = (mem X0 T0 N0 J1 L1 H1 S1)} {e = (mem X0 T0 N0 J1 L1 H2 S2)} (runs-in {a = (mem X0 T0 N0 J0 L0 H0 S0)} {c = (mem X0 T0 N0 J1 L1 H1 S1)} (rw (c .before .before .before .before .before .got2 .given .1) at (c .before .before .before .before .before .before .before .before .before .before .before .stx .ensures))) (s-report {e = (mem X0 T0 N0 J1 L1 H2 S2)} {x = X0} {t = T0} {n = N0} {j = J1} {l = L1} {h = H1} {s = S1} {s' = S2} {h' = H2} (c .before .before .report .ensures) s-end))
 
 stp-peek-requires : (t : ℕ) → stp-lts.Need-peek-requires (stp-told t) (stp-at t) stp.Post
 stp-peek-requires t c κs =
@@ -6222,9 +7198,14 @@ stp-enum-told t c =
 stp-returns : (t : ℕ) → stp-lts.Need-returns (stp-told t) (stp-at t) stp.Post
 unfolding expr.expStep plan choose chosen
 stp-returns t c =
-    let pre0 = c .before .before .before .before .before .before .before .before .pre .1 .0 in
-    let peek = rw (c .enum-told .given .1) at (c .before .before .peek .ensures) in
-    in-steps pre0 (s-look peek s-end)
+    let X0 = c .before .before .before .before .before .before .before .before .args .text .now in
+    let T0 = c .before .before .before .before .before .before .before .before .args .toks .now in
+    let N0 = c .before .before .before .before .before .before .before .before .args .env .now in
+    let J0 = c .before .before .before .before .before .before .before .before .args .table .now in
+    let L0 = c .before .before .before .before .before .before .before .before .args .scratch .now in
+    let H0 = c .before .before .before .before .before .before .before .before .args .finds .now in
+    let S0 = c .before .before .before .before .before .before .before .before .args .s in
+    in-steps {m = (mem X0 T0 N0 J0 L0 H0 S0)} {m' = (mem X0 T0 N0 J0 L0 H0 S0)} (c .before .before .before .before .before .before .before .before .pre .1 .0) (s-look {a = (mem X0 T0 N0 J0 L0 H0 S0)} {e = (mem X0 T0 N0 J0 L0 H0 S0)} (rw (c .enum-told .given .1) at (c .before .before .peek .ensures)) s-end)
 
 stp-name-star-eq-requires : (t : ℕ) → stp-lts.Need-name-star-eq-requires (stp-told t) (stp-at t) stp.Post
 stp-name-star-eq-requires t c κs =
@@ -6249,12 +7230,18 @@ stp-same-length-2 t c =
 stp-returns-2 : (t : ℕ) → stp-lts.Need-returns-2 (stp-told t) (stp-at t) stp.Post
 unfolding expr.expStep plan choose chosen
 stp-returns-2 t c =
-    let pre0 = c .before .before .before .before .before .before .before .before .before .before .before .before .before .before .before .before .before .before .before .pre .1 .0 in
-    let peek = rw (c .before .before .before .before .before .before .before .before .before .before .before .k .given .1) at (c .before .before .before .before .before .before .before .before .before .before .before .before .before .peek .ensures) in
-    let name-star-eq = c .before .before .before .before .before .before .before .before .before .name-star-eq .ensures in
-    let if1 = c .before .before .before .before .before .before .before .before .if1 .taken in
-    let id = c .before .before .before .before .id .ensures in
-    in-steps pre0 (s-look peek (s-true _ _ (test-true name-star-eq if1) (s-by _ id s-end)))
+    let X0 = c .before .before .before .before .before .before .before .before .before .before .before .before .before .before .before .before .before .before .before .args .text .now in
+    let T0 = c .before .before .before .before .before .before .before .before .before .before .before .before .before .before .before .before .before .before .before .args .toks .now in
+    let N0 = c .before .before .before .before .before .before .before .before .before .before .before .before .before .before .before .before .before .before .before .args .env .now in
+    let J0 = c .before .before .before .before .before .before .before .before .before .before .before .before .before .before .before .before .before .before .before .args .table .now in
+    let L0 = c .before .before .before .before .before .before .before .before .before .before .before .before .before .before .before .before .before .before .before .args .scratch .now in
+    let H0 = c .before .before .before .before .before .before .before .before .before .before .before .before .before .before .before .before .before .before .before .args .finds .now in
+    let S0 = c .before .before .before .before .before .before .before .before .before .before .before .before .before .before .before .before .before .before .before .args .s in
+    let J4 = c .before .before .before .before .id .last .1 .1 .1 .0 in
+    let L4 = c .before .before .before .before .id .last .1 .1 .1 .1 .0 in
+    let H4 = c .before .before .before .before .id .last .1 .1 .1 .1 .1 .0 in
+    let S4 = outState (c .before .before .before .before .id .result) in
+    in-steps {m = (mem X0 T0 N0 J0 L0 H0 S0)} {m' = (mem X0 T0 N0 J4 L4 H4 S4)} (c .before .before .before .before .before .before .before .before .before .before .before .before .before .before .before .before .before .before .before .pre .1 .0) (s-look {a = (mem X0 T0 N0 J0 L0 H0 S0)} {e = (mem X0 T0 N0 J4 L4 H4 S4)} (rw (c .before .before .before .before .before .before .before .before .before .before .before .k .given .1) at (c .before .before .before .before .before .before .before .before .before .before .before .before .before .peek .ensures)) (s-true {a = (mem X0 T0 N0 J0 L0 H0 S0)} {e = (mem X0 T0 N0 J4 L4 H4 S4)} _ _ (test-true (c .before .before .before .before .before .before .before .before .before .name-star-eq .ensures) (c .before .before .before .before .before .before .before .before .if1 .taken)) (s-by {a = (mem X0 T0 N0 J0 L0 H0 S0)} {c = (mem X0 T0 N0 J4 L4 H4 S4)} {e = (mem X0 T0 N0 J4 L4 H4 S4)} _ (c .before .before .before .before .id .ensures) s-end)))
 
 stp-ascription-requires : (t : ℕ) → stp-lts.Need-ascription-requires (stp-told t) (stp-at t) stp.Post
 stp-ascription-requires t c κs =
@@ -6280,14 +7267,18 @@ stp-same-length-4 t c =
 stp-returns-3 : (t : ℕ) → stp-lts.Need-returns-3 (stp-told t) (stp-at t) stp.Post
 unfolding expr.expStep plan choose chosen
 stp-returns-3 t c =
-    let pre0 = c .before .before .before .before .before .before .before .before .before .before .before .before .before .before .before .before .before .before .before .before .before .pre .1 .0 in
-    let peek = rw (c .before .before .before .before .before .before .before .before .before .before .before .before .before .k .given .1) at (c .before .before .before .before .before .before .before .before .before .before .before .before .before .before .before .peek .ensures) in
-    let name-star-eq = c .before .before .before .before .before .before .before .before .before .before .before .name-star-eq .ensures in
-    let if1 = c .before .before .before .before .before .before .before .before .before .before .if1 .left in
-    let ascription = c .before .before .before .before .before .before .before .before .before .ascription .ensures in
-    let if2 = c .before .before .before .before .before .before .before .before .if2 .taken in
-    let opr = c .before .before .before .before .opr .ensures in
-    in-steps pre0 (s-look peek (s-false _ _ (test-false name-star-eq if1) (s-true _ _ (test-true ascription if2) (s-by _ opr s-end))))
+    let X0 = c .before .before .before .before .before .before .before .before .before .before .before .before .before .before .before .before .before .before .before .before .before .args .text .now in
+    let T0 = c .before .before .before .before .before .before .before .before .before .before .before .before .before .before .before .before .before .before .before .before .before .args .toks .now in
+    let N0 = c .before .before .before .before .before .before .before .before .before .before .before .before .before .before .before .before .before .before .before .before .before .args .env .now in
+    let J0 = c .before .before .before .before .before .before .before .before .before .before .before .before .before .before .before .before .before .before .before .before .before .args .table .now in
+    let L0 = c .before .before .before .before .before .before .before .before .before .before .before .before .before .before .before .before .before .before .before .before .before .args .scratch .now in
+    let H0 = c .before .before .before .before .before .before .before .before .before .before .before .before .before .before .before .before .before .before .before .before .before .args .finds .now in
+    let S0 = c .before .before .before .before .before .before .before .before .before .before .before .before .before .before .before .before .before .before .before .before .before .args .s in
+    let J6 = c .before .before .before .before .opr .last .1 .1 .1 .0 in
+    let L6 = c .before .before .before .before .opr .last .1 .1 .1 .1 .0 in
+    let H6 = c .before .before .before .before .opr .last .1 .1 .1 .1 .1 .0 in
+    let S6 = outState (c .before .before .before .before .opr .result) in
+    in-steps {m = (mem X0 T0 N0 J0 L0 H0 S0)} {m' = (mem X0 T0 N0 J6 L6 H6 S6)} (c .before .before .before .before .before .before .before .before .before .before .before .before .before .before .before .before .before .before .before .before .before .pre .1 .0) (s-look {a = (mem X0 T0 N0 J0 L0 H0 S0)} {e = (mem X0 T0 N0 J6 L6 H6 S6)} (rw (c .before .before .before .before .before .before .before .before .before .before .before .before .before .k .given .1) at (c .before .before .before .before .before .before .before .before .before .before .before .before .before .before .before .peek .ensures)) (s-false {a = (mem X0 T0 N0 J0 L0 H0 S0)} {e = (mem X0 T0 N0 J6 L6 H6 S6)} _ _ (test-false (c .before .before .before .before .before .before .before .before .before .before .before .name-star-eq .ensures) (c .before .before .before .before .before .before .before .before .before .before .if1 .left)) (s-true {a = (mem X0 T0 N0 J0 L0 H0 S0)} {e = (mem X0 T0 N0 J6 L6 H6 S6)} _ _ (test-true (c .before .before .before .before .before .before .before .before .before .ascription .ensures) (c .before .before .before .before .before .before .before .before .if2 .taken)) (s-by {a = (mem X0 T0 N0 J0 L0 H0 S0)} {c = (mem X0 T0 N0 J6 L6 H6 S6)} {e = (mem X0 T0 N0 J6 L6 H6 S6)} _ (c .before .before .before .before .opr .ensures) s-end))))
 
 stp-opr-requires-2 : (t : ℕ) → stp-lts.Need-opr-requires-2 (stp-told t) (stp-at t) stp.Post
 stp-opr-requires-2 t c κs =
@@ -6310,15 +7301,18 @@ stp-same-length-6 t c =
 stp-returns-4 : (t : ℕ) → stp-lts.Need-returns-4 (stp-told t) (stp-at t) stp.Post
 unfolding expr.expStep plan choose chosen
 stp-returns-4 t c =
-    let pre0 = c .before .before .before .before .before .before .before .before .before .before .before .before .before .before .before .before .before .before .before .before .before .before .pre .1 .0 in
-    let peek = rw (c .before .before .before .before .before .before .before .before .before .before .before .before .before .before .k .given .1) at (c .before .before .before .before .before .before .before .before .before .before .before .before .before .before .before .before .peek .ensures) in
-    let name-star-eq = c .before .before .before .before .before .before .before .before .before .before .before .before .name-star-eq .ensures in
-    let if1 = c .before .before .before .before .before .before .before .before .before .before .before .if1 .left in
-    let ascription = c .before .before .before .before .before .before .before .before .before .before .ascription .ensures in
-    let if2 = c .before .before .before .before .before .before .before .before .before .if2 .left in
-    let if3 = c .before .before .before .before .before .before .before .before .if3 .taken in
-    let opr2 = c .before .before .before .before .opr2 .ensures in
-    in-steps pre0 (s-look peek (s-false _ _ (test-false name-star-eq if1) (s-false _ _ (test-false ascription if2) (s-true _ _ (kind-is if3) (s-by _ opr2 s-end)))))
+    let X0 = c .before .before .before .before .before .before .before .before .before .before .before .before .before .before .before .before .before .before .before .before .before .before .args .text .now in
+    let T0 = c .before .before .before .before .before .before .before .before .before .before .before .before .before .before .before .before .before .before .before .before .before .before .args .toks .now in
+    let N0 = c .before .before .before .before .before .before .before .before .before .before .before .before .before .before .before .before .before .before .before .before .before .before .args .env .now in
+    let J0 = c .before .before .before .before .before .before .before .before .before .before .before .before .before .before .before .before .before .before .before .before .before .before .args .table .now in
+    let L0 = c .before .before .before .before .before .before .before .before .before .before .before .before .before .before .before .before .before .before .before .before .before .before .args .scratch .now in
+    let H0 = c .before .before .before .before .before .before .before .before .before .before .before .before .before .before .before .before .before .before .before .before .before .before .args .finds .now in
+    let S0 = c .before .before .before .before .before .before .before .before .before .before .before .before .before .before .before .before .before .before .before .before .before .before .args .s in
+    let J7 = c .before .before .before .before .opr2 .last .1 .1 .1 .0 in
+    let L7 = c .before .before .before .before .opr2 .last .1 .1 .1 .1 .0 in
+    let H7 = c .before .before .before .before .opr2 .last .1 .1 .1 .1 .1 .0 in
+    let S7 = outState (c .before .before .before .before .opr2 .result) in
+    in-steps {m = (mem X0 T0 N0 J0 L0 H0 S0)} {m' = (mem X0 T0 N0 J7 L7 H7 S7)} (c .before .before .before .before .before .before .before .before .before .before .before .before .before .before .before .before .before .before .before .before .before .before .pre .1 .0) (s-look {a = (mem X0 T0 N0 J0 L0 H0 S0)} {e = (mem X0 T0 N0 J7 L7 H7 S7)} (rw (c .before .before .before .before .before .before .before .before .before .before .before .before .before .before .k .given .1) at (c .before .before .before .before .before .before .before .before .before .before .before .before .before .before .before .before .peek .ensures)) (s-false {a = (mem X0 T0 N0 J0 L0 H0 S0)} {e = (mem X0 T0 N0 J7 L7 H7 S7)} _ _ (test-false (c .before .before .before .before .before .before .before .before .before .before .before .before .name-star-eq .ensures) (c .before .before .before .before .before .before .before .before .before .before .before .if1 .left)) (s-false {a = (mem X0 T0 N0 J0 L0 H0 S0)} {e = (mem X0 T0 N0 J7 L7 H7 S7)} _ _ (test-false (c .before .before .before .before .before .before .before .before .before .before .ascription .ensures) (c .before .before .before .before .before .before .before .before .before .if2 .left)) (s-true {a = (mem X0 T0 N0 J0 L0 H0 S0)} {e = (mem X0 T0 N0 J7 L7 H7 S7)} _ _ (kind-is (c .before .before .before .before .before .before .before .before .if3 .taken)) (s-by {a = (mem X0 T0 N0 J0 L0 H0 S0)} {c = (mem X0 T0 N0 J7 L7 H7 S7)} {e = (mem X0 T0 N0 J7 L7 H7 S7)} _ (c .before .before .before .before .opr2 .ensures) s-end)))))
 
 stp-opr-requires-3 : (t : ℕ) → stp-lts.Need-opr-requires-3 (stp-told t) (stp-at t) stp.Post
 stp-opr-requires-3 t c κs =
@@ -6342,16 +7336,18 @@ stp-same-length-8 t c =
 stp-returns-5 : (t : ℕ) → stp-lts.Need-returns-5 (stp-told t) (stp-at t) stp.Post
 unfolding expr.expStep plan choose chosen
 stp-returns-5 t c =
-    let pre0 = c .before .before .before .before .before .before .before .before .before .before .before .before .before .before .before .before .before .before .before .before .before .before .before .pre .1 .0 in
-    let peek = rw (c .before .before .before .before .before .before .before .before .before .before .before .before .before .before .before .k .given .1) at (c .before .before .before .before .before .before .before .before .before .before .before .before .before .before .before .before .before .peek .ensures) in
-    let name-star-eq = c .before .before .before .before .before .before .before .before .before .before .before .before .before .name-star-eq .ensures in
-    let if1 = c .before .before .before .before .before .before .before .before .before .before .before .before .if1 .left in
-    let ascription = c .before .before .before .before .before .before .before .before .before .before .before .ascription .ensures in
-    let if2 = c .before .before .before .before .before .before .before .before .before .before .if2 .left in
-    let if3 = c .before .before .before .before .before .before .before .before .before .if3 .left in
-    let if4 = c .before .before .before .before .before .before .before .before .if4 .taken in
-    let opr3 = c .before .before .before .before .opr3 .ensures in
-    in-steps pre0 (s-look peek (s-false _ _ (test-false name-star-eq if1) (s-false _ _ (test-false ascription if2) (s-false _ _ (kind-not if3) (s-true _ _ (kind-is if4) (s-by _ opr3 s-end))))))
+    let X0 = c .before .before .before .before .before .before .before .before .before .before .before .before .before .before .before .before .before .before .before .before .before .before .before .args .text .now in
+    let T0 = c .before .before .before .before .before .before .before .before .before .before .before .before .before .before .before .before .before .before .before .before .before .before .before .args .toks .now in
+    let N0 = c .before .before .before .before .before .before .before .before .before .before .before .before .before .before .before .before .before .before .before .before .before .before .before .args .env .now in
+    let J0 = c .before .before .before .before .before .before .before .before .before .before .before .before .before .before .before .before .before .before .before .before .before .before .before .args .table .now in
+    let L0 = c .before .before .before .before .before .before .before .before .before .before .before .before .before .before .before .before .before .before .before .before .before .before .before .args .scratch .now in
+    let H0 = c .before .before .before .before .before .before .before .before .before .before .before .before .before .before .before .before .before .before .before .before .before .before .before .args .finds .now in
+    let S0 = c .before .before .before .before .before .before .before .before .before .before .before .before .before .before .before .before .before .before .before .before .before .before .before .args .s in
+    let J8 = c .before .before .before .before .opr3 .last .1 .1 .1 .0 in
+    let L8 = c .before .before .before .before .opr3 .last .1 .1 .1 .1 .0 in
+    let H8 = c .before .before .before .before .opr3 .last .1 .1 .1 .1 .1 .0 in
+    let S8 = outState (c .before .before .before .before .opr3 .result) in
+    in-steps {m = (mem X0 T0 N0 J0 L0 H0 S0)} {m' = (mem X0 T0 N0 J8 L8 H8 S8)} (c .before .before .before .before .before .before .before .before .before .before .before .before .before .before .before .before .before .before .before .before .before .before .before .pre .1 .0) (s-look {a = (mem X0 T0 N0 J0 L0 H0 S0)} {e = (mem X0 T0 N0 J8 L8 H8 S8)} (rw (c .before .before .before .before .before .before .before .before .before .before .before .before .before .before .before .k .given .1) at (c .before .before .before .before .before .before .before .before .before .before .before .before .before .before .before .before .before .peek .ensures)) (s-false {a = (mem X0 T0 N0 J0 L0 H0 S0)} {e = (mem X0 T0 N0 J8 L8 H8 S8)} _ _ (test-false (c .before .before .before .before .before .before .before .before .before .before .before .before .before .name-star-eq .ensures) (c .before .before .before .before .before .before .before .before .before .before .before .before .if1 .left)) (s-false {a = (mem X0 T0 N0 J0 L0 H0 S0)} {e = (mem X0 T0 N0 J8 L8 H8 S8)} _ _ (test-false (c .before .before .before .before .before .before .before .before .before .before .before .ascription .ensures) (c .before .before .before .before .before .before .before .before .before .before .if2 .left)) (s-false {a = (mem X0 T0 N0 J0 L0 H0 S0)} {e = (mem X0 T0 N0 J8 L8 H8 S8)} _ _ (kind-not (c .before .before .before .before .before .before .before .before .before .if3 .left)) (s-true {a = (mem X0 T0 N0 J0 L0 H0 S0)} {e = (mem X0 T0 N0 J8 L8 H8 S8)} _ _ (kind-is (c .before .before .before .before .before .before .before .before .if4 .taken)) (s-by {a = (mem X0 T0 N0 J0 L0 H0 S0)} {c = (mem X0 T0 N0 J8 L8 H8 S8)} {e = (mem X0 T0 N0 J8 L8 H8 S8)} _ (c .before .before .before .before .opr3 .ensures) s-end))))))
 
 stp-opr-requires-4 : (t : ℕ) → stp-lts.Need-opr-requires-4 (stp-told t) (stp-at t) stp.Post
 stp-opr-requires-4 t c κs =
@@ -6376,17 +7372,18 @@ stp-same-length-10 t c =
 stp-returns-6 : (t : ℕ) → stp-lts.Need-returns-6 (stp-told t) (stp-at t) stp.Post
 unfolding expr.expStep plan choose chosen
 stp-returns-6 t c =
-    let pre0 = c .before .before .before .before .before .before .before .before .before .before .before .before .before .before .before .before .before .before .before .before .before .before .before .before .pre .1 .0 in
-    let peek = rw (c .before .before .before .before .before .before .before .before .before .before .before .before .before .before .before .before .k .given .1) at (c .before .before .before .before .before .before .before .before .before .before .before .before .before .before .before .before .before .before .peek .ensures) in
-    let name-star-eq = c .before .before .before .before .before .before .before .before .before .before .before .before .before .before .name-star-eq .ensures in
-    let if1 = c .before .before .before .before .before .before .before .before .before .before .before .before .before .if1 .left in
-    let ascription = c .before .before .before .before .before .before .before .before .before .before .before .before .ascription .ensures in
-    let if2 = c .before .before .before .before .before .before .before .before .before .before .before .if2 .left in
-    let if3 = c .before .before .before .before .before .before .before .before .before .before .if3 .left in
-    let if4 = c .before .before .before .before .before .before .before .before .before .if4 .left in
-    let if5 = c .before .before .before .before .before .before .before .before .if5 .taken in
-    let opr4 = c .before .before .before .before .opr4 .ensures in
-    in-steps pre0 (s-look peek (s-false _ _ (test-false name-star-eq if1) (s-false _ _ (test-false ascription if2) (s-false _ _ (kind-not if3) (s-false _ _ (kind-not if4) (s-true _ _ (kind-is if5) (s-by _ opr4 s-end)))))))
+    let X0 = c .before .before .before .before .before .before .before .before .before .before .before .before .before .before .before .before .before .before .before .before .before .before .before .before .args .text .now in
+    let T0 = c .before .before .before .before .before .before .before .before .before .before .before .before .before .before .before .before .before .before .before .before .before .before .before .before .args .toks .now in
+    let N0 = c .before .before .before .before .before .before .before .before .before .before .before .before .before .before .before .before .before .before .before .before .before .before .before .before .args .env .now in
+    let J0 = c .before .before .before .before .before .before .before .before .before .before .before .before .before .before .before .before .before .before .before .before .before .before .before .before .args .table .now in
+    let L0 = c .before .before .before .before .before .before .before .before .before .before .before .before .before .before .before .before .before .before .before .before .before .before .before .before .args .scratch .now in
+    let H0 = c .before .before .before .before .before .before .before .before .before .before .before .before .before .before .before .before .before .before .before .before .before .before .before .before .args .finds .now in
+    let S0 = c .before .before .before .before .before .before .before .before .before .before .before .before .before .before .before .before .before .before .before .before .before .before .before .before .args .s in
+    let J9 = c .before .before .before .before .opr4 .last .1 .1 .1 .0 in
+    let L9 = c .before .before .before .before .opr4 .last .1 .1 .1 .1 .0 in
+    let H9 = c .before .before .before .before .opr4 .last .1 .1 .1 .1 .1 .0 in
+    let S9 = outState (c .before .before .before .before .opr4 .result) in
+    in-steps {m = (mem X0 T0 N0 J0 L0 H0 S0)} {m' = (mem X0 T0 N0 J9 L9 H9 S9)} (c .before .before .before .before .before .before .before .before .before .before .before .before .before .before .before .before .before .before .before .before .before .before .before .before .pre .1 .0) (s-look {a = (mem X0 T0 N0 J0 L0 H0 S0)} {e = (mem X0 T0 N0 J9 L9 H9 S9)} (rw (c .before .before .before .before .before .before .before .before .before .before .before .before .before .before .before .before .k .given .1) at (c .before .before .before .before .before .before .before .before .before .before .before .before .before .before .before .before .before .before .peek .ensures)) (s-false {a = (mem X0 T0 N0 J0 L0 H0 S0)} {e = (mem X0 T0 N0 J9 L9 H9 S9)} _ _ (test-false (c .before .before .before .before .before .before .before .before .before .before .before .before .before .before .name-star-eq .ensures) (c .before .before .before .before .before .before .before .before .before .before .before .before .before .if1 .left)) (s-false {a = (mem X0 T0 N0 J0 L0 H0 S0)} {e = (mem X0 T0 N0 J9 L9 H9 S9)} _ _ (test-false (c .before .before .before .before .before .before .before .before .before .before .before .before .ascription .ensures) (c .before .before .before .before .before .before .before .before .before .before .before .if2 .left)) (s-false {a = (mem X0 T0 N0 J0 L0 H0 S0)} {e = (mem X0 T0 N0 J9 L9 H9 S9)} _ _ (kind-not (c .before .before .before .before .before .before .before .before .before .before .if3 .left)) (s-false {a = (mem X0 T0 N0 J0 L0 H0 S0)} {e = (mem X0 T0 N0 J9 L9 H9 S9)} _ _ (kind-not (c .before .before .before .before .before .before .before .before .before .if4 .left)) (s-true {a = (mem X0 T0 N0 J0 L0 H0 S0)} {e = (mem X0 T0 N0 J9 L9 H9 S9)} _ _ (kind-is (c .before .before .before .before .before .before .before .before .if5 .taken)) (s-by {a = (mem X0 T0 N0 J0 L0 H0 S0)} {c = (mem X0 T0 N0 J9 L9 H9 S9)} {e = (mem X0 T0 N0 J9 L9 H9 S9)} _ (c .before .before .before .before .opr4 .ensures) s-end)))))))
 
 stp-starts-arg-requires : (t : ℕ) → stp-lts.Need-starts-arg-requires (stp-told t) (stp-at t) stp.Post
 stp-starts-arg-requires t c κs =
@@ -6416,35 +7413,30 @@ stp-same-length-12 t c =
 stp-returns-7 : (t : ℕ) → stp-lts.Need-returns-7 (stp-told t) (stp-at t) stp.Post
 unfolding expr.expStep plan choose chosen
 stp-returns-7 t c =
-    let pre0 = c .before .before .before .before .before .before .before .before .before .before .before .before .before .before .before .before .before .before .before .before .before .before .before .before .before .before .pre .1 .0 in
-    let peek = rw (c .before .before .before .before .before .before .before .before .before .before .before .before .before .before .before .before .before .before .k .given .1) at (c .before .before .before .before .before .before .before .before .before .before .before .before .before .before .before .before .before .before .before .before .peek .ensures) in
-    let name-star-eq = c .before .before .before .before .before .before .before .before .before .before .before .before .before .before .before .before .name-star-eq .ensures in
-    let if1 = c .before .before .before .before .before .before .before .before .before .before .before .before .before .before .before .if1 .left in
-    let ascription = c .before .before .before .before .before .before .before .before .before .before .before .before .before .before .ascription .ensures in
-    let if2 = c .before .before .before .before .before .before .before .before .before .before .before .before .before .if2 .left in
-    let if3 = c .before .before .before .before .before .before .before .before .before .before .before .before .if3 .left in
-    let if4 = c .before .before .before .before .before .before .before .before .before .before .before .if4 .left in
-    let if5 = c .before .before .before .before .before .before .before .before .before .before .if5 .left in
-    let starts-arg = c .before .before .before .before .before .before .before .before .before .starts-arg .ensures in
-    let if6 = c .before .before .before .before .before .before .before .before .if6 .taken in
-    let app = c .before .before .before .before .app .ensures in
-    in-steps pre0 (s-look peek (s-false _ _ (test-false name-star-eq if1) (s-false _ _ (test-false ascription if2) (s-false _ _ (kind-not if3) (s-false _ _ (kind-not if4) (s-false _ _ (kind-not if5) (s-true _ _ (test-true starts-arg if6) (s-by _ app s-end))))))))
+    let X0 = c .before .before .before .before .before .before .before .before .before .before .before .before .before .before .before .before .before .before .before .before .before .before .before .before .before .before .args .text .now in
+    let T0 = c .before .before .before .before .before .before .before .before .before .before .before .before .before .before .before .before .before .before .before .before .before .before .before .before .before .before .args .toks .now in
+    let N0 = c .before .before .before .before .before .before .before .before .before .before .before .before .before .before .before .before .before .before .before .before .before .before .before .before .before .before .args .env .now in
+    let J0 = c .before .before .before .before .before .before .before .before .before .before .before .before .before .before .before .before .before .before .before .before .before .before .before .before .before .before .args .table .now in
+    let L0 = c .before .before .before .before .before .before .before .before .before .before .before .before .before .before .before .before .before .before .before .before .before .before .before .before .before .before .args .scratch .now in
+    let H0 = c .before .before .before .before .before .before .before .before .before .before .before .before .before .before .before .before .before .before .before .before .before .before .before .before .before .before .args .finds .now in
+    let S0 = c .before .before .before .before .before .before .before .before .before .before .before .before .before .before .before .before .before .before .before .before .before .before .before .before .before .before .args .s in
+    let J11 = c .before .before .before .before .app .last .1 .1 .1 .0 in
+    let L11 = c .before .before .before .before .app .last .1 .1 .1 .1 .0 in
+    let H11 = c .before .before .before .before .app .last .1 .1 .1 .1 .1 .0 in
+    let S11 = c .before .before .before .before .app .result in
+    in-steps {m = (mem X0 T0 N0 J0 L0 H0 S0)} {m' = (mem X0 T0 N0 J11 L11 H11 S11)} (c .before .before .before .before .before .before .before .before .before .before .before .before .before .before .before .before .before .before .before .before .before .before .before .before .before .before .pre .1 .0) (s-look {a = (mem X0 T0 N0 J0 L0 H0 S0)} {e = (mem X0 T0 N0 J11 L11 H11 S11)} (rw (c .before .before .before .before .before .before .before .before .before .before .before .before .before .before .before .before .before .before .k .given .1) at (c .before .before .before .before .before .before .before .before .before .before .before .before .before .before .before .before .before .before .before .before .peek .ensures)) (s-false {a = (mem X0 T0 N0 J0 L0 H0 S0)} {e = (mem X0 T0 N0 J11 L11 H11 S11)} _ _ (test-false (c .before .before .before .before .before .before .before .before .before .before .before .before .before .before .before .before .name-star-eq .ensures) (c .before .before .before .before .before .before .before .before .before .before .before .before .before .before .before .if1 .left)) (s-false {a = (mem X0 T0 N0 J0 L0 H0 S0)} {e = (mem X0 T0 N0 J11 L11 H11 S11)} _ _ (test-false (c .before .before .before .before .before .before .before .before .before .before .before .before .before .before .ascription .ensures) (c .before .before .before .before .before .before .before .before .before .before .before .before .before .if2 .left)) (s-false {a = (mem X0 T0 N0 J0 L0 H0 S0)} {e = (mem X0 T0 N0 J11 L11 H11 S11)} _ _ (kind-not (c .before .before .before .before .before .before .before .before .before .before .before .before .if3 .left)) (s-false {a = (mem X0 T0 N0 J0 L0 H0 S0)} {e = (mem X0 T0 N0 J11 L11 H11 S11)} _ _ (kind-not (c .before .before .before .before .before .before .before .before .before .before .before .if4 .left)) (s-false {a = (mem X0 T0 N0 J0 L0 H0 S0)} {e = (mem X0 T0 N0 J11 L11 H11 S11)} _ _ (kind-not (c .before .before .before .before .before .before .before .before .before .before .if5 .left)) (s-true {a = (mem X0 T0 N0 J0 L0 H0 S0)} {e = (mem X0 T0 N0 J11 L11 H11 S11)} _ _ (test-true (c .before .before .before .before .before .before .before .before .before .starts-arg .ensures) (c .before .before .before .before .before .before .before .before .if6 .taken)) (s-by {a = (mem X0 T0 N0 J0 L0 H0 S0)} {c = (mem X0 T0 N0 J11 L11 H11 S11)} {e = (mem X0 T0 N0 J11 L11 H11 S11)} _ (c .before .before .before .before .app .ensures) s-end))))))))
 
 stp-returns-8 : (t : ℕ) → stp-lts.Need-returns-8 (stp-told t) (stp-at t) stp.Post
 unfolding expr.expStep plan choose chosen
 stp-returns-8 t c =
-    let pre0 = c .before .before .before .before .before .before .before .before .before .before .before .before .before .before .before .before .before .before .pre .1 .0 in
-    let peek = rw (c .before .before .before .before .before .before .before .before .before .before .k .given .1) at (c .before .before .before .before .before .before .before .before .before .before .before .before .peek .ensures) in
-    let name-star-eq = c .before .before .before .before .before .before .before .before .name-star-eq .ensures in
-    let if1 = c .before .before .before .before .before .before .before .if1 .left in
-    let ascription = c .before .before .before .before .before .before .ascription .ensures in
-    let if2 = c .before .before .before .before .before .if2 .left in
-    let if3 = c .before .before .before .before .if3 .left in
-    let if4 = c .before .before .before .if4 .left in
-    let if5 = c .before .before .if5 .left in
-    let starts-arg = c .before .starts-arg .ensures in
-    let if6 = c .if6 .left in
-    in-steps pre0 (s-look peek (s-false _ _ (test-false name-star-eq if1) (s-false _ _ (test-false ascription if2) (s-false _ _ (kind-not if3) (s-false _ _ (kind-not if4) (s-false _ _ (kind-not if5) (s-false _ _ (test-false starts-arg if6) s-end)))))))
+    let X0 = c .before .before .before .before .before .before .before .before .before .before .before .before .before .before .before .before .before .before .args .text .now in
+    let T0 = c .before .before .before .before .before .before .before .before .before .before .before .before .before .before .before .before .before .before .args .toks .now in
+    let N0 = c .before .before .before .before .before .before .before .before .before .before .before .before .before .before .before .before .before .before .args .env .now in
+    let J0 = c .before .before .before .before .before .before .before .before .before .before .before .before .before .before .before .before .before .before .args .table .now in
+    let L0 = c .before .before .before .before .before .before .before .before .before .before .before .before .before .before .before .before .before .before .args .scratch .now in
+    let H0 = c .before .before .before .before .before .before .before .before .before .before .before .before .before .before .before .before .before .before .args .finds .now in
+    let S0 = c .before .before .before .before .before .before .before .before .before .before .before .before .before .before .before .before .before .before .args .s in
+    in-steps {m = (mem X0 T0 N0 J0 L0 H0 S0)} {m' = (mem X0 T0 N0 J0 L0 H0 S0)} (c .before .before .before .before .before .before .before .before .before .before .before .before .before .before .before .before .before .before .pre .1 .0) (s-look {a = (mem X0 T0 N0 J0 L0 H0 S0)} {e = (mem X0 T0 N0 J0 L0 H0 S0)} (rw (c .before .before .before .before .before .before .before .before .before .before .k .given .1) at (c .before .before .before .before .before .before .before .before .before .before .before .before .peek .ensures)) (s-false {a = (mem X0 T0 N0 J0 L0 H0 S0)} {e = (mem X0 T0 N0 J0 L0 H0 S0)} _ _ (test-false (c .before .before .before .before .before .before .before .before .name-star-eq .ensures) (c .before .before .before .before .before .before .before .if1 .left)) (s-false {a = (mem X0 T0 N0 J0 L0 H0 S0)} {e = (mem X0 T0 N0 J0 L0 H0 S0)} _ _ (test-false (c .before .before .before .before .before .before .ascription .ensures) (c .before .before .before .before .before .if2 .left)) (s-false {a = (mem X0 T0 N0 J0 L0 H0 S0)} {e = (mem X0 T0 N0 J0 L0 H0 S0)} _ _ (kind-not (c .before .before .before .before .if3 .left)) (s-false {a = (mem X0 T0 N0 J0 L0 H0 S0)} {e = (mem X0 T0 N0 J0 L0 H0 S0)} _ _ (kind-not (c .before .before .before .if4 .left)) (s-false {a = (mem X0 T0 N0 J0 L0 H0 S0)} {e = (mem X0 T0 N0 J0 L0 H0 S0)} _ _ (kind-not (c .before .before .if5 .left)) (s-false {a = (mem X0 T0 N0 J0 L0 H0 S0)} {e = (mem X0 T0 N0 J0 L0 H0 S0)} _ _ (test-false (c .before .starts-arg .ensures) (c .if6 .left)) s-end)))))))
 
 abbrev stt-Inv-loop : stt-lts.InvT-loop
 stt-Inv-loop text toks env table₀ scratch₀ finds₀ left b s1₀ table scratch finds s1 =
@@ -6618,9 +7610,14 @@ stx-enum-told t c =
 stx-returns : (t : ℕ) → stx-lts.Need-returns (stx-told t) (stx-at t) stx.Post
 unfolding root.body decl.strScope plan choose chosen
 stx-returns t c =
-    let pre0 = c .before .before .before .before .before .before .before .before .pre .1 in
-    let peek = rw (c .enum-told .given .1) at (c .before .before .peek .ensures) in
-    by-steps pre0 (λ b. s-rule (s-look peek s-end))
+    let X0 = c .before .before .before .before .before .before .before .before .args .text .now in
+    let T0 = c .before .before .before .before .before .before .before .before .args .toks .now in
+    let N0 = c .before .before .before .before .before .before .before .before .args .env .now in
+    let J0 = c .before .before .before .before .before .before .before .before .args .table .now in
+    let L0 = c .before .before .before .before .before .before .before .before .args .scratch .now in
+    let H0 = c .before .before .before .before .before .before .before .before .args .finds .now in
+    let S0 = c .before .before .before .before .before .before .before .before .args .s in
+    by-steps {m = (mem X0 T0 N0 J0 L0 H0 S0)} {m' = (mem X0 T0 N0 J0 L0 H0 S0)} (c .before .before .before .before .before .before .before .before .pre .1) (λ b. s-rule {a = (mem X0 T0 N0 J0 L0 H0 S0)} {e = (mem X0 T0 N0 J0 L0 H0 S0)} (s-look {a = (mem X0 T0 N0 J0 L0 H0 S0)} {e = (mem X0 T0 N0 J0 L0 H0 S0)} (rw (c .enum-told .given .1) at (c .before .before .peek .ensures)) s-end))
 
 stx-refuse-requires : (t : ℕ) → stx-lts.Need-refuse-requires (stx-told t) (stx-at t) stx.Post
 stx-refuse-requires t c κs =
@@ -6629,11 +7626,15 @@ stx-refuse-requires t c κs =
 stx-returns-2 : (t : ℕ) → stx-lts.Need-returns-2 (stx-told t) (stx-at t) stx.Post
 unfolding root.body decl.strScope plan choose chosen hushed
 stx-returns-2 t c =
-    let pre0 = c .before .before .before .before .before .before .before .before .before .before .before .pre .1 in
-    let peek = rw (c .before .before .before .k .given .1) at (c .before .before .before .before .before .peek .ensures) in
-    let if1 = c .before .if1 .taken in
-    let refuse = c .refuse .ensures in
-    by-steps pre0 (λ b. s-rule (s-look peek (s-shut if1 refuse (λ k l. refl))))
+    let X0 = c .before .before .before .before .before .before .before .before .before .before .before .args .text .now in
+    let T0 = c .before .before .before .before .before .before .before .before .before .before .before .args .toks .now in
+    let N0 = c .before .before .before .before .before .before .before .before .before .before .before .args .env .now in
+    let J0 = c .before .before .before .before .before .before .before .before .before .before .before .args .table .now in
+    let L0 = c .before .before .before .before .before .before .before .before .before .before .before .args .scratch .now in
+    let H0 = c .before .before .before .before .before .before .before .before .before .before .before .args .finds .now in
+    let S0 = c .before .before .before .before .before .before .before .before .before .before .before .args .s in
+    let S3 = c .refuse .result in
+    by-steps {m = (mem X0 T0 N0 J0 L0 H0 S0)} {m' = (mem X0 T0 N0 J0 L0 H0 S3)} (c .before .before .before .before .before .before .before .before .before .before .before .pre .1) (λ b. s-rule {a = (mem X0 T0 N0 J0 L0 H0 S0)} {e = (mem X0 T0 N0 J0 L0 H0 S3)} (s-look {a = (mem X0 T0 N0 J0 L0 H0 S0)} {e = (mem X0 T0 N0 J0 L0 H0 S3)} (rw (c .before .before .before .k .given .1) at (c .before .before .before .before .before .peek .ensures)) (s-shut (c .before .if1 .taken) (c .refuse .ensures) (λ k l. refl))))
 
 stx-mark-requires : (t : ℕ) → stx-lts.Need-mark-requires (stx-told t) (stx-at t) stx.Post
 stx-mark-requires t c κs =
@@ -6689,12 +7690,19 @@ stx-same-length-2 t c =
 stx-returns-3 : (t : ℕ) → stx-lts.Need-returns-3 (stx-told t) (stx-at t) stx.Post
 unfolding root.body decl.strScope plan choose chosen
 stx-returns-3 t c =
-    let pre0 = c .before .before .before .before .before .before .before .before .before .before .before .before .before .before .before .before .before .before .before .before .before .before .pre .1 in
-    let peek = rw (c .before .before .before .before .before .before .before .before .before .before .before .before .before .before .k .given .1) at (c .before .before .before .before .before .before .before .before .before .before .before .before .before .before .before .before .peek .ensures) in
-    let if1 = c .before .before .before .before .before .before .before .before .before .before .before .before .if1 .left in
-    let mark = c .before .before .before .before .before .before .before .before .before .before .before .mark .ensures in
-    let sth = rw (c .before .head .given .1) at (c .before .before .before .before .before .before .before .sth .ensures) in
-    by-steps pre0 (λ b. s-rule (s-look peek (s-mark if1 mark (s-by _ sth s-end))))
+    let X0 = c .before .before .before .before .before .before .before .before .before .before .before .before .before .before .before .before .before .before .before .before .before .before .args .text .now in
+    let T0 = c .before .before .before .before .before .before .before .before .before .before .before .before .before .before .before .before .before .before .before .before .before .before .args .toks .now in
+    let N0 = c .before .before .before .before .before .before .before .before .before .before .before .before .before .before .before .before .before .before .before .before .before .before .args .env .now in
+    let J0 = c .before .before .before .before .before .before .before .before .before .before .before .before .before .before .before .before .before .before .before .before .before .before .args .table .now in
+    let L0 = c .before .before .before .before .before .before .before .before .before .before .before .before .before .before .before .before .before .before .before .before .before .before .args .scratch .now in
+    let H0 = c .before .before .before .before .before .before .before .before .before .before .before .before .before .before .before .before .before .before .before .before .before .before .args .finds .now in
+    let S0 = c .before .before .before .before .before .before .before .before .before .before .before .before .before .before .before .before .before .before .before .before .before .before .args .s in
+    let S3 = c .before .before .before .before .before .before .before .before .before .before .before .mark .result in
+    let J4 = c .before .before .before .before .before .before .before .sth .last .1 .1 .1 .0 in
+    let L4 = c .before .before .before .before .before .before .before .sth .last .1 .1 .1 .1 .0 in
+    let H4 = c .before .before .before .before .before .before .before .sth .last .1 .1 .1 .1 .1 .0 in
+    let S4 = c .before .head .given .0 .0 in
+    by-steps {m = (mem X0 T0 N0 J0 L0 H0 S0)} {m' = (mem X0 T0 N0 J4 L4 H4 S4)} (c .before .before .before .before .before .before .before .before .before .before .before .before .before .before .before .before .before .before .before .before .before .before .pre .1) (λ b. s-rule {a = (mem X0 T0 N0 J0 L0 H0 S0)} {e = (mem X0 T0 N0 J4 L4 H4 S4)} (s-look {a = (mem X0 T0 N0 J0 L0 H0 S0)} {e = (mem X0 T0 N0 J4 L4 H4 S4)} (rw (c .before .before .before .before .before .before .before .before .before .before .before .before .before .before .k .given .1) at (c .before .before .before .before .before .before .before .before .before .before .before .before .before .before .before .before .peek .ensures)) (s-mark {e = (mem X0 T0 N0 J4 L4 H4 S4)} {x = X0} {t = T0} {n = N0} {j = J0} {l = L0} {h = H0} {s = S0} {s' = S3} (c .before .before .before .before .before .before .before .before .before .before .before .before .if1 .left) (c .before .before .before .before .before .before .before .before .before .before .before .mark .ensures) (s-by {a = (mem X0 T0 N0 J0 L0 H0 S3)} {c = (mem X0 T0 N0 J4 L4 H4 S4)} {e = (mem X0 T0 N0 J4 L4 H4 S4)} _ (rw (c .before .head .given .1) at (c .before .before .before .before .before .before .before .sth .ensures)) s-end))))
 
 stx-same-length-3 : (t : ℕ) → stx-lts.Need-same-length-3 (stx-told t) (stx-at t) stx.Post
 stx-same-length-3 t c =
@@ -6707,13 +7715,23 @@ stx-same-length-4 t c =
 stx-returns-4 : (t : ℕ) → stx-lts.Need-returns-4 (stx-told t) (stx-at t) stx.Post
 unfolding root.body decl.strScope plan choose chosen
 stx-returns-4 t c =
-    let pre0 = c .before .before .before .before .before .before .before .before .before .before .before .before .before .before .before .before .before .before .before .before .before .before .before .before .before .before .before .before .before .before .pre .1 in
-    let peek = rw (c .before .before .before .before .before .before .before .before .before .before .before .before .before .before .before .before .before .before .before .before .before .before .k .given .1) at (c .before .before .before .before .before .before .before .before .before .before .before .before .before .before .before .before .before .before .before .before .before .before .before .before .peek .ensures) in
-    let if1 = c .before .before .before .before .before .before .before .before .before .before .before .before .before .before .before .before .before .before .before .before .if1 .left in
-    let mark = c .before .before .before .before .before .before .before .before .before .before .before .before .before .before .before .before .before .before .before .mark .ensures in
-    let sth = rw (c .before .before .before .before .before .before .before .before .before .head2 .given .1) at (c .before .before .before .before .before .before .before .before .before .before .before .before .before .before .before .sth .ensures) in
-    let stt = c .before .before .before .before .stt .ensures in
-    by-steps pre0 (λ b. s-rule (s-look peek (s-mark if1 mark (s-by _ sth (s-run stt s-end)))))
+    let X0 = c .before .before .before .before .before .before .before .before .before .before .before .before .before .before .before .before .before .before .before .before .before .before .before .before .before .before .before .before .before .before .args .text .now in
+    let T0 = c .before .before .before .before .before .before .before .before .before .before .before .before .before .before .before .before .before .before .before .before .before .before .before .before .before .before .before .before .before .before .args .toks .now in
+    let N0 = c .before .before .before .before .before .before .before .before .before .before .before .before .before .before .before .before .before .before .before .before .before .before .before .before .before .before .before .before .before .before .args .env .now in
+    let J0 = c .before .before .before .before .before .before .before .before .before .before .before .before .before .before .before .before .before .before .before .before .before .before .before .before .before .before .before .before .before .before .args .table .now in
+    let L0 = c .before .before .before .before .before .before .before .before .before .before .before .before .before .before .before .before .before .before .before .before .before .before .before .before .before .before .before .before .before .before .args .scratch .now in
+    let H0 = c .before .before .before .before .before .before .before .before .before .before .before .before .before .before .before .before .before .before .before .before .before .before .before .before .before .before .before .before .before .before .args .finds .now in
+    let S0 = c .before .before .before .before .before .before .before .before .before .before .before .before .before .before .before .before .before .before .before .before .before .before .before .before .before .before .before .before .before .before .args .s in
+    let S3 = c .before .before .before .before .before .before .before .before .before .before .before .before .before .before .before .before .before .before .before .mark .result in
+    let J4 = c .before .before .before .before .before .before .before .before .before .before .before .before .before .before .before .sth .last .1 .1 .1 .0 in
+    let L4 = c .before .before .before .before .before .before .before .before .before .before .before .before .before .before .before .sth .last .1 .1 .1 .1 .0 in
+    let H4 = c .before .before .before .before .before .before .before .before .before .before .before .before .before .before .before .sth .last .1 .1 .1 .1 .1 .0 in
+    let S4 = c .before .before .before .before .before .before .before .before .before .head2 .given .0 .0 in
+    let J5 = c .before .before .before .before .stt .last .1 .1 .1 .0 in
+    let L5 = c .before .before .before .before .stt .last .1 .1 .1 .1 .0 in
+    let H5 = c .before .before .before .before .stt .last .1 .1 .1 .1 .1 .0 in
+    let S5 = c .before .before .before .before .stt .result in
+    by-steps {m = (mem X0 T0 N0 J0 L0 H0 S0)} {m' = (mem X0 T0 N0 J5 L5 H5 S5)} (c .before .before .before .before .before .before .before .before .before .before .before .before .before .before .before .before .before .before .before .before .before .before .before .before .before .before .before .before .before .before .pre .1) (λ b. s-rule {a = (mem X0 T0 N0 J0 L0 H0 S0)} {e = (mem X0 T0 N0 J5 L5 H5 S5)} (s-look {a = (mem X0 T0 N0 J0 L0 H0 S0)} {e = (mem X0 T0 N0 J5 L5 H5 S5)} (rw (c .before .before .before .before .before .before .before .before .before .before .before .before .before .before .before .before .before .before .before .before .before .before .k .given .1) at (c .before .before .before .before .before .before .before .before .before .before .before .before .before .before .before .before .before .before .before .before .before .before .before .before .peek .ensures)) (s-mark {e = (mem X0 T0 N0 J5 L5 H5 S5)} {x = X0} {t = T0} {n = N0} {j = J0} {l = L0} {h = H0} {s = S0} {s' = S3} (c .before .before .before .before .before .before .before .before .before .before .before .before .before .before .before .before .before .before .before .before .if1 .left) (c .before .before .before .before .before .before .before .before .before .before .before .before .before .before .before .before .before .before .before .mark .ensures) (s-by {a = (mem X0 T0 N0 J0 L0 H0 S3)} {c = (mem X0 T0 N0 J4 L4 H4 S4)} {e = (mem X0 T0 N0 J5 L5 H5 S5)} _ (rw (c .before .before .before .before .before .before .before .before .before .head2 .given .1) at (c .before .before .before .before .before .before .before .before .before .before .before .before .before .before .before .sth .ensures)) (s-run {a = (mem X0 T0 N0 J4 L4 H4 S4)} {c = (mem X0 T0 N0 J5 L5 H5 S5)} {e = (mem X0 T0 N0 J5 L5 H5 S5)} (c .before .before .before .before .stt .ensures) s-end)))))
 
 tl-refuse-requires : (t : ℕ) → tl-lts.Need-refuse-requires (tl-told t) (tl-at t) tl.Post
 tl-refuse-requires t c κs =
@@ -6722,10 +7740,15 @@ tl-refuse-requires t c κs =
 tl-returns : (t : ℕ) → tl-lts.Need-returns (tl-told t) (tl-at t) tl.Post
 unfolding decl.decWithTail util.maybeSemiSep decl.semiClosure util.choose plan choose chosen hushed
 tl-returns t c =
-    let pre0 = c .before .before .before .before .before .before .before .pre .1 in
-    let if1 = c .before .if1 .taken in
-    let refuse = c .refuse .ensures in
-    by-steps pre0 (λ b. s-shut if1 refuse (λ k l. refl))
+    let X0 = c .before .before .before .before .before .before .before .args .text .now in
+    let T0 = c .before .before .before .before .before .before .before .args .toks .now in
+    let N0 = c .before .before .before .before .before .before .before .args .env .now in
+    let J0 = c .before .before .before .before .before .before .before .args .table .now in
+    let L0 = c .before .before .before .before .before .before .before .args .scratch .now in
+    let H0 = c .before .before .before .before .before .before .before .args .finds .now in
+    let S0 = c .before .before .before .before .before .before .before .args .s in
+    let S2 = c .refuse .result in
+    by-steps {m = (mem X0 T0 N0 J0 L0 H0 S0)} {m' = (mem X0 T0 N0 J0 L0 H0 S2)} (c .before .before .before .before .before .before .before .pre .1) (λ b. s-shut (c .before .if1 .taken) (c .refuse .ensures) (λ k l. refl))
 
 tl-sub-n : (t : ℕ) → tl-lts.Need-sub-n (tl-told t) (tl-at t) tl.Post
 tl-sub-n t c =
@@ -6798,12 +7821,22 @@ tl-same-length-2 t c =
 tl-returns-2 : (t : ℕ) → tl-lts.Need-returns-2 (tl-told t) (tl-at t) tl.Post
 unfolding decl.decWithTail util.maybeSemiSep decl.semiClosure util.choose plan choose chosen
 tl-returns-2 t c =
-    let pre0 = c .before .before .before .before .before .before .before .before .before .before .before .before .before .before .before .before .before .before .before .before .before .before .before .before .before .before .before .pre .1 in
-    let if1 = c .before .before .before .before .before .before .before .before .before .before .before .before .before .before .before .before .before .before .before .before .before .if1 .left in
-    let mark = c .before .before .before .before .before .before .before .before .before .before .before .before .before .before .before .before .before .before .before .before .mark .ensures in
-    let sem = rw (c .before .before .before .before .before .before .before .before .before .before .turn .given .1) at (c .before .before .before .before .before .before .before .before .before .before .before .before .before .before .before .before .sem .ensures) in
-    let bare-tail = c .before .before .before .before .bare-tail .ensures in
-    by-steps pre0 (λ b. s-mark if1 mark (s-by _ (runs-in (sem _)) (s-by _ bare-tail s-end)))
+    let X0 = c .before .before .before .before .before .before .before .before .before .before .before .before .before .before .before .before .before .before .before .before .before .before .before .before .before .before .before .args .text .now in
+    let T0 = c .before .before .before .before .before .before .before .before .before .before .before .before .before .before .before .before .before .before .before .before .before .before .before .before .before .before .before .args .toks .now in
+    let N0 = c .before .before .before .before .before .before .before .before .before .before .before .before .before .before .before .before .before .before .before .before .before .before .before .before .before .before .before .args .env .now in
+    let J0 = c .before .before .before .before .before .before .before .before .before .before .before .before .before .before .before .before .before .before .before .before .before .before .before .before .before .before .before .args .table .now in
+    let L0 = c .before .before .before .before .before .before .before .before .before .before .before .before .before .before .before .before .before .before .before .before .before .before .before .before .before .before .before .args .scratch .now in
+    let H0 = c .before .before .before .before .before .before .before .before .before .before .before .before .before .before .before .before .before .before .before .before .before .before .before .before .before .before .before .args .finds .now in
+    let S0 = c .before .before .before .before .before .before .before .before .before .before .before .before .before .before .before .before .before .before .before .before .before .before .before .before .before .before .before .args .s in
+    let S2 = c .before .before .before .before .before .before .before .before .before .before .before .before .before .before .before .before .before .before .before .before .mark .result in
+    let J3 = c .before .before .before .before .before .before .before .before .before .before .before .before .before .before .before .before .sem .last .1 .1 .1 .0 in
+    let L3 = c .before .before .before .before .before .before .before .before .before .before .before .before .before .before .before .before .sem .last .1 .1 .1 .1 .0 in
+    let H3 = c .before .before .before .before .before .before .before .before .before .before .before .before .before .before .before .before .sem .last .1 .1 .1 .1 .1 .0 in
+    let S3 = c .before .before .before .before .before .before .before .before .before .before .turn .given .0 .0 in
+    let L4 = c .before .before .before .before .bare-tail .last .1 .1 .1 .1 .0 in
+    let H4 = c .before .before .before .before .bare-tail .last .1 .1 .1 .1 .1 .0 in
+    let S4 = outState (c .before .before .before .before .bare-tail .result) in
+    by-steps {m = (mem X0 T0 N0 J0 L0 H0 S0)} {m' = (mem X0 T0 N0 J3 L4 H4 S4)} (c .before .before .before .before .before .before .before .before .before .before .before .before .before .before .before .before .before .before .before .before .before .before .before .before .before .before .before .pre .1) (λ b. s-mark {e = (mem X0 T0 N0 J3 L4 H4 S4)} {x = X0} {t = T0} {n = N0} {j = J0} {l = L0} {h = H0} {s = S0} {s' = S2} (c .before .before .before .before .before .before .before .before .before .before .before .before .before .before .before .before .before .before .before .before .before .if1 .left) (c .before .before .before .before .before .before .before .before .before .before .before .before .before .before .before .before .before .before .before .before .mark .ensures) (s-by {a = (mem X0 T0 N0 J0 L0 H0 S2)} {c = (mem X0 T0 N0 J3 L3 H3 S3)} {e = (mem X0 T0 N0 J3 L4 H4 S4)} _ (runs-in {a = (mem X0 T0 N0 J0 L0 H0 S2)} {c = (mem X0 T0 N0 J3 L3 H3 S3)} ((rw (c .before .before .before .before .before .before .before .before .before .before .turn .given .1) at (c .before .before .before .before .before .before .before .before .before .before .before .before .before .before .before .before .sem .ensures)) _)) (s-by {a = (mem X0 T0 N0 J3 L3 H3 S3)} {c = (mem X0 T0 N0 J3 L4 H4 S4)} {e = (mem X0 T0 N0 J3 L4 H4 S4)} _ (c .before .before .before .before .bare-tail .ensures) s-end)))
 
 tl-same-length-3 : (t : ℕ) → tl-lts.Need-same-length-3 (tl-told t) (tl-at t) tl.Post
 tl-same-length-3 t c =
@@ -6816,13 +7849,26 @@ tl-same-length-4 t c =
 tl-returns-3 : (t : ℕ) → tl-lts.Need-returns-3 (tl-told t) (tl-at t) tl.Post
 unfolding decl.decWithTail util.maybeSemiSep decl.semiClosure util.choose plan choose chosen
 tl-returns-3 t c =
-    let pre0 = c .before .before .before .before .before .before .before .before .before .before .before .before .before .before .before .before .before .before .before .before .before .before .before .before .before .before .before .before .before .before .before .before .before .before .before .pre .1 in
-    let if1 = c .before .before .before .before .before .before .before .before .before .before .before .before .before .before .before .before .before .before .before .before .before .before .before .before .before .before .before .before .before .if1 .left in
-    let mark = c .before .before .before .before .before .before .before .before .before .before .before .before .before .before .before .before .before .before .before .before .before .before .before .before .before .before .before .before .mark .ensures in
-    let sem = rw (c .before .before .before .before .before .before .before .before .before .before .before .before .before .before .before .before .before .before .turn2 .given .1) at (c .before .before .before .before .before .before .before .before .before .before .before .before .before .before .before .before .before .before .before .before .before .before .before .before .sem .ensures) in
-    let seq = c .before .before .before .before .before .before .before .before .before .before .before .before .before .seq .ensures in
-    let full-tail = c .before .before .before .before .full-tail .ensures in
-    by-steps pre0 (λ b. s-mark if1 mark (s-by _ (runs-in (sem _)) (s-run (seq _) (s-by _ full-tail s-end))))
+    let X0 = c .before .before .before .before .before .before .before .before .before .before .before .before .before .before .before .before .before .before .before .before .before .before .before .before .before .before .before .before .before .before .before .before .before .before .before .args .text .now in
+    let T0 = c .before .before .before .before .before .before .before .before .before .before .before .before .before .before .before .before .before .before .before .before .before .before .before .before .before .before .before .before .before .before .before .before .before .before .before .args .toks .now in
+    let N0 = c .before .before .before .before .before .before .before .before .before .before .before .before .before .before .before .before .before .before .before .before .before .before .before .before .before .before .before .before .before .before .before .before .before .before .before .args .env .now in
+    let J0 = c .before .before .before .before .before .before .before .before .before .before .before .before .before .before .before .before .before .before .before .before .before .before .before .before .before .before .before .before .before .before .before .before .before .before .before .args .table .now in
+    let L0 = c .before .before .before .before .before .before .before .before .before .before .before .before .before .before .before .before .before .before .before .before .before .before .before .before .before .before .before .before .before .before .before .before .before .before .before .args .scratch .now in
+    let H0 = c .before .before .before .before .before .before .before .before .before .before .before .before .before .before .before .before .before .before .before .before .before .before .before .before .before .before .before .before .before .before .before .before .before .before .before .args .finds .now in
+    let S0 = c .before .before .before .before .before .before .before .before .before .before .before .before .before .before .before .before .before .before .before .before .before .before .before .before .before .before .before .before .before .before .before .before .before .before .before .args .s in
+    let S2 = c .before .before .before .before .before .before .before .before .before .before .before .before .before .before .before .before .before .before .before .before .before .before .before .before .before .before .before .before .mark .result in
+    let J3 = c .before .before .before .before .before .before .before .before .before .before .before .before .before .before .before .before .before .before .before .before .before .before .before .before .sem .last .1 .1 .1 .0 in
+    let L3 = c .before .before .before .before .before .before .before .before .before .before .before .before .before .before .before .before .before .before .before .before .before .before .before .before .sem .last .1 .1 .1 .1 .0 in
+    let H3 = c .before .before .before .before .before .before .before .before .before .before .before .before .before .before .before .before .before .before .before .before .before .before .before .before .sem .last .1 .1 .1 .1 .1 .0 in
+    let S3 = c .before .before .before .before .before .before .before .before .before .before .before .before .before .before .before .before .before .before .turn2 .given .0 .0 in
+    let J4 = c .before .before .before .before .before .before .before .before .before .before .before .before .before .seq .last .1 .1 .1 .0 in
+    let L4 = c .before .before .before .before .before .before .before .before .before .before .before .before .before .seq .last .1 .1 .1 .1 .0 in
+    let H4 = c .before .before .before .before .before .before .before .before .before .before .before .before .before .seq .last .1 .1 .1 .1 .1 .0 in
+    let S4 = c .before .before .before .before .before .before .before .before .before .before .before .before .before .seq .result in
+    let L5 = c .before .before .before .before .full-tail .last .1 .1 .1 .1 .0 in
+    let H5 = c .before .before .before .before .full-tail .last .1 .1 .1 .1 .1 .0 in
+    let S5 = c .before .before .before .before .full-tail .result in
+    by-steps {m = (mem X0 T0 N0 J0 L0 H0 S0)} {m' = (mem X0 T0 N0 J4 L5 H5 S5)} (c .before .before .before .before .before .before .before .before .before .before .before .before .before .before .before .before .before .before .before .before .before .before .before .before .before .before .before .before .before .before .before .before .before .before .before .pre .1) (λ b. s-mark {e = (mem X0 T0 N0 J4 L5 H5 S5)} {x = X0} {t = T0} {n = N0} {j = J0} {l = L0} {h = H0} {s = S0} {s' = S2} (c .before .before .before .before .before .before .before .before .before .before .before .before .before .before .before .before .before .before .before .before .before .before .before .before .before .before .before .before .before .if1 .left) (c .before .before .before .before .before .before .before .before .before .before .before .before .before .before .before .before .before .before .before .before .before .before .before .before .before .before .before .before .mark .ensures) (s-by {a = (mem X0 T0 N0 J0 L0 H0 S2)} {c = (mem X0 T0 N0 J3 L3 H3 S3)} {e = (mem X0 T0 N0 J4 L5 H5 S5)} _ (runs-in {a = (mem X0 T0 N0 J0 L0 H0 S2)} {c = (mem X0 T0 N0 J3 L3 H3 S3)} ((rw (c .before .before .before .before .before .before .before .before .before .before .before .before .before .before .before .before .before .before .turn2 .given .1) at (c .before .before .before .before .before .before .before .before .before .before .before .before .before .before .before .before .before .before .before .before .before .before .before .before .sem .ensures)) _)) (s-run {a = (mem X0 T0 N0 J3 L3 H3 S3)} {c = (mem X0 T0 N0 J4 L4 H4 S4)} {e = (mem X0 T0 N0 J4 L5 H5 S5)} ((c .before .before .before .before .before .before .before .before .before .before .before .before .before .seq .ensures) _) (s-by {a = (mem X0 T0 N0 J4 L4 H4 S4)} {c = (mem X0 T0 N0 J4 L5 H5 S5)} {e = (mem X0 T0 N0 J4 L5 H5 S5)} _ (c .before .before .before .before .full-tail .ensures) s-end))))
 
 vl-rec-pat-requires : (t : ℕ) → vl-lts.Need-rec-pat-requires (vl-told t) (vl-at t) vl.Post
 vl-rec-pat-requires t c κs =
@@ -6859,9 +7905,17 @@ vl-same-length-2 t c =
 vl-returns : (t : ℕ) → vl-lts.Need-returns (vl-told t) (vl-at t) vl.Post
 unfolding decl.valBind plan choose chosen
 vl-returns t c =
-    let pre0 = c .before .before .before .before .before .before .before .before .before .before .before .before .before .before .before .before .before .pre .1 in
-    let rec-pat = rw (c .before .got .given .1) at (c .before .before .before .before .before .before .before .rec-pat .ensures) in
-    by-steps pre0 (λ b. s-by _ (runs-in rec-pat) s-end)
+    let X0 = c .before .before .before .before .before .before .before .before .before .before .before .before .before .before .before .before .before .args .text .now in
+    let T0 = c .before .before .before .before .before .before .before .before .before .before .before .before .before .before .before .before .before .args .toks .now in
+    let N0 = c .before .before .before .before .before .before .before .before .before .before .before .before .before .before .before .before .before .args .env .now in
+    let J0 = c .before .before .before .before .before .before .before .before .before .before .before .before .before .before .before .before .before .args .table .now in
+    let L0 = c .before .before .before .before .before .before .before .before .before .before .before .before .before .before .before .before .before .args .scratch .now in
+    let H0 = c .before .before .before .before .before .before .before .before .before .before .before .before .before .before .before .before .before .args .finds .now in
+    let S0 = c .before .before .before .before .before .before .before .before .before .before .before .before .before .before .before .before .before .args .s in
+    let L1 = c .before .before .before .before .before .before .before .rec-pat .last .1 .1 .1 .1 .0 in
+    let H1 = c .before .before .before .before .before .before .before .rec-pat .last .1 .1 .1 .1 .1 .0 in
+    let S1 = c .before .got .given .0 .0 in
+    by-steps {m = (mem X0 T0 N0 J0 L0 H0 S0)} {m' = (mem X0 T0 N0 J0 L1 H1 S1)} (c .before .before .before .before .before .before .before .before .before .before .before .before .before .before .before .before .before .pre .1) (λ b. s-by {a = (mem X0 T0 N0 J0 L0 H0 S0)} {c = (mem X0 T0 N0 J0 L1 H1 S1)} {e = (mem X0 T0 N0 J0 L1 H1 S1)} _ (runs-in {a = (mem X0 T0 N0 J0 L0 H0 S0)} {c = (mem X0 T0 N0 J0 L1 H1 S1)} (rw (c .before .got .given .1) at (c .before .before .before .before .before .before .before .rec-pat .ensures))) s-end)
 
 vl-same-length-3 : (t : ℕ) → vl-lts.Need-same-length-3 (vl-told t) (vl-at t) vl.Post
 vl-same-length-3 t c =
@@ -6874,10 +7928,21 @@ vl-same-length-4 t c =
 vl-returns-2 : (t : ℕ) → vl-lts.Need-returns-2 (vl-told t) (vl-at t) vl.Post
 unfolding decl.valBind plan choose chosen
 vl-returns-2 t c =
-    let pre0 = c .before .before .before .before .before .before .before .before .before .before .before .before .before .before .before .before .before .before .before .before .before .before .before .before .before .pre .1 in
-    let rec-pat = rw (c .before .before .before .before .before .before .before .before .before .got2 .given .1) at (c .before .before .before .before .before .before .before .before .before .before .before .before .before .before .before .rec-pat .ensures) in
-    let eq = c .before .before .before .before .eq .ensures in
-    by-steps pre0 (λ b. s-by _ (runs-in rec-pat) (s-by _ (runs-in eq) s-end))
+    let X0 = c .before .before .before .before .before .before .before .before .before .before .before .before .before .before .before .before .before .before .before .before .before .before .before .before .before .args .text .now in
+    let T0 = c .before .before .before .before .before .before .before .before .before .before .before .before .before .before .before .before .before .before .before .before .before .before .before .before .before .args .toks .now in
+    let N0 = c .before .before .before .before .before .before .before .before .before .before .before .before .before .before .before .before .before .before .before .before .before .before .before .before .before .args .env .now in
+    let J0 = c .before .before .before .before .before .before .before .before .before .before .before .before .before .before .before .before .before .before .before .before .before .before .before .before .before .args .table .now in
+    let L0 = c .before .before .before .before .before .before .before .before .before .before .before .before .before .before .before .before .before .before .before .before .before .before .before .before .before .args .scratch .now in
+    let H0 = c .before .before .before .before .before .before .before .before .before .before .before .before .before .before .before .before .before .before .before .before .before .before .before .before .before .args .finds .now in
+    let S0 = c .before .before .before .before .before .before .before .before .before .before .before .before .before .before .before .before .before .before .before .before .before .before .before .before .before .args .s in
+    let L1 = c .before .before .before .before .before .before .before .before .before .before .before .before .before .before .before .rec-pat .last .1 .1 .1 .1 .0 in
+    let H1 = c .before .before .before .before .before .before .before .before .before .before .before .before .before .before .before .rec-pat .last .1 .1 .1 .1 .1 .0 in
+    let S1 = c .before .before .before .before .before .before .before .before .before .got2 .given .0 .0 in
+    let J2 = c .before .before .before .before .eq .last .1 .1 .1 .0 in
+    let L2 = c .before .before .before .before .eq .last .1 .1 .1 .1 .0 in
+    let H2 = c .before .before .before .before .eq .last .1 .1 .1 .1 .1 .0 in
+    let S2 = c .before .before .before .before .eq .result in
+    by-steps {m = (mem X0 T0 N0 J0 L0 H0 S0)} {m' = (mem X0 T0 N0 J2 L2 H2 S2)} (c .before .before .before .before .before .before .before .before .before .before .before .before .before .before .before .before .before .before .before .before .before .before .before .before .before .pre .1) (λ b. s-by {a = (mem X0 T0 N0 J0 L0 H0 S0)} {c = (mem X0 T0 N0 J0 L1 H1 S1)} {e = (mem X0 T0 N0 J2 L2 H2 S2)} _ (runs-in {a = (mem X0 T0 N0 J0 L0 H0 S0)} {c = (mem X0 T0 N0 J0 L1 H1 S1)} (rw (c .before .before .before .before .before .before .before .before .before .got2 .given .1) at (c .before .before .before .before .before .before .before .before .before .before .before .before .before .before .before .rec-pat .ensures))) (s-by {a = (mem X0 T0 N0 J0 L1 H1 S1)} {c = (mem X0 T0 N0 J2 L2 H2 S2)} {e = (mem X0 T0 N0 J2 L2 H2 S2)} _ (runs-in {a = (mem X0 T0 N0 J0 L1 H1 S1)} {c = (mem X0 T0 N0 J2 L2 H2 S2)} (c .before .before .before .before .eq .ensures)) s-end))
 
 we-want-requires : (t : ℕ) → we-lts.Need-want-requires (we-told t) (we-at t) we.Post
 we-want-requires t c κs =
@@ -6906,10 +7971,21 @@ we-same-length-2 t c =
 we-returns : (t : ℕ) → we-lts.Need-returns (we-told t) (we-at t) we.Post
 unfolding expr.wantExp plan choose chosen
 we-returns t c =
-    let pre0 = c .before .before .before .before .before .before .before .before .before .before .before .before .before .before .before .before .before .before .before .before .pre .1 .0 in
-    let want = c .before .before .before .before .before .before .before .before .before .before .before .before .want .ensures in
-    let exp = c .before .before .before .before .exp .ensures in
-    by-steps pre0 (λ b. s-eats _ _ _ want (s-by _ (runs-in exp) s-end))
+    let X0 = c .before .before .before .before .before .before .before .before .before .before .before .before .before .before .before .before .before .before .before .before .args .text .now in
+    let T0 = c .before .before .before .before .before .before .before .before .before .before .before .before .before .before .before .before .before .before .before .before .args .toks .now in
+    let N0 = c .before .before .before .before .before .before .before .before .before .before .before .before .before .before .before .before .before .before .before .before .args .env .now in
+    let J0 = c .before .before .before .before .before .before .before .before .before .before .before .before .before .before .before .before .before .before .before .before .args .table .now in
+    let L0 = c .before .before .before .before .before .before .before .before .before .before .before .before .before .before .before .before .before .before .before .before .args .scratch .now in
+    let H0 = c .before .before .before .before .before .before .before .before .before .before .before .before .before .before .before .before .before .before .before .before .args .finds .now in
+    let S0 = c .before .before .before .before .before .before .before .before .before .before .before .before .before .before .before .before .before .before .before .before .args .s in
+    let L1 = c .before .before .before .before .before .before .before .before .before .before .before .before .want .last .1 .0 in
+    let H1 = c .before .before .before .before .before .before .before .before .before .before .before .before .want .last .1 .1 .0 in
+    let S1 = c .before .before .before .before .before .before .before .before .before .before .before .before .want .result in
+    let J2 = c .before .before .before .before .exp .last .1 .1 .1 .0 in
+    let L2 = c .before .before .before .before .exp .last .1 .1 .1 .1 .0 in
+    let H2 = c .before .before .before .before .exp .last .1 .1 .1 .1 .1 .0 in
+    let S2 = c .before .before .before .before .exp .result in
+    by-steps {m = (mem X0 T0 N0 J0 L0 H0 S0)} {m' = (mem X0 T0 N0 J2 L2 H2 S2)} (c .before .before .before .before .before .before .before .before .before .before .before .before .before .before .before .before .before .before .before .before .pre .1 .0) (λ b. s-eats _ _ {x = X0} {t = T0} {n = N0} {j = J0} {l = L0} {h = H0} {l' = L1} {s = S0} {s' = S1} {e = (mem X0 T0 N0 J2 L2 H2 S2)} _ {h' = H1} (c .before .before .before .before .before .before .before .before .before .before .before .before .want .ensures) (s-by {a = (mem X0 T0 N0 J0 L1 H1 S1)} {c = (mem X0 T0 N0 J2 L2 H2 S2)} {e = (mem X0 T0 N0 J2 L2 H2 S2)} _ (runs-in {a = (mem X0 T0 N0 J0 L1 H1 S1)} {c = (mem X0 T0 N0 J2 L2 H2 S2)} (c .before .before .before .before .exp .ensures)) s-end))
 
 pub +app+arg+arm+asc+aso+atm+bd+bdy+cel+cl+cor+cs+dec+end+eq+ex+exp+fap+fct+fun+hs+ic+id+itm+kw+lex+lo+mat+mds+mny+one+opr+ops+oth+pa+pre+pt+rhs+rnd+rst+sem+sep+seq+sgb+sgm+sgx+slt+stb+sth+stm+stp+stt+stx+tl+vl+we-spec :
     {M : Type 1} → statement M

@@ -1,6 +1,6 @@
 -- by tools/prove
 use Rattle.laws.specs.Progress.{end-turn-advances, star-advances, ty-step-advances}
-use Rattle.parser.specs.View.{mem}
+use Rattle.parser.specs.View.{mem, outState}
 use Rattle.parser.specs.Runs.{runs-in, kind-at, kind-off, kind-is, kind-not, test-true, test-false, ok-bumps, ok-marks, ok-eats, ok-takes, ok-state, small-len, Loops, turns, loop-starts, loop-goes, loop-falls, loop-ends}
 use Rattle.parser.specs.Plans.{plan, choose, chosen, in-steps, by-steps, s-rule, s-look, s-kind, s-true, s-false, s-bump, s-close, s-report, s-mark, s-shut, hushed, s-by, s-eats, s-takes, s-run, settled, eats-settled, s-end}
 use borrow.Author.Needs.{needs}
@@ -372,10 +372,15 @@ arg-item-refuse-requires t c κs =
 arg-item-returns : (t : ℕ) → arg-item-lts.Need-returns (arg-item-told t) (arg-item-at t) arg-item.Post
 unfolding util.endItem plan choose chosen hushed
 arg-item-returns t c =
-    let pre0 = c .before .before .before .before .before .before .before .before .pre .1 in
-    let if1 = c .before .if1 .taken in
-    let refuse = c .refuse .ensures in
-    by-steps pre0 (λ b. s-shut if1 refuse (λ k l. refl))
+    let X0 = c .before .before .before .before .before .before .before .before .args .text .now in
+    let T0 = c .before .before .before .before .before .before .before .before .args .toks .now in
+    let N0 = c .before .before .before .before .before .before .before .before .args .env .now in
+    let J0 = c .before .before .before .before .before .before .before .before .args .table .now in
+    let L0 = c .before .before .before .before .before .before .before .before .args .scratch .now in
+    let H0 = c .before .before .before .before .before .before .before .before .args .finds .now in
+    let S0 = c .before .before .before .before .before .before .before .before .args .s in
+    let S2 = c .refuse .result in
+    by-steps {m = (mem X0 T0 N0 J0 L0 H0 S0)} {m' = (mem X0 T0 N0 J0 L0 H0 S2)} (c .before .before .before .before .before .before .before .before .pre .1) (λ b. s-shut (c .before .if1 .taken) (c .refuse .ensures) (λ k l. refl))
 
 arg-item-mark-requires : (t : ℕ) → arg-item-lts.Need-mark-requires (arg-item-told t) (arg-item-at t) arg-item.Post
 arg-item-mark-requires t c κs =
@@ -431,15 +436,22 @@ arg-item-same-length-2 t c =
 arg-item-returns-2 : (t : ℕ) → arg-item-lts.Need-returns-2 (arg-item-told t) (arg-item-at t) arg-item.Post
 unfolding util.endItem plan choose chosen
 arg-item-returns-2 t c =
-    let pre0 = c .before .before .before .before .before .before .before .before .before .before .before .before .before .before .before .before .before .before .before .before .before .before .before .before .before .pre .1 in
-    let if1 = c .before .before .before .before .before .before .before .before .before .before .before .before .before .before .before .before .before .before .if1 .left in
-    let mark = c .before .before .before .before .before .before .before .before .before .before .before .before .before .before .before .before .before .mark .ensures in
-    let ty-must = c .before .before .before .before .before .before .before .before .before .before .before .before .before .before .ty-must .ensures in
-    let at = c .before .before .before .before .before .before .before .before .before .at .ensures in
-    let if2 = c .before .before .before .before .before .before .before .before .if2 .taken in
-    let bump = c .before .before .before .before .before .before .bump .ensures in
-    let close = c .before .before .close .ensures in
-    by-steps pre0 (λ b. s-mark if1 mark (s-by _ (runs-in ty-must) (s-kind (s-true _ _ (kind-at _ _ _ _ at if2) (s-bump bump (s-close close s-end))))))
+    let X0 = c .before .before .before .before .before .before .before .before .before .before .before .before .before .before .before .before .before .before .before .before .before .before .before .before .before .args .text .now in
+    let T0 = c .before .before .before .before .before .before .before .before .before .before .before .before .before .before .before .before .before .before .before .before .before .before .before .before .before .args .toks .now in
+    let N0 = c .before .before .before .before .before .before .before .before .before .before .before .before .before .before .before .before .before .before .before .before .before .before .before .before .before .args .env .now in
+    let J0 = c .before .before .before .before .before .before .before .before .before .before .before .before .before .before .before .before .before .before .before .before .before .before .before .before .before .args .table .now in
+    let L0 = c .before .before .before .before .before .before .before .before .before .before .before .before .before .before .before .before .before .before .before .before .before .before .before .before .before .args .scratch .now in
+    let H0 = c .before .before .before .before .before .before .before .before .before .before .before .before .before .before .before .before .before .before .before .before .before .before .before .before .before .args .finds .now in
+    let S0 = c .before .before .before .before .before .before .before .before .before .before .before .before .before .before .before .before .before .before .before .before .before .before .before .before .before .args .s in
+    let S2 = c .before .before .before .before .before .before .before .before .before .before .before .before .before .before .before .before .before .mark .result in
+    let L3 = c .before .before .before .before .before .before .before .before .before .before .before .before .before .before .ty-must .last .1 .1 .1 .1 .0 in
+    let H3 = c .before .before .before .before .before .before .before .before .before .before .before .before .before .before .ty-must .last .1 .1 .1 .1 .1 .0 in
+    let S3 = c .before .before .before .before .before .before .before .before .before .before .before .before .before .before .ty-must .result in
+    let L6 = c .before .before .before .before .before .before .bump .last .1 .0 in
+    let S6 = c .before .before .before .before .before .before .bump .result in
+    let L7 = c .before .before .close .last .0 in
+    let S7 = c .before .before .close .result in
+    by-steps {m = (mem X0 T0 N0 J0 L0 H0 S0)} {m' = (mem X0 T0 N0 J0 L7 H3 S7)} (c .before .before .before .before .before .before .before .before .before .before .before .before .before .before .before .before .before .before .before .before .before .before .before .before .before .pre .1) (λ b. s-mark {e = (mem X0 T0 N0 J0 L7 H3 S7)} {x = X0} {t = T0} {n = N0} {j = J0} {l = L0} {h = H0} {s = S0} {s' = S2} (c .before .before .before .before .before .before .before .before .before .before .before .before .before .before .before .before .before .before .if1 .left) (c .before .before .before .before .before .before .before .before .before .before .before .before .before .before .before .before .before .mark .ensures) (s-by {a = (mem X0 T0 N0 J0 L0 H0 S2)} {c = (mem X0 T0 N0 J0 L3 H3 S3)} {e = (mem X0 T0 N0 J0 L7 H3 S7)} _ (runs-in {a = (mem X0 T0 N0 J0 L0 H0 S2)} {c = (mem X0 T0 N0 J0 L3 H3 S3)} (c .before .before .before .before .before .before .before .before .before .before .before .before .before .before .ty-must .ensures)) (s-kind {a = (mem X0 T0 N0 J0 L3 H3 S3)} {e = (mem X0 T0 N0 J0 L7 H3 S7)} (s-true {a = (mem X0 T0 N0 J0 L3 H3 S3)} {e = (mem X0 T0 N0 J0 L7 H3 S7)} _ _ (kind-at _ _ (mem X0 T0 N0 J0 L3 H3 S3) _ (c .before .before .before .before .before .before .before .before .before .at .ensures) (c .before .before .before .before .before .before .before .before .if2 .taken)) (s-bump {e = (mem X0 T0 N0 J0 L7 H3 S7)} {x = X0} {t = T0} {n = N0} {j = J0} {l = L3} {h = H3} {s = S3} {s' = S6} {l' = L6} (c .before .before .before .before .before .before .bump .ensures) (s-close {e = (mem X0 T0 N0 J0 L7 H3 S7)} {x = X0} {t = T0} {n = N0} {j = J0} {l = L6} {h = H3} {s = S6} {s' = S7} {l' = L7} (c .before .before .close .ensures) s-end))))))
 
 arg-item-close-requires-2 : (t : ℕ) → arg-item-lts.Need-close-requires-2 (arg-item-told t) (arg-item-at t) arg-item.Post
 arg-item-close-requires-2 t c κs =
@@ -461,14 +473,20 @@ arg-item-same-length-4 t c =
 arg-item-returns-3 : (t : ℕ) → arg-item-lts.Need-returns-3 (arg-item-told t) (arg-item-at t) arg-item.Post
 unfolding util.endItem plan choose chosen
 arg-item-returns-3 t c =
-    let pre0 = c .before .before .before .before .before .before .before .before .before .before .before .before .before .before .before .before .before .before .before .before .before .pre .1 in
-    let if1 = c .before .before .before .before .before .before .before .before .before .before .before .before .before .before .if1 .left in
-    let mark = c .before .before .before .before .before .before .before .before .before .before .before .before .before .mark .ensures in
-    let ty-must = c .before .before .before .before .before .before .before .before .before .before .ty-must .ensures in
-    let at = c .before .before .before .before .before .at .ensures in
-    let if2 = c .before .before .before .before .if2 .left in
-    let close2 = c .before .before .close2 .ensures in
-    by-steps pre0 (λ b. s-mark if1 mark (s-by _ (runs-in ty-must) (s-kind (s-false _ _ (kind-off _ _ _ _ at if2) (s-close close2 s-end)))))
+    let X0 = c .before .before .before .before .before .before .before .before .before .before .before .before .before .before .before .before .before .before .before .before .before .args .text .now in
+    let T0 = c .before .before .before .before .before .before .before .before .before .before .before .before .before .before .before .before .before .before .before .before .before .args .toks .now in
+    let N0 = c .before .before .before .before .before .before .before .before .before .before .before .before .before .before .before .before .before .before .before .before .before .args .env .now in
+    let J0 = c .before .before .before .before .before .before .before .before .before .before .before .before .before .before .before .before .before .before .before .before .before .args .table .now in
+    let L0 = c .before .before .before .before .before .before .before .before .before .before .before .before .before .before .before .before .before .before .before .before .before .args .scratch .now in
+    let H0 = c .before .before .before .before .before .before .before .before .before .before .before .before .before .before .before .before .before .before .before .before .before .args .finds .now in
+    let S0 = c .before .before .before .before .before .before .before .before .before .before .before .before .before .before .before .before .before .before .before .before .before .args .s in
+    let S2 = c .before .before .before .before .before .before .before .before .before .before .before .before .before .mark .result in
+    let L3 = c .before .before .before .before .before .before .before .before .before .before .ty-must .last .1 .1 .1 .1 .0 in
+    let H3 = c .before .before .before .before .before .before .before .before .before .before .ty-must .last .1 .1 .1 .1 .1 .0 in
+    let S3 = c .before .before .before .before .before .before .before .before .before .before .ty-must .result in
+    let L6 = c .before .before .close2 .last .0 in
+    let S6 = c .before .before .close2 .result in
+    by-steps {m = (mem X0 T0 N0 J0 L0 H0 S0)} {m' = (mem X0 T0 N0 J0 L6 H3 S6)} (c .before .before .before .before .before .before .before .before .before .before .before .before .before .before .before .before .before .before .before .before .before .pre .1) (λ b. s-mark {e = (mem X0 T0 N0 J0 L6 H3 S6)} {x = X0} {t = T0} {n = N0} {j = J0} {l = L0} {h = H0} {s = S0} {s' = S2} (c .before .before .before .before .before .before .before .before .before .before .before .before .before .before .if1 .left) (c .before .before .before .before .before .before .before .before .before .before .before .before .before .mark .ensures) (s-by {a = (mem X0 T0 N0 J0 L0 H0 S2)} {c = (mem X0 T0 N0 J0 L3 H3 S3)} {e = (mem X0 T0 N0 J0 L6 H3 S6)} _ (runs-in {a = (mem X0 T0 N0 J0 L0 H0 S2)} {c = (mem X0 T0 N0 J0 L3 H3 S3)} (c .before .before .before .before .before .before .before .before .before .before .ty-must .ensures)) (s-kind {a = (mem X0 T0 N0 J0 L3 H3 S3)} {e = (mem X0 T0 N0 J0 L6 H3 S6)} (s-false {a = (mem X0 T0 N0 J0 L3 H3 S3)} {e = (mem X0 T0 N0 J0 L6 H3 S6)} _ _ (kind-off _ _ (mem X0 T0 N0 J0 L3 H3 S3) _ (c .before .before .before .before .before .at .ensures) (c .before .before .before .before .if2 .left)) (s-close {e = (mem X0 T0 N0 J0 L6 H3 S6)} {x = X0} {t = T0} {n = N0} {j = J0} {l = L3} {h = H3} {s = S3} {s' = S6} {l' = L6} (c .before .before .close2 .ensures) s-end)))))
 
 arg-turn-at-requires : (t : ℕ) → arg-turn-lts.Need-at-requires (arg-turn-told t) (arg-turn-at t) arg-turn.Post
 arg-turn-at-requires t c κs =
@@ -487,11 +505,16 @@ arg-turn-same-length t c =
 arg-turn-returns : (t : ℕ) → arg-turn-lts.Need-returns (arg-turn-told t) (arg-turn-at t) arg-turn.Post
 unfolding util.endTurn plan choose chosen
 arg-turn-returns t c =
-    let pre0 = c .before .before .before .before .before .before .before .before .before .before .before .before .pre .1 in
-    let at = c .before .before .before .before .before .at .ensures in
-    let if1 = c .before .before .before .before .if1 .taken in
-    let bump = c .before .before .bump .ensures in
-    by-steps pre0 (λ b. s-kind (s-true _ _ (kind-at _ _ _ _ at if1) (s-bump bump s-end)))
+    let X0 = c .before .before .before .before .before .before .before .before .before .before .before .before .args .text .now in
+    let T0 = c .before .before .before .before .before .before .before .before .before .before .before .before .args .toks .now in
+    let N0 = c .before .before .before .before .before .before .before .before .before .before .before .before .args .env .now in
+    let J0 = c .before .before .before .before .before .before .before .before .before .before .before .before .args .table .now in
+    let L0 = c .before .before .before .before .before .before .before .before .before .before .before .before .args .scratch .now in
+    let H0 = c .before .before .before .before .before .before .before .before .before .before .before .before .args .finds .now in
+    let S0 = c .before .before .before .before .before .before .before .before .before .before .before .before .args .s in
+    let L3 = c .before .before .bump .last .1 .0 in
+    let S3 = c .before .before .bump .result in
+    by-steps {m = (mem X0 T0 N0 J0 L0 H0 S0)} {m' = (mem X0 T0 N0 J0 L3 H0 S3)} (c .before .before .before .before .before .before .before .before .before .before .before .before .pre .1) (λ b. s-kind {a = (mem X0 T0 N0 J0 L0 H0 S0)} {e = (mem X0 T0 N0 J0 L3 H0 S3)} (s-true {a = (mem X0 T0 N0 J0 L0 H0 S0)} {e = (mem X0 T0 N0 J0 L3 H0 S3)} _ _ (kind-at _ _ (mem X0 T0 N0 J0 L0 H0 S0) _ (c .before .before .before .before .before .at .ensures) (c .before .before .before .before .if1 .taken)) (s-bump {e = (mem X0 T0 N0 J0 L3 H0 S3)} {x = X0} {t = T0} {n = N0} {j = J0} {l = L0} {h = H0} {s = S0} {s' = S3} {l' = L3} (c .before .before .bump .ensures) s-end)))
 
 arg-turn-arg-item-requires : (t : ℕ) → arg-turn-lts.Need-arg-item-requires (arg-turn-told t) (arg-turn-at t) arg-turn.Post
 arg-turn-arg-item-requires t c κs =
@@ -538,11 +561,17 @@ arg-turn-same-length-3 t c =
 arg-turn-returns-2 : (t : ℕ) → arg-turn-lts.Need-returns-2 (arg-turn-told t) (arg-turn-at t) arg-turn.Post
 unfolding util.endTurn plan choose chosen
 arg-turn-returns-2 t c =
-    let pre0 = c .before .before .before .before .before .before .before .before .before .before .before .before .before .before .before .before .before .before .pre .1 in
-    let at = c .before .before .before .before .before .before .before .before .before .before .before .at .ensures in
-    let if1 = c .before .before .before .before .before .before .before .before .before .before .if1 .left in
-    let arg-item = rw (c .before .item .given .1) at (c .before .before .before .before .before .before .before .arg-item .ensures) in
-    by-steps pre0 (λ b. s-kind (s-false _ _ (kind-off _ _ _ _ at if1) (s-by _ (runs-in arg-item) s-end)))
+    let X0 = c .before .before .before .before .before .before .before .before .before .before .before .before .before .before .before .before .before .before .args .text .now in
+    let T0 = c .before .before .before .before .before .before .before .before .before .before .before .before .before .before .before .before .before .before .args .toks .now in
+    let N0 = c .before .before .before .before .before .before .before .before .before .before .before .before .before .before .before .before .before .before .args .env .now in
+    let J0 = c .before .before .before .before .before .before .before .before .before .before .before .before .before .before .before .before .before .before .args .table .now in
+    let L0 = c .before .before .before .before .before .before .before .before .before .before .before .before .before .before .before .before .before .before .args .scratch .now in
+    let H0 = c .before .before .before .before .before .before .before .before .before .before .before .before .before .before .before .before .before .before .args .finds .now in
+    let S0 = c .before .before .before .before .before .before .before .before .before .before .before .before .before .before .before .before .before .before .args .s in
+    let L3 = c .before .before .before .before .before .before .before .arg-item .last .1 .1 .1 .1 .0 in
+    let H3 = c .before .before .before .before .before .before .before .arg-item .last .1 .1 .1 .1 .1 .0 in
+    let S3 = c .before .item .given .0 .0 in
+    by-steps {m = (mem X0 T0 N0 J0 L0 H0 S0)} {m' = (mem X0 T0 N0 J0 L3 H3 S3)} (c .before .before .before .before .before .before .before .before .before .before .before .before .before .before .before .before .before .before .pre .1) (λ b. s-kind {a = (mem X0 T0 N0 J0 L0 H0 S0)} {e = (mem X0 T0 N0 J0 L3 H3 S3)} (s-false {a = (mem X0 T0 N0 J0 L0 H0 S0)} {e = (mem X0 T0 N0 J0 L3 H3 S3)} _ _ (kind-off _ _ (mem X0 T0 N0 J0 L0 H0 S0) _ (c .before .before .before .before .before .before .before .before .before .before .before .at .ensures) (c .before .before .before .before .before .before .before .before .before .before .if1 .left)) (s-by {a = (mem X0 T0 N0 J0 L0 H0 S0)} {c = (mem X0 T0 N0 J0 L3 H3 S3)} {e = (mem X0 T0 N0 J0 L3 H3 S3)} _ (runs-in {a = (mem X0 T0 N0 J0 L0 H0 S0)} {c = (mem X0 T0 N0 J0 L3 H3 S3)} (rw (c .before .item .given .1) at (c .before .before .before .before .before .before .before .arg-item .ensures))) s-end)))
 
 arg-turn-same-length-4 : (t : ℕ) → arg-turn-lts.Need-same-length-4 (arg-turn-told t) (arg-turn-at t) arg-turn.Post
 arg-turn-same-length-4 t c =
@@ -555,13 +584,20 @@ arg-turn-same-length-5 t c =
 arg-turn-returns-3 : (t : ℕ) → arg-turn-lts.Need-returns-3 (arg-turn-told t) (arg-turn-at t) arg-turn.Post
 unfolding util.endTurn plan choose chosen
 arg-turn-returns-3 t c =
-    let pre0 = c .before .before .before .before .before .before .before .before .before .before .before .before .before .before .before .before .before .before .before .before .before .before .before .before .before .before .pre .1 in
-    let at = c .before .before .before .before .before .before .before .before .before .before .before .before .before .before .before .before .before .before .before .at .ensures in
-    let if1 = c .before .before .before .before .before .before .before .before .before .before .before .before .before .before .before .before .before .before .if1 .left in
-    let arg-item = rw (c .before .before .before .before .before .before .before .before .before .item2 .given .1) at (c .before .before .before .before .before .before .before .before .before .before .before .before .before .before .before .arg-item .ensures) in
-    let eat = c .before .before .before .before .before .eat .ensures in
-    let state = c .state .ensures in
-    by-steps pre0 (λ b. s-kind (s-false _ _ (kind-off _ _ _ _ at if1) (s-by _ (runs-in arg-item) (s-eats _ _ _ (eats-settled state eat) s-end))))
+    let X0 = c .before .before .before .before .before .before .before .before .before .before .before .before .before .before .before .before .before .before .before .before .before .before .before .before .before .before .args .text .now in
+    let T0 = c .before .before .before .before .before .before .before .before .before .before .before .before .before .before .before .before .before .before .before .before .before .before .before .before .before .before .args .toks .now in
+    let N0 = c .before .before .before .before .before .before .before .before .before .before .before .before .before .before .before .before .before .before .before .before .before .before .before .before .before .before .args .env .now in
+    let J0 = c .before .before .before .before .before .before .before .before .before .before .before .before .before .before .before .before .before .before .before .before .before .before .before .before .before .before .args .table .now in
+    let L0 = c .before .before .before .before .before .before .before .before .before .before .before .before .before .before .before .before .before .before .before .before .before .before .before .before .before .before .args .scratch .now in
+    let H0 = c .before .before .before .before .before .before .before .before .before .before .before .before .before .before .before .before .before .before .before .before .before .before .before .before .before .before .args .finds .now in
+    let S0 = c .before .before .before .before .before .before .before .before .before .before .before .before .before .before .before .before .before .before .before .before .before .before .before .before .before .before .args .s in
+    let L3 = c .before .before .before .before .before .before .before .before .before .before .before .before .before .before .before .arg-item .last .1 .1 .1 .1 .0 in
+    let H3 = c .before .before .before .before .before .before .before .before .before .before .before .before .before .before .before .arg-item .last .1 .1 .1 .1 .1 .0 in
+    let S3 = c .before .before .before .before .before .before .before .before .before .item2 .given .0 .0 in
+    let L4 = c .before .before .before .before .before .eat .last .1 .0 in
+    let H4 = c .before .before .before .before .before .eat .last .1 .1 .0 in
+    let S5 = c .state .result in
+    by-steps {m = (mem X0 T0 N0 J0 L0 H0 S0)} {m' = (mem X0 T0 N0 J0 L4 H4 S5)} (c .before .before .before .before .before .before .before .before .before .before .before .before .before .before .before .before .before .before .before .before .before .before .before .before .before .before .pre .1) (λ b. s-kind {a = (mem X0 T0 N0 J0 L0 H0 S0)} {e = (mem X0 T0 N0 J0 L4 H4 S5)} (s-false {a = (mem X0 T0 N0 J0 L0 H0 S0)} {e = (mem X0 T0 N0 J0 L4 H4 S5)} _ _ (kind-off _ _ (mem X0 T0 N0 J0 L0 H0 S0) _ (c .before .before .before .before .before .before .before .before .before .before .before .before .before .before .before .before .before .before .before .at .ensures) (c .before .before .before .before .before .before .before .before .before .before .before .before .before .before .before .before .before .before .if1 .left)) (s-by {a = (mem X0 T0 N0 J0 L0 H0 S0)} {c = (mem X0 T0 N0 J0 L3 H3 S3)} {e = (mem X0 T0 N0 J0 L4 H4 S5)} _ (runs-in {a = (mem X0 T0 N0 J0 L0 H0 S0)} {c = (mem X0 T0 N0 J0 L3 H3 S3)} (rw (c .before .before .before .before .before .before .before .before .before .item2 .given .1) at (c .before .before .before .before .before .before .before .before .before .before .before .before .before .before .before .arg-item .ensures))) (s-eats _ _ {x = X0} {t = T0} {n = N0} {j = J0} {l = L3} {h = H3} {l' = L4} {s = S3} {s' = S5} {e = (mem X0 T0 N0 J0 L4 H4 S5)} _ {h' = H4} (eats-settled (c .state .ensures) (c .before .before .before .before .before .eat .ensures)) s-end))))
 
 row-item-refuse-requires : (t : ℕ) → row-item-lts.Need-refuse-requires (row-item-told t) (row-item-at t) row-item.Post
 row-item-refuse-requires t c κs =
@@ -570,10 +606,15 @@ row-item-refuse-requires t c κs =
 row-item-returns : (t : ℕ) → row-item-lts.Need-returns (row-item-told t) (row-item-at t) row-item.Post
 unfolding util.endItem plan choose chosen hushed
 row-item-returns t c =
-    let pre0 = c .before .before .before .before .before .before .before .before .pre .1 in
-    let if1 = c .before .if1 .taken in
-    let refuse = c .refuse .ensures in
-    by-steps pre0 (λ b. s-shut if1 refuse (λ k l. refl))
+    let X0 = c .before .before .before .before .before .before .before .before .args .text .now in
+    let T0 = c .before .before .before .before .before .before .before .before .args .toks .now in
+    let N0 = c .before .before .before .before .before .before .before .before .args .env .now in
+    let J0 = c .before .before .before .before .before .before .before .before .args .table .now in
+    let L0 = c .before .before .before .before .before .before .before .before .args .scratch .now in
+    let H0 = c .before .before .before .before .before .before .before .before .args .finds .now in
+    let S0 = c .before .before .before .before .before .before .before .before .args .s in
+    let S2 = c .refuse .result in
+    by-steps {m = (mem X0 T0 N0 J0 L0 H0 S0)} {m' = (mem X0 T0 N0 J0 L0 H0 S2)} (c .before .before .before .before .before .before .before .before .pre .1) (λ b. s-shut (c .before .if1 .taken) (c .refuse .ensures) (λ k l. refl))
 
 row-item-mark-requires : (t : ℕ) → row-item-lts.Need-mark-requires (row-item-told t) (row-item-at t) row-item.Post
 row-item-mark-requires t c κs =
@@ -629,15 +670,22 @@ row-item-same-length-2 t c =
 row-item-returns-2 : (t : ℕ) → row-item-lts.Need-returns-2 (row-item-told t) (row-item-at t) row-item.Post
 unfolding util.endItem plan choose chosen
 row-item-returns-2 t c =
-    let pre0 = c .before .before .before .before .before .before .before .before .before .before .before .before .before .before .before .before .before .before .before .before .before .before .before .before .before .pre .1 in
-    let if1 = c .before .before .before .before .before .before .before .before .before .before .before .before .before .before .before .before .before .before .if1 .left in
-    let mark = c .before .before .before .before .before .before .before .before .before .before .before .before .before .before .before .before .before .mark .ensures in
-    let ty-row = c .before .before .before .before .before .before .before .before .before .before .before .before .before .before .ty-row .ensures in
-    let at = c .before .before .before .before .before .before .before .before .before .at .ensures in
-    let if2 = c .before .before .before .before .before .before .before .before .if2 .taken in
-    let bump = c .before .before .before .before .before .before .bump .ensures in
-    let close = c .before .before .close .ensures in
-    by-steps pre0 (λ b. s-mark if1 mark (s-by _ (runs-in ty-row) (s-kind (s-true _ _ (kind-at _ _ _ _ at if2) (s-bump bump (s-close close s-end))))))
+    let X0 = c .before .before .before .before .before .before .before .before .before .before .before .before .before .before .before .before .before .before .before .before .before .before .before .before .before .args .text .now in
+    let T0 = c .before .before .before .before .before .before .before .before .before .before .before .before .before .before .before .before .before .before .before .before .before .before .before .before .before .args .toks .now in
+    let N0 = c .before .before .before .before .before .before .before .before .before .before .before .before .before .before .before .before .before .before .before .before .before .before .before .before .before .args .env .now in
+    let J0 = c .before .before .before .before .before .before .before .before .before .before .before .before .before .before .before .before .before .before .before .before .before .before .before .before .before .args .table .now in
+    let L0 = c .before .before .before .before .before .before .before .before .before .before .before .before .before .before .before .before .before .before .before .before .before .before .before .before .before .args .scratch .now in
+    let H0 = c .before .before .before .before .before .before .before .before .before .before .before .before .before .before .before .before .before .before .before .before .before .before .before .before .before .args .finds .now in
+    let S0 = c .before .before .before .before .before .before .before .before .before .before .before .before .before .before .before .before .before .before .before .before .before .before .before .before .before .args .s in
+    let S2 = c .before .before .before .before .before .before .before .before .before .before .before .before .before .before .before .before .before .mark .result in
+    let L3 = c .before .before .before .before .before .before .before .before .before .before .before .before .before .before .ty-row .last .1 .1 .1 .1 .0 in
+    let H3 = c .before .before .before .before .before .before .before .before .before .before .before .before .before .before .ty-row .last .1 .1 .1 .1 .1 .0 in
+    let S3 = c .before .before .before .before .before .before .before .before .before .before .before .before .before .before .ty-row .result in
+    let L6 = c .before .before .before .before .before .before .bump .last .1 .0 in
+    let S6 = c .before .before .before .before .before .before .bump .result in
+    let L7 = c .before .before .close .last .0 in
+    let S7 = c .before .before .close .result in
+    by-steps {m = (mem X0 T0 N0 J0 L0 H0 S0)} {m' = (mem X0 T0 N0 J0 L7 H3 S7)} (c .before .before .before .before .before .before .before .before .before .before .before .before .before .before .before .before .before .before .before .before .before .before .before .before .before .pre .1) (λ b. s-mark {e = (mem X0 T0 N0 J0 L7 H3 S7)} {x = X0} {t = T0} {n = N0} {j = J0} {l = L0} {h = H0} {s = S0} {s' = S2} (c .before .before .before .before .before .before .before .before .before .before .before .before .before .before .before .before .before .before .if1 .left) (c .before .before .before .before .before .before .before .before .before .before .before .before .before .before .before .before .before .mark .ensures) (s-by {a = (mem X0 T0 N0 J0 L0 H0 S2)} {c = (mem X0 T0 N0 J0 L3 H3 S3)} {e = (mem X0 T0 N0 J0 L7 H3 S7)} _ (runs-in {a = (mem X0 T0 N0 J0 L0 H0 S2)} {c = (mem X0 T0 N0 J0 L3 H3 S3)} (c .before .before .before .before .before .before .before .before .before .before .before .before .before .before .ty-row .ensures)) (s-kind {a = (mem X0 T0 N0 J0 L3 H3 S3)} {e = (mem X0 T0 N0 J0 L7 H3 S7)} (s-true {a = (mem X0 T0 N0 J0 L3 H3 S3)} {e = (mem X0 T0 N0 J0 L7 H3 S7)} _ _ (kind-at _ _ (mem X0 T0 N0 J0 L3 H3 S3) _ (c .before .before .before .before .before .before .before .before .before .at .ensures) (c .before .before .before .before .before .before .before .before .if2 .taken)) (s-bump {e = (mem X0 T0 N0 J0 L7 H3 S7)} {x = X0} {t = T0} {n = N0} {j = J0} {l = L3} {h = H3} {s = S3} {s' = S6} {l' = L6} (c .before .before .before .before .before .before .bump .ensures) (s-close {e = (mem X0 T0 N0 J0 L7 H3 S7)} {x = X0} {t = T0} {n = N0} {j = J0} {l = L6} {h = H3} {s = S6} {s' = S7} {l' = L7} (c .before .before .close .ensures) s-end))))))
 
 row-item-close-requires-2 : (t : ℕ) → row-item-lts.Need-close-requires-2 (row-item-told t) (row-item-at t) row-item.Post
 row-item-close-requires-2 t c κs =
@@ -659,14 +707,20 @@ row-item-same-length-4 t c =
 row-item-returns-3 : (t : ℕ) → row-item-lts.Need-returns-3 (row-item-told t) (row-item-at t) row-item.Post
 unfolding util.endItem plan choose chosen
 row-item-returns-3 t c =
-    let pre0 = c .before .before .before .before .before .before .before .before .before .before .before .before .before .before .before .before .before .before .before .before .before .pre .1 in
-    let if1 = c .before .before .before .before .before .before .before .before .before .before .before .before .before .before .if1 .left in
-    let mark = c .before .before .before .before .before .before .before .before .before .before .before .before .before .mark .ensures in
-    let ty-row = c .before .before .before .before .before .before .before .before .before .before .ty-row .ensures in
-    let at = c .before .before .before .before .before .at .ensures in
-    let if2 = c .before .before .before .before .if2 .left in
-    let close2 = c .before .before .close2 .ensures in
-    by-steps pre0 (λ b. s-mark if1 mark (s-by _ (runs-in ty-row) (s-kind (s-false _ _ (kind-off _ _ _ _ at if2) (s-close close2 s-end)))))
+    let X0 = c .before .before .before .before .before .before .before .before .before .before .before .before .before .before .before .before .before .before .before .before .before .args .text .now in
+    let T0 = c .before .before .before .before .before .before .before .before .before .before .before .before .before .before .before .before .before .before .before .before .before .args .toks .now in
+    let N0 = c .before .before .before .before .before .before .before .before .before .before .before .before .before .before .before .before .before .before .before .before .before .args .env .now in
+    let J0 = c .before .before .before .before .before .before .before .before .before .before .before .before .before .before .before .before .before .before .before .before .before .args .table .now in
+    let L0 = c .before .before .before .before .before .before .before .before .before .before .before .before .before .before .before .before .before .before .before .before .before .args .scratch .now in
+    let H0 = c .before .before .before .before .before .before .before .before .before .before .before .before .before .before .before .before .before .before .before .before .before .args .finds .now in
+    let S0 = c .before .before .before .before .before .before .before .before .before .before .before .before .before .before .before .before .before .before .before .before .before .args .s in
+    let S2 = c .before .before .before .before .before .before .before .before .before .before .before .before .before .mark .result in
+    let L3 = c .before .before .before .before .before .before .before .before .before .before .ty-row .last .1 .1 .1 .1 .0 in
+    let H3 = c .before .before .before .before .before .before .before .before .before .before .ty-row .last .1 .1 .1 .1 .1 .0 in
+    let S3 = c .before .before .before .before .before .before .before .before .before .before .ty-row .result in
+    let L6 = c .before .before .close2 .last .0 in
+    let S6 = c .before .before .close2 .result in
+    by-steps {m = (mem X0 T0 N0 J0 L0 H0 S0)} {m' = (mem X0 T0 N0 J0 L6 H3 S6)} (c .before .before .before .before .before .before .before .before .before .before .before .before .before .before .before .before .before .before .before .before .before .pre .1) (λ b. s-mark {e = (mem X0 T0 N0 J0 L6 H3 S6)} {x = X0} {t = T0} {n = N0} {j = J0} {l = L0} {h = H0} {s = S0} {s' = S2} (c .before .before .before .before .before .before .before .before .before .before .before .before .before .before .if1 .left) (c .before .before .before .before .before .before .before .before .before .before .before .before .before .mark .ensures) (s-by {a = (mem X0 T0 N0 J0 L0 H0 S2)} {c = (mem X0 T0 N0 J0 L3 H3 S3)} {e = (mem X0 T0 N0 J0 L6 H3 S6)} _ (runs-in {a = (mem X0 T0 N0 J0 L0 H0 S2)} {c = (mem X0 T0 N0 J0 L3 H3 S3)} (c .before .before .before .before .before .before .before .before .before .before .ty-row .ensures)) (s-kind {a = (mem X0 T0 N0 J0 L3 H3 S3)} {e = (mem X0 T0 N0 J0 L6 H3 S6)} (s-false {a = (mem X0 T0 N0 J0 L3 H3 S3)} {e = (mem X0 T0 N0 J0 L6 H3 S6)} _ _ (kind-off _ _ (mem X0 T0 N0 J0 L3 H3 S3) _ (c .before .before .before .before .before .at .ensures) (c .before .before .before .before .if2 .left)) (s-close {e = (mem X0 T0 N0 J0 L6 H3 S6)} {x = X0} {t = T0} {n = N0} {j = J0} {l = L3} {h = H3} {s = S3} {s' = S6} {l' = L6} (c .before .before .close2 .ensures) s-end)))))
 
 row-turn-at-requires : (t : ℕ) → row-turn-lts.Need-at-requires (row-turn-told t) (row-turn-at t) row-turn.Post
 row-turn-at-requires t c κs =
@@ -685,11 +739,16 @@ row-turn-same-length t c =
 row-turn-returns : (t : ℕ) → row-turn-lts.Need-returns (row-turn-told t) (row-turn-at t) row-turn.Post
 unfolding util.endTurn plan choose chosen
 row-turn-returns t c =
-    let pre0 = c .before .before .before .before .before .before .before .before .before .before .before .before .pre .1 in
-    let at = c .before .before .before .before .before .at .ensures in
-    let if1 = c .before .before .before .before .if1 .taken in
-    let bump = c .before .before .bump .ensures in
-    by-steps pre0 (λ b. s-kind (s-true _ _ (kind-at _ _ _ _ at if1) (s-bump bump s-end)))
+    let X0 = c .before .before .before .before .before .before .before .before .before .before .before .before .args .text .now in
+    let T0 = c .before .before .before .before .before .before .before .before .before .before .before .before .args .toks .now in
+    let N0 = c .before .before .before .before .before .before .before .before .before .before .before .before .args .env .now in
+    let J0 = c .before .before .before .before .before .before .before .before .before .before .before .before .args .table .now in
+    let L0 = c .before .before .before .before .before .before .before .before .before .before .before .before .args .scratch .now in
+    let H0 = c .before .before .before .before .before .before .before .before .before .before .before .before .args .finds .now in
+    let S0 = c .before .before .before .before .before .before .before .before .before .before .before .before .args .s in
+    let L3 = c .before .before .bump .last .1 .0 in
+    let S3 = c .before .before .bump .result in
+    by-steps {m = (mem X0 T0 N0 J0 L0 H0 S0)} {m' = (mem X0 T0 N0 J0 L3 H0 S3)} (c .before .before .before .before .before .before .before .before .before .before .before .before .pre .1) (λ b. s-kind {a = (mem X0 T0 N0 J0 L0 H0 S0)} {e = (mem X0 T0 N0 J0 L3 H0 S3)} (s-true {a = (mem X0 T0 N0 J0 L0 H0 S0)} {e = (mem X0 T0 N0 J0 L3 H0 S3)} _ _ (kind-at _ _ (mem X0 T0 N0 J0 L0 H0 S0) _ (c .before .before .before .before .before .at .ensures) (c .before .before .before .before .if1 .taken)) (s-bump {e = (mem X0 T0 N0 J0 L3 H0 S3)} {x = X0} {t = T0} {n = N0} {j = J0} {l = L0} {h = H0} {s = S0} {s' = S3} {l' = L3} (c .before .before .bump .ensures) s-end)))
 
 row-turn-row-item-requires : (t : ℕ) → row-turn-lts.Need-row-item-requires (row-turn-told t) (row-turn-at t) row-turn.Post
 row-turn-row-item-requires t c κs =
@@ -736,11 +795,17 @@ row-turn-same-length-3 t c =
 row-turn-returns-2 : (t : ℕ) → row-turn-lts.Need-returns-2 (row-turn-told t) (row-turn-at t) row-turn.Post
 unfolding util.endTurn plan choose chosen
 row-turn-returns-2 t c =
-    let pre0 = c .before .before .before .before .before .before .before .before .before .before .before .before .before .before .before .before .before .before .pre .1 in
-    let at = c .before .before .before .before .before .before .before .before .before .before .before .at .ensures in
-    let if1 = c .before .before .before .before .before .before .before .before .before .before .if1 .left in
-    let row-item = rw (c .before .item .given .1) at (c .before .before .before .before .before .before .before .row-item .ensures) in
-    by-steps pre0 (λ b. s-kind (s-false _ _ (kind-off _ _ _ _ at if1) (s-by _ (runs-in row-item) s-end)))
+    let X0 = c .before .before .before .before .before .before .before .before .before .before .before .before .before .before .before .before .before .before .args .text .now in
+    let T0 = c .before .before .before .before .before .before .before .before .before .before .before .before .before .before .before .before .before .before .args .toks .now in
+    let N0 = c .before .before .before .before .before .before .before .before .before .before .before .before .before .before .before .before .before .before .args .env .now in
+    let J0 = c .before .before .before .before .before .before .before .before .before .before .before .before .before .before .before .before .before .before .args .table .now in
+    let L0 = c .before .before .before .before .before .before .before .before .before .before .before .before .before .before .before .before .before .before .args .scratch .now in
+    let H0 = c .before .before .before .before .before .before .before .before .before .before .before .before .before .before .before .before .before .before .args .finds .now in
+    let S0 = c .before .before .before .before .before .before .before .before .before .before .before .before .before .before .before .before .before .before .args .s in
+    let L3 = c .before .before .before .before .before .before .before .row-item .last .1 .1 .1 .1 .0 in
+    let H3 = c .before .before .before .before .before .before .before .row-item .last .1 .1 .1 .1 .1 .0 in
+    let S3 = c .before .item .given .0 .0 in
+    by-steps {m = (mem X0 T0 N0 J0 L0 H0 S0)} {m' = (mem X0 T0 N0 J0 L3 H3 S3)} (c .before .before .before .before .before .before .before .before .before .before .before .before .before .before .before .before .before .before .pre .1) (λ b. s-kind {a = (mem X0 T0 N0 J0 L0 H0 S0)} {e = (mem X0 T0 N0 J0 L3 H3 S3)} (s-false {a = (mem X0 T0 N0 J0 L0 H0 S0)} {e = (mem X0 T0 N0 J0 L3 H3 S3)} _ _ (kind-off _ _ (mem X0 T0 N0 J0 L0 H0 S0) _ (c .before .before .before .before .before .before .before .before .before .before .before .at .ensures) (c .before .before .before .before .before .before .before .before .before .before .if1 .left)) (s-by {a = (mem X0 T0 N0 J0 L0 H0 S0)} {c = (mem X0 T0 N0 J0 L3 H3 S3)} {e = (mem X0 T0 N0 J0 L3 H3 S3)} _ (runs-in {a = (mem X0 T0 N0 J0 L0 H0 S0)} {c = (mem X0 T0 N0 J0 L3 H3 S3)} (rw (c .before .item .given .1) at (c .before .before .before .before .before .before .before .row-item .ensures))) s-end)))
 
 row-turn-same-length-4 : (t : ℕ) → row-turn-lts.Need-same-length-4 (row-turn-told t) (row-turn-at t) row-turn.Post
 row-turn-same-length-4 t c =
@@ -753,13 +818,20 @@ row-turn-same-length-5 t c =
 row-turn-returns-3 : (t : ℕ) → row-turn-lts.Need-returns-3 (row-turn-told t) (row-turn-at t) row-turn.Post
 unfolding util.endTurn plan choose chosen
 row-turn-returns-3 t c =
-    let pre0 = c .before .before .before .before .before .before .before .before .before .before .before .before .before .before .before .before .before .before .before .before .before .before .before .before .before .before .pre .1 in
-    let at = c .before .before .before .before .before .before .before .before .before .before .before .before .before .before .before .before .before .before .before .at .ensures in
-    let if1 = c .before .before .before .before .before .before .before .before .before .before .before .before .before .before .before .before .before .before .if1 .left in
-    let row-item = rw (c .before .before .before .before .before .before .before .before .before .item2 .given .1) at (c .before .before .before .before .before .before .before .before .before .before .before .before .before .before .before .row-item .ensures) in
-    let eat = c .before .before .before .before .before .eat .ensures in
-    let state = c .state .ensures in
-    by-steps pre0 (λ b. s-kind (s-false _ _ (kind-off _ _ _ _ at if1) (s-by _ (runs-in row-item) (s-eats _ _ _ (eats-settled state eat) s-end))))
+    let X0 = c .before .before .before .before .before .before .before .before .before .before .before .before .before .before .before .before .before .before .before .before .before .before .before .before .before .before .args .text .now in
+    let T0 = c .before .before .before .before .before .before .before .before .before .before .before .before .before .before .before .before .before .before .before .before .before .before .before .before .before .before .args .toks .now in
+    let N0 = c .before .before .before .before .before .before .before .before .before .before .before .before .before .before .before .before .before .before .before .before .before .before .before .before .before .before .args .env .now in
+    let J0 = c .before .before .before .before .before .before .before .before .before .before .before .before .before .before .before .before .before .before .before .before .before .before .before .before .before .before .args .table .now in
+    let L0 = c .before .before .before .before .before .before .before .before .before .before .before .before .before .before .before .before .before .before .before .before .before .before .before .before .before .before .args .scratch .now in
+    let H0 = c .before .before .before .before .before .before .before .before .before .before .before .before .before .before .before .before .before .before .before .before .before .before .before .before .before .before .args .finds .now in
+    let S0 = c .before .before .before .before .before .before .before .before .before .before .before .before .before .before .before .before .before .before .before .before .before .before .before .before .before .before .args .s in
+    let L3 = c .before .before .before .before .before .before .before .before .before .before .before .before .before .before .before .row-item .last .1 .1 .1 .1 .0 in
+    let H3 = c .before .before .before .before .before .before .before .before .before .before .before .before .before .before .before .row-item .last .1 .1 .1 .1 .1 .0 in
+    let S3 = c .before .before .before .before .before .before .before .before .before .item2 .given .0 .0 in
+    let L4 = c .before .before .before .before .before .eat .last .1 .0 in
+    let H4 = c .before .before .before .before .before .eat .last .1 .1 .0 in
+    let S5 = c .state .result in
+    by-steps {m = (mem X0 T0 N0 J0 L0 H0 S0)} {m' = (mem X0 T0 N0 J0 L4 H4 S5)} (c .before .before .before .before .before .before .before .before .before .before .before .before .before .before .before .before .before .before .before .before .before .before .before .before .before .before .pre .1) (λ b. s-kind {a = (mem X0 T0 N0 J0 L0 H0 S0)} {e = (mem X0 T0 N0 J0 L4 H4 S5)} (s-false {a = (mem X0 T0 N0 J0 L0 H0 S0)} {e = (mem X0 T0 N0 J0 L4 H4 S5)} _ _ (kind-off _ _ (mem X0 T0 N0 J0 L0 H0 S0) _ (c .before .before .before .before .before .before .before .before .before .before .before .before .before .before .before .before .before .before .before .at .ensures) (c .before .before .before .before .before .before .before .before .before .before .before .before .before .before .before .before .before .before .if1 .left)) (s-by {a = (mem X0 T0 N0 J0 L0 H0 S0)} {c = (mem X0 T0 N0 J0 L3 H3 S3)} {e = (mem X0 T0 N0 J0 L4 H4 S5)} _ (runs-in {a = (mem X0 T0 N0 J0 L0 H0 S0)} {c = (mem X0 T0 N0 J0 L3 H3 S3)} (rw (c .before .before .before .before .before .before .before .before .before .item2 .given .1) at (c .before .before .before .before .before .before .before .before .before .before .before .before .before .before .before .row-item .ensures))) (s-eats _ _ {x = X0} {t = T0} {n = N0} {j = J0} {l = L3} {h = H3} {l' = L4} {s = S3} {s' = S5} {e = (mem X0 T0 N0 J0 L4 H4 S5)} _ {h' = H4} (eats-settled (c .state .ensures) (c .before .before .before .before .before .eat .ensures)) s-end))))
 
 star-factor-refuse-requires : (t : ℕ) → star-factor-lts.Need-refuse-requires (star-factor-told t) (star-factor-at t) star-factor.Post
 star-factor-refuse-requires t c κs =
@@ -768,10 +840,15 @@ star-factor-refuse-requires t c κs =
 star-factor-returns : (t : ℕ) → star-factor-lts.Need-returns (star-factor-told t) (star-factor-at t) star-factor.Post
 unfolding types.starFactor plan choose chosen hushed
 star-factor-returns t c =
-    let pre0 = c .before .before .before .before .before .before .before .before .pre .1 in
-    let if1 = c .before .if1 .taken in
-    let refuse = c .refuse .ensures in
-    by-steps pre0 (λ b. s-shut if1 refuse (λ k l. refl))
+    let X0 = c .before .before .before .before .before .before .before .before .args .text .now in
+    let T0 = c .before .before .before .before .before .before .before .before .args .toks .now in
+    let N0 = c .before .before .before .before .before .before .before .before .args .env .now in
+    let J0 = c .before .before .before .before .before .before .before .before .args .table .now in
+    let L0 = c .before .before .before .before .before .before .before .before .args .scratch .now in
+    let H0 = c .before .before .before .before .before .before .before .before .args .finds .now in
+    let S0 = c .before .before .before .before .before .before .before .before .args .s in
+    let S2 = c .refuse .result in
+    by-steps {m = (mem X0 T0 N0 J0 L0 H0 S0)} {m' = (mem X0 T0 N0 J0 L0 H0 S2)} (c .before .before .before .before .before .before .before .before .pre .1) (λ b. s-shut (c .before .if1 .taken) (c .refuse .ensures) (λ k l. refl))
 
 star-factor-mark-requires : (t : ℕ) → star-factor-lts.Need-mark-requires (star-factor-told t) (star-factor-at t) star-factor.Post
 star-factor-mark-requires t c κs =
@@ -822,13 +899,22 @@ star-factor-same-length-2 t c =
 star-factor-returns-2 : (t : ℕ) → star-factor-lts.Need-returns-2 (star-factor-told t) (star-factor-at t) star-factor.Post
 unfolding types.starFactor plan choose chosen
 star-factor-returns-2 t c =
-    let pre0 = c .before .before .before .before .before .before .before .before .before .before .before .before .before .before .before .before .before .before .before .before .before .before .before .pre .1 in
-    let if1 = c .before .before .before .before .before .before .before .before .before .before .before .before .before .before .before .before .if1 .left in
-    let mark = c .before .before .before .before .before .before .before .before .before .before .before .before .before .before .before .mark .ensures in
-    let bump = c .before .before .before .before .before .before .before .before .before .before .before .before .before .bump .ensures in
-    let ty-must = c .before .before .before .before .before .before .before .before .ty-must .ensures in
-    let close = c .before .before .close .ensures in
-    by-steps pre0 (λ b. s-mark if1 mark (s-bump bump (s-by _ (runs-in ty-must) (s-close close s-end))))
+    let X0 = c .before .before .before .before .before .before .before .before .before .before .before .before .before .before .before .before .before .before .before .before .before .before .before .args .text .now in
+    let T0 = c .before .before .before .before .before .before .before .before .before .before .before .before .before .before .before .before .before .before .before .before .before .before .before .args .toks .now in
+    let N0 = c .before .before .before .before .before .before .before .before .before .before .before .before .before .before .before .before .before .before .before .before .before .before .before .args .env .now in
+    let J0 = c .before .before .before .before .before .before .before .before .before .before .before .before .before .before .before .before .before .before .before .before .before .before .before .args .table .now in
+    let L0 = c .before .before .before .before .before .before .before .before .before .before .before .before .before .before .before .before .before .before .before .before .before .before .before .args .scratch .now in
+    let H0 = c .before .before .before .before .before .before .before .before .before .before .before .before .before .before .before .before .before .before .before .before .before .before .before .args .finds .now in
+    let S0 = c .before .before .before .before .before .before .before .before .before .before .before .before .before .before .before .before .before .before .before .before .before .before .before .args .s in
+    let S2 = c .before .before .before .before .before .before .before .before .before .before .before .before .before .before .before .mark .result in
+    let L3 = c .before .before .before .before .before .before .before .before .before .before .before .before .before .bump .last .1 .0 in
+    let S3 = c .before .before .before .before .before .before .before .before .before .before .before .before .before .bump .result in
+    let L4 = c .before .before .before .before .before .before .before .before .ty-must .last .1 .1 .1 .1 .0 in
+    let H4 = c .before .before .before .before .before .before .before .before .ty-must .last .1 .1 .1 .1 .1 .0 in
+    let S4 = c .before .before .before .before .before .before .before .before .ty-must .result in
+    let L5 = c .before .before .close .last .0 in
+    let S5 = c .before .before .close .result in
+    by-steps {m = (mem X0 T0 N0 J0 L0 H0 S0)} {m' = (mem X0 T0 N0 J0 L5 H4 S5)} (c .before .before .before .before .before .before .before .before .before .before .before .before .before .before .before .before .before .before .before .before .before .before .before .pre .1) (λ b. s-mark {e = (mem X0 T0 N0 J0 L5 H4 S5)} {x = X0} {t = T0} {n = N0} {j = J0} {l = L0} {h = H0} {s = S0} {s' = S2} (c .before .before .before .before .before .before .before .before .before .before .before .before .before .before .before .before .if1 .left) (c .before .before .before .before .before .before .before .before .before .before .before .before .before .before .before .mark .ensures) (s-bump {e = (mem X0 T0 N0 J0 L5 H4 S5)} {x = X0} {t = T0} {n = N0} {j = J0} {l = L0} {h = H0} {s = S2} {s' = S3} {l' = L3} (c .before .before .before .before .before .before .before .before .before .before .before .before .before .bump .ensures) (s-by {a = (mem X0 T0 N0 J0 L3 H0 S3)} {c = (mem X0 T0 N0 J0 L4 H4 S4)} {e = (mem X0 T0 N0 J0 L5 H4 S5)} _ (runs-in {a = (mem X0 T0 N0 J0 L3 H0 S3)} {c = (mem X0 T0 N0 J0 L4 H4 S4)} (c .before .before .before .before .before .before .before .before .ty-must .ensures)) (s-close {e = (mem X0 T0 N0 J0 L5 H4 S5)} {x = X0} {t = T0} {n = N0} {j = J0} {l = L4} {h = H4} {s = S4} {s' = S5} {l' = L5} (c .before .before .close .ensures) s-end))))
 
 abbrev star-tail-Inv-loop : star-tail-lts.InvT-loop
 star-tail-Inv-loop text toks env table scratch₀ finds₀ left b s1₀ scratch finds s1 =
@@ -925,19 +1011,29 @@ star-turn-same-length-2 t c =
 star-turn-returns : (t : ℕ) → star-turn-lts.Need-returns (star-turn-told t) (star-turn-at t) star-turn.Post
 unfolding types.starTurn plan choose chosen
 star-turn-returns t c =
-    let pre0 = c .before .before .before .before .before .before .before .before .before .before .before .before .before .before .before .pre .1 in
-    let at = c .before .before .before .before .before .before .before .before .at .ensures in
-    let if1 = c .before .before .before .before .before .before .before .if1 .taken in
-    let star-factor = c .before .before .before .before .star-factor .ensures in
-    by-steps pre0 (λ b. s-kind (s-true _ _ (kind-at _ _ _ _ at if1) (s-by _ (runs-in star-factor) s-end)))
+    let X0 = c .before .before .before .before .before .before .before .before .before .before .before .before .before .before .before .args .text .now in
+    let T0 = c .before .before .before .before .before .before .before .before .before .before .before .before .before .before .before .args .toks .now in
+    let N0 = c .before .before .before .before .before .before .before .before .before .before .before .before .before .before .before .args .env .now in
+    let J0 = c .before .before .before .before .before .before .before .before .before .before .before .before .before .before .before .args .table .now in
+    let L0 = c .before .before .before .before .before .before .before .before .before .before .before .before .before .before .before .args .scratch .now in
+    let H0 = c .before .before .before .before .before .before .before .before .before .before .before .before .before .before .before .args .finds .now in
+    let S0 = c .before .before .before .before .before .before .before .before .before .before .before .before .before .before .before .args .s in
+    let L3 = c .before .before .before .before .star-factor .last .1 .1 .1 .1 .0 in
+    let H3 = c .before .before .before .before .star-factor .last .1 .1 .1 .1 .1 .0 in
+    let S3 = c .before .before .before .before .star-factor .result in
+    by-steps {m = (mem X0 T0 N0 J0 L0 H0 S0)} {m' = (mem X0 T0 N0 J0 L3 H3 S3)} (c .before .before .before .before .before .before .before .before .before .before .before .before .before .before .before .pre .1) (λ b. s-kind {a = (mem X0 T0 N0 J0 L0 H0 S0)} {e = (mem X0 T0 N0 J0 L3 H3 S3)} (s-true {a = (mem X0 T0 N0 J0 L0 H0 S0)} {e = (mem X0 T0 N0 J0 L3 H3 S3)} _ _ (kind-at _ _ (mem X0 T0 N0 J0 L0 H0 S0) _ (c .before .before .before .before .before .before .before .before .at .ensures) (c .before .before .before .before .before .before .before .if1 .taken)) (s-by {a = (mem X0 T0 N0 J0 L0 H0 S0)} {c = (mem X0 T0 N0 J0 L3 H3 S3)} {e = (mem X0 T0 N0 J0 L3 H3 S3)} _ (runs-in {a = (mem X0 T0 N0 J0 L0 H0 S0)} {c = (mem X0 T0 N0 J0 L3 H3 S3)} (c .before .before .before .before .star-factor .ensures)) s-end)))
 
 star-turn-returns-2 : (t : ℕ) → star-turn-lts.Need-returns-2 (star-turn-told t) (star-turn-at t) star-turn.Post
 unfolding types.starTurn plan choose chosen
 star-turn-returns-2 t c =
-    let pre0 = c .before .before .before .before .before .before .before .before .pre .1 in
-    let at = c .before .at .ensures in
-    let if1 = c .if1 .left in
-    by-steps pre0 (λ b. s-kind (s-false _ _ (kind-off _ _ _ _ at if1) s-end))
+    let X0 = c .before .before .before .before .before .before .before .before .args .text .now in
+    let T0 = c .before .before .before .before .before .before .before .before .args .toks .now in
+    let N0 = c .before .before .before .before .before .before .before .before .args .env .now in
+    let J0 = c .before .before .before .before .before .before .before .before .args .table .now in
+    let L0 = c .before .before .before .before .before .before .before .before .args .scratch .now in
+    let H0 = c .before .before .before .before .before .before .before .before .args .finds .now in
+    let S0 = c .before .before .before .before .before .before .before .before .args .s in
+    by-steps {m = (mem X0 T0 N0 J0 L0 H0 S0)} {m' = (mem X0 T0 N0 J0 L0 H0 S0)} (c .before .before .before .before .before .before .before .before .pre .1) (λ b. s-kind {a = (mem X0 T0 N0 J0 L0 H0 S0)} {e = (mem X0 T0 N0 J0 L0 H0 S0)} (s-false {a = (mem X0 T0 N0 J0 L0 H0 S0)} {e = (mem X0 T0 N0 J0 L0 H0 S0)} _ _ (kind-off _ _ (mem X0 T0 N0 J0 L0 H0 S0) _ (c .before .at .ensures) (c .if1 .left)) s-end))
 
 ty-arg-refuse-requires : (t : ℕ) → ty-arg-lts.Need-refuse-requires (ty-arg-told t) (ty-arg-at t) ty-arg.Post
 ty-arg-refuse-requires t c κs =
@@ -946,10 +1042,15 @@ ty-arg-refuse-requires t c κs =
 ty-arg-returns : (t : ℕ) → ty-arg-lts.Need-returns (ty-arg-told t) (ty-arg-at t) ty-arg.Post
 unfolding types.tyArg plan choose chosen hushed
 ty-arg-returns t c =
-    let pre0 = c .before .before .before .before .before .before .before .before .pre .1 in
-    let if1 = c .before .if1 .taken in
-    let refuse = c .refuse .ensures in
-    by-steps pre0 (λ b. s-shut if1 refuse (λ k l. refl))
+    let X0 = c .before .before .before .before .before .before .before .before .args .text .now in
+    let T0 = c .before .before .before .before .before .before .before .before .args .toks .now in
+    let N0 = c .before .before .before .before .before .before .before .before .args .env .now in
+    let J0 = c .before .before .before .before .before .before .before .before .args .table .now in
+    let L0 = c .before .before .before .before .before .before .before .before .args .scratch .now in
+    let H0 = c .before .before .before .before .before .before .before .before .args .finds .now in
+    let S0 = c .before .before .before .before .before .before .before .before .args .s in
+    let S2 = c .refuse .result in
+    by-steps {m = (mem X0 T0 N0 J0 L0 H0 S0)} {m' = (mem X0 T0 N0 J0 L0 H0 S2)} (c .before .before .before .before .before .before .before .before .pre .1) (λ b. s-shut (c .before .if1 .taken) (c .refuse .ensures) (λ k l. refl))
 
 ty-arg-mark-requires : (t : ℕ) → ty-arg-lts.Need-mark-requires (ty-arg-told t) (ty-arg-at t) ty-arg.Post
 ty-arg-mark-requires t c κs =
@@ -988,13 +1089,18 @@ ty-arg-same-length-2 t c =
 ty-arg-returns-2 : (t : ℕ) → ty-arg-lts.Need-returns-2 (ty-arg-told t) (ty-arg-at t) ty-arg.Post
 unfolding types.tyArg plan choose chosen
 ty-arg-returns-2 t c =
-    let pre0 = c .before .before .before .before .before .before .before .before .before .before .before .before .before .before .before .before .before .pre .1 in
-    let if1 = c .before .before .before .before .before .before .before .before .before .before .if1 .left in
-    let mark = c .before .before .before .before .before .before .before .before .before .mark .ensures in
-    let ty-must = c .before .before .before .before .before .before .ty-must .ensures in
-    let at = c .before .at .ensures in
-    let if2 = c .if2 .taken in
-    by-steps pre0 (λ b. s-mark if1 mark (s-by _ (runs-in ty-must) (s-kind (s-true _ _ (kind-at _ _ _ _ at if2) s-end))))
+    let X0 = c .before .before .before .before .before .before .before .before .before .before .before .before .before .before .before .before .before .args .text .now in
+    let T0 = c .before .before .before .before .before .before .before .before .before .before .before .before .before .before .before .before .before .args .toks .now in
+    let N0 = c .before .before .before .before .before .before .before .before .before .before .before .before .before .before .before .before .before .args .env .now in
+    let J0 = c .before .before .before .before .before .before .before .before .before .before .before .before .before .before .before .before .before .args .table .now in
+    let L0 = c .before .before .before .before .before .before .before .before .before .before .before .before .before .before .before .before .before .args .scratch .now in
+    let H0 = c .before .before .before .before .before .before .before .before .before .before .before .before .before .before .before .before .before .args .finds .now in
+    let S0 = c .before .before .before .before .before .before .before .before .before .before .before .before .before .before .before .before .before .args .s in
+    let S2 = c .before .before .before .before .before .before .before .before .before .mark .result in
+    let L3 = c .before .before .before .before .before .before .ty-must .last .1 .1 .1 .1 .0 in
+    let H3 = c .before .before .before .before .before .before .ty-must .last .1 .1 .1 .1 .1 .0 in
+    let S3 = c .before .before .before .before .before .before .ty-must .result in
+    by-steps {m = (mem X0 T0 N0 J0 L0 H0 S0)} {m' = (mem X0 T0 N0 J0 L3 H3 S3)} (c .before .before .before .before .before .before .before .before .before .before .before .before .before .before .before .before .before .pre .1) (λ b. s-mark {e = (mem X0 T0 N0 J0 L3 H3 S3)} {x = X0} {t = T0} {n = N0} {j = J0} {l = L0} {h = H0} {s = S0} {s' = S2} (c .before .before .before .before .before .before .before .before .before .before .if1 .left) (c .before .before .before .before .before .before .before .before .before .mark .ensures) (s-by {a = (mem X0 T0 N0 J0 L0 H0 S2)} {c = (mem X0 T0 N0 J0 L3 H3 S3)} {e = (mem X0 T0 N0 J0 L3 H3 S3)} _ (runs-in {a = (mem X0 T0 N0 J0 L0 H0 S2)} {c = (mem X0 T0 N0 J0 L3 H3 S3)} (c .before .before .before .before .before .before .ty-must .ensures)) (s-kind {a = (mem X0 T0 N0 J0 L3 H3 S3)} {e = (mem X0 T0 N0 J0 L3 H3 S3)} (s-true {a = (mem X0 T0 N0 J0 L3 H3 S3)} {e = (mem X0 T0 N0 J0 L3 H3 S3)} _ _ (kind-at _ _ (mem X0 T0 N0 J0 L3 H3 S3) _ (c .before .at .ensures) (c .if2 .taken)) s-end))))
 
 ty-arg-eat-requires : (t : ℕ) → ty-arg-lts.Need-eat-requires (ty-arg-told t) (ty-arg-at t) ty-arg.Post
 ty-arg-eat-requires t c κs =
@@ -1033,16 +1139,23 @@ ty-arg-same-length-4 t c =
 ty-arg-returns-3 : (t : ℕ) → ty-arg-lts.Need-returns-3 (ty-arg-told t) (ty-arg-at t) ty-arg.Post
 unfolding types.tyArg plan choose chosen
 ty-arg-returns-3 t c =
-    let pre0 = c .before .before .before .before .before .before .before .before .before .before .before .before .before .before .before .before .before .before .before .before .before .before .before .before .before .before .before .before .before .pre .1 in
-    let if1 = c .before .before .before .before .before .before .before .before .before .before .before .before .before .before .before .before .before .before .before .before .before .before .if1 .left in
-    let mark = c .before .before .before .before .before .before .before .before .before .before .before .before .before .before .before .before .before .before .before .before .before .mark .ensures in
-    let ty-must = c .before .before .before .before .before .before .before .before .before .before .before .before .before .before .before .before .before .before .ty-must .ensures in
-    let at = c .before .before .before .before .before .before .before .before .before .before .before .before .before .at .ensures in
-    let if2 = c .before .before .before .before .before .before .before .before .before .before .before .before .if2 .left in
-    let eat = c .before .before .before .before .before .before .before .before .before .eat .ensures in
-    let state = c .before .before .before .before .state .ensures in
-    let close = c .before .before .close .ensures in
-    by-steps pre0 (λ b. s-mark if1 mark (s-by _ (runs-in ty-must) (s-kind (s-false _ _ (kind-off _ _ _ _ at if2) (s-eats _ _ _ (eats-settled state eat) (s-close close s-end))))))
+    let X0 = c .before .before .before .before .before .before .before .before .before .before .before .before .before .before .before .before .before .before .before .before .before .before .before .before .before .before .before .before .before .args .text .now in
+    let T0 = c .before .before .before .before .before .before .before .before .before .before .before .before .before .before .before .before .before .before .before .before .before .before .before .before .before .before .before .before .before .args .toks .now in
+    let N0 = c .before .before .before .before .before .before .before .before .before .before .before .before .before .before .before .before .before .before .before .before .before .before .before .before .before .before .before .before .before .args .env .now in
+    let J0 = c .before .before .before .before .before .before .before .before .before .before .before .before .before .before .before .before .before .before .before .before .before .before .before .before .before .before .before .before .before .args .table .now in
+    let L0 = c .before .before .before .before .before .before .before .before .before .before .before .before .before .before .before .before .before .before .before .before .before .before .before .before .before .before .before .before .before .args .scratch .now in
+    let H0 = c .before .before .before .before .before .before .before .before .before .before .before .before .before .before .before .before .before .before .before .before .before .before .before .before .before .before .before .before .before .args .finds .now in
+    let S0 = c .before .before .before .before .before .before .before .before .before .before .before .before .before .before .before .before .before .before .before .before .before .before .before .before .before .before .before .before .before .args .s in
+    let S2 = c .before .before .before .before .before .before .before .before .before .before .before .before .before .before .before .before .before .before .before .before .before .mark .result in
+    let L3 = c .before .before .before .before .before .before .before .before .before .before .before .before .before .before .before .before .before .before .ty-must .last .1 .1 .1 .1 .0 in
+    let H3 = c .before .before .before .before .before .before .before .before .before .before .before .before .before .before .before .before .before .before .ty-must .last .1 .1 .1 .1 .1 .0 in
+    let S3 = c .before .before .before .before .before .before .before .before .before .before .before .before .before .before .before .before .before .before .ty-must .result in
+    let L6 = c .before .before .before .before .before .before .before .before .before .eat .last .1 .0 in
+    let H6 = c .before .before .before .before .before .before .before .before .before .eat .last .1 .1 .0 in
+    let S7 = c .before .before .before .before .state .result in
+    let L8 = c .before .before .close .last .0 in
+    let S8 = c .before .before .close .result in
+    by-steps {m = (mem X0 T0 N0 J0 L0 H0 S0)} {m' = (mem X0 T0 N0 J0 L8 H6 S8)} (c .before .before .before .before .before .before .before .before .before .before .before .before .before .before .before .before .before .before .before .before .before .before .before .before .before .before .before .before .before .pre .1) (λ b. s-mark {e = (mem X0 T0 N0 J0 L8 H6 S8)} {x = X0} {t = T0} {n = N0} {j = J0} {l = L0} {h = H0} {s = S0} {s' = S2} (c .before .before .before .before .before .before .before .before .before .before .before .before .before .before .before .before .before .before .before .before .before .before .if1 .left) (c .before .before .before .before .before .before .before .before .before .before .before .before .before .before .before .before .before .before .before .before .before .mark .ensures) (s-by {a = (mem X0 T0 N0 J0 L0 H0 S2)} {c = (mem X0 T0 N0 J0 L3 H3 S3)} {e = (mem X0 T0 N0 J0 L8 H6 S8)} _ (runs-in {a = (mem X0 T0 N0 J0 L0 H0 S2)} {c = (mem X0 T0 N0 J0 L3 H3 S3)} (c .before .before .before .before .before .before .before .before .before .before .before .before .before .before .before .before .before .before .ty-must .ensures)) (s-kind {a = (mem X0 T0 N0 J0 L3 H3 S3)} {e = (mem X0 T0 N0 J0 L8 H6 S8)} (s-false {a = (mem X0 T0 N0 J0 L3 H3 S3)} {e = (mem X0 T0 N0 J0 L8 H6 S8)} _ _ (kind-off _ _ (mem X0 T0 N0 J0 L3 H3 S3) _ (c .before .before .before .before .before .before .before .before .before .before .before .before .before .at .ensures) (c .before .before .before .before .before .before .before .before .before .before .before .before .if2 .left)) (s-eats _ _ {x = X0} {t = T0} {n = N0} {j = J0} {l = L3} {h = H3} {l' = L6} {s = S3} {s' = S7} {e = (mem X0 T0 N0 J0 L8 H6 S8)} _ {h' = H6} (eats-settled (c .before .before .before .before .state .ensures) (c .before .before .before .before .before .before .before .before .before .eat .ensures)) (s-close {e = (mem X0 T0 N0 J0 L8 H6 S8)} {x = X0} {t = T0} {n = N0} {j = J0} {l = L6} {h = H6} {s = S7} {s' = S8} {l' = L8} (c .before .before .close .ensures) s-end))))))
 
 abbrev ty-args-Inv-loop : ty-args-lts.InvT-loop
 ty-args-Inv-loop text toks env table scratch₀ finds₀ left b s1₀ scratch finds s1 =
@@ -1131,10 +1244,15 @@ ty-arrow-refuse-requires t c κs =
 ty-arrow-returns : (t : ℕ) → ty-arrow-lts.Need-returns (ty-arrow-told t) (ty-arrow-at t) ty-arrow.Post
 unfolding types.tyArrow plan choose chosen hushed
 ty-arrow-returns t c =
-    let pre0 = c .before .before .before .before .before .before .before .before .pre .1 .0 in
-    let if1 = c .before .if1 .taken in
-    let refuse = c .refuse .ensures in
-    in-steps pre0 (s-shut if1 refuse (λ k l. refl))
+    let X0 = c .before .before .before .before .before .before .before .before .args .text .now in
+    let T0 = c .before .before .before .before .before .before .before .before .args .toks .now in
+    let N0 = c .before .before .before .before .before .before .before .before .args .env .now in
+    let J0 = c .before .before .before .before .before .before .before .before .args .table .now in
+    let L0 = c .before .before .before .before .before .before .before .before .args .scratch .now in
+    let H0 = c .before .before .before .before .before .before .before .before .args .finds .now in
+    let S0 = c .before .before .before .before .before .before .before .before .args .s in
+    let S2 = c .refuse .result in
+    in-steps {m = (mem X0 T0 N0 J0 L0 H0 S0)} {m' = (mem X0 T0 N0 J0 L0 H0 S2)} (c .before .before .before .before .before .before .before .before .pre .1 .0) (s-shut (c .before .if1 .taken) (c .refuse .ensures) (λ k l. refl))
 
 ty-arrow-mark-requires : (t : ℕ) → ty-arrow-lts.Need-mark-requires (ty-arrow-told t) (ty-arrow-at t) ty-arrow.Post
 ty-arrow-mark-requires t c κs =
@@ -1185,13 +1303,22 @@ ty-arrow-same-length-2 t c =
 ty-arrow-returns-2 : (t : ℕ) → ty-arrow-lts.Need-returns-2 (ty-arrow-told t) (ty-arrow-at t) ty-arrow.Post
 unfolding types.tyArrow plan choose chosen
 ty-arrow-returns-2 t c =
-    let pre0 = c .before .before .before .before .before .before .before .before .before .before .before .before .before .before .before .before .before .before .before .before .before .before .before .pre .1 .0 in
-    let if1 = c .before .before .before .before .before .before .before .before .before .before .before .before .before .before .before .before .if1 .left in
-    let mark = c .before .before .before .before .before .before .before .before .before .before .before .before .before .before .mark .ensures in
-    let bump = c .before .before .before .before .before .before .before .before .before .before .before .before .before .bump .ensures in
-    let ty-must = c .before .before .before .before .before .before .before .before .ty-must .ensures in
-    let close = c .before .before .close .ensures in
-    in-steps pre0 (s-mark if1 mark (s-bump bump (s-by _ (runs-in ty-must) (s-close close s-end))))
+    let X0 = c .before .before .before .before .before .before .before .before .before .before .before .before .before .before .before .before .before .before .before .before .before .before .before .args .text .now in
+    let T0 = c .before .before .before .before .before .before .before .before .before .before .before .before .before .before .before .before .before .before .before .before .before .before .before .args .toks .now in
+    let N0 = c .before .before .before .before .before .before .before .before .before .before .before .before .before .before .before .before .before .before .before .before .before .before .before .args .env .now in
+    let J0 = c .before .before .before .before .before .before .before .before .before .before .before .before .before .before .before .before .before .before .before .before .before .before .before .args .table .now in
+    let L0 = c .before .before .before .before .before .before .before .before .before .before .before .before .before .before .before .before .before .before .before .before .before .before .before .args .scratch .now in
+    let H0 = c .before .before .before .before .before .before .before .before .before .before .before .before .before .before .before .before .before .before .before .before .before .before .before .args .finds .now in
+    let S0 = c .before .before .before .before .before .before .before .before .before .before .before .before .before .before .before .before .before .before .before .before .before .before .before .args .s in
+    let S2 = c .before .before .before .before .before .before .before .before .before .before .before .before .before .before .mark .result in
+    let L3 = c .before .before .before .before .before .before .before .before .before .before .before .before .before .bump .last .1 .0 in
+    let S3 = c .before .before .before .before .before .before .before .before .before .before .before .before .before .bump .result in
+    let L4 = c .before .before .before .before .before .before .before .before .ty-must .last .1 .1 .1 .1 .0 in
+    let H4 = c .before .before .before .before .before .before .before .before .ty-must .last .1 .1 .1 .1 .1 .0 in
+    let S4 = c .before .before .before .before .before .before .before .before .ty-must .result in
+    let L5 = c .before .before .close .last .0 in
+    let S5 = c .before .before .close .result in
+    in-steps {m = (mem X0 T0 N0 J0 L0 H0 S0)} {m' = (mem X0 T0 N0 J0 L5 H4 S5)} (c .before .before .before .before .before .before .before .before .before .before .before .before .before .before .before .before .before .before .before .before .before .before .before .pre .1 .0) (s-mark {e = (mem X0 T0 N0 J0 L5 H4 S5)} {x = X0} {t = T0} {n = N0} {j = J0} {l = L0} {h = H0} {s = S0} {s' = S2} (c .before .before .before .before .before .before .before .before .before .before .before .before .before .before .before .before .if1 .left) (c .before .before .before .before .before .before .before .before .before .before .before .before .before .before .mark .ensures) (s-bump {e = (mem X0 T0 N0 J0 L5 H4 S5)} {x = X0} {t = T0} {n = N0} {j = J0} {l = L0} {h = H0} {s = S2} {s' = S3} {l' = L3} (c .before .before .before .before .before .before .before .before .before .before .before .before .before .bump .ensures) (s-by {a = (mem X0 T0 N0 J0 L3 H0 S3)} {c = (mem X0 T0 N0 J0 L4 H4 S4)} {e = (mem X0 T0 N0 J0 L5 H4 S5)} _ (runs-in {a = (mem X0 T0 N0 J0 L3 H0 S3)} {c = (mem X0 T0 N0 J0 L4 H4 S4)} (c .before .before .before .before .before .before .before .before .ty-must .ensures)) (s-close {e = (mem X0 T0 N0 J0 L5 H4 S5)} {x = X0} {t = T0} {n = N0} {j = J0} {l = L4} {h = H4} {s = S4} {s' = S5} {l' = L5} (c .before .before .close .ensures) s-end))))
 
 ty-head-bump-requires : (t : ℕ) → ty-head-lts.Need-bump-requires (ty-head-told t) (ty-head-at t) ty-head.Post
 ty-head-bump-requires t c κs =
@@ -1213,11 +1340,18 @@ ty-head-same-length t c =
 ty-head-returns : (t : ℕ) → ty-head-lts.Need-returns (ty-head-told t) (ty-head-at t) ty-head.Post
 unfolding types.tyHead plan choose chosen
 ty-head-returns t c =
-    let pre0 = c .before .before .before .before .before .before .before .before .before .before .before .before .before .before .before .pre .1 .0 in
-    let if1 = c .before .before .before .before .before .before .before .before .if1 .taken in
-    let bump = c .before .before .before .before .before .before .bump .ensures in
-    let close = c .before .before .close .ensures in
-    in-steps pre0 (s-true _ _ (kind-is if1) (s-bump bump (s-close close s-end)))
+    let X0 = c .before .before .before .before .before .before .before .before .before .before .before .before .before .before .before .args .text .now in
+    let T0 = c .before .before .before .before .before .before .before .before .before .before .before .before .before .before .before .args .toks .now in
+    let N0 = c .before .before .before .before .before .before .before .before .before .before .before .before .before .before .before .args .env .now in
+    let J0 = c .before .before .before .before .before .before .before .before .before .before .before .before .before .before .before .args .table .now in
+    let L0 = c .before .before .before .before .before .before .before .before .before .before .before .before .before .before .before .args .scratch .now in
+    let H0 = c .before .before .before .before .before .before .before .before .before .before .before .before .before .before .before .args .finds .now in
+    let S0 = c .before .before .before .before .before .before .before .before .before .before .before .before .before .before .before .args .s in
+    let L2 = c .before .before .before .before .before .before .bump .last .1 .0 in
+    let S2 = c .before .before .before .before .before .before .bump .result in
+    let L3 = c .before .before .close .last .0 in
+    let S3 = c .before .before .close .result in
+    in-steps {m = (mem X0 T0 N0 J0 L0 H0 S0)} {m' = (mem X0 T0 N0 J0 L3 H0 S3)} (c .before .before .before .before .before .before .before .before .before .before .before .before .before .before .before .pre .1 .0) (s-true {a = (mem X0 T0 N0 J0 L0 H0 S0)} {e = (mem X0 T0 N0 J0 L3 H0 S3)} _ _ (kind-is (c .before .before .before .before .before .before .before .before .if1 .taken)) (s-bump {e = (mem X0 T0 N0 J0 L3 H0 S3)} {x = X0} {t = T0} {n = N0} {j = J0} {l = L0} {h = H0} {s = S0} {s' = S2} {l' = L2} (c .before .before .before .before .before .before .bump .ensures) (s-close {e = (mem X0 T0 N0 J0 L3 H0 S3)} {x = X0} {t = T0} {n = N0} {j = J0} {l = L2} {h = H0} {s = S2} {s' = S3} {l' = L3} (c .before .before .close .ensures) s-end)))
 
 ty-head-bump-requires-2 : (t : ℕ) → ty-head-lts.Need-bump-requires-2 (ty-head-told t) (ty-head-at t) ty-head.Post
 ty-head-bump-requires-2 t c κs =
@@ -1239,12 +1373,18 @@ ty-head-same-length-2 t c =
 ty-head-returns-2 : (t : ℕ) → ty-head-lts.Need-returns-2 (ty-head-told t) (ty-head-at t) ty-head.Post
 unfolding types.tyHead plan choose chosen
 ty-head-returns-2 t c =
-    let pre0 = c .before .before .before .before .before .before .before .before .before .before .before .before .before .before .before .before .pre .1 .0 in
-    let if1 = c .before .before .before .before .before .before .before .before .before .if1 .left in
-    let if2 = c .before .before .before .before .before .before .before .before .if2 .taken in
-    let bump2 = c .before .before .before .before .before .before .bump2 .ensures in
-    let close2 = c .before .before .close2 .ensures in
-    in-steps pre0 (s-false _ _ (kind-not if1) (s-true _ _ (kind-is if2) (s-bump bump2 (s-close close2 s-end))))
+    let X0 = c .before .before .before .before .before .before .before .before .before .before .before .before .before .before .before .before .args .text .now in
+    let T0 = c .before .before .before .before .before .before .before .before .before .before .before .before .before .before .before .before .args .toks .now in
+    let N0 = c .before .before .before .before .before .before .before .before .before .before .before .before .before .before .before .before .args .env .now in
+    let J0 = c .before .before .before .before .before .before .before .before .before .before .before .before .before .before .before .before .args .table .now in
+    let L0 = c .before .before .before .before .before .before .before .before .before .before .before .before .before .before .before .before .args .scratch .now in
+    let H0 = c .before .before .before .before .before .before .before .before .before .before .before .before .before .before .before .before .args .finds .now in
+    let S0 = c .before .before .before .before .before .before .before .before .before .before .before .before .before .before .before .before .args .s in
+    let L3 = c .before .before .before .before .before .before .bump2 .last .1 .0 in
+    let S3 = c .before .before .before .before .before .before .bump2 .result in
+    let L4 = c .before .before .close2 .last .0 in
+    let S4 = c .before .before .close2 .result in
+    in-steps {m = (mem X0 T0 N0 J0 L0 H0 S0)} {m' = (mem X0 T0 N0 J0 L4 H0 S4)} (c .before .before .before .before .before .before .before .before .before .before .before .before .before .before .before .before .pre .1 .0) (s-false {a = (mem X0 T0 N0 J0 L0 H0 S0)} {e = (mem X0 T0 N0 J0 L4 H0 S4)} _ _ (kind-not (c .before .before .before .before .before .before .before .before .before .if1 .left)) (s-true {a = (mem X0 T0 N0 J0 L0 H0 S0)} {e = (mem X0 T0 N0 J0 L4 H0 S4)} _ _ (kind-is (c .before .before .before .before .before .before .before .before .if2 .taken)) (s-bump {e = (mem X0 T0 N0 J0 L4 H0 S4)} {x = X0} {t = T0} {n = N0} {j = J0} {l = L0} {h = H0} {s = S0} {s' = S3} {l' = L3} (c .before .before .before .before .before .before .bump2 .ensures) (s-close {e = (mem X0 T0 N0 J0 L4 H0 S4)} {x = X0} {t = T0} {n = N0} {j = J0} {l = L3} {h = H0} {s = S3} {s' = S4} {l' = L4} (c .before .before .close2 .ensures) s-end))))
 
 ty-head-bump-requires-3 : (t : ℕ) → ty-head-lts.Need-bump-requires-3 (ty-head-told t) (ty-head-at t) ty-head.Post
 ty-head-bump-requires-3 t c κs =
@@ -1266,13 +1406,18 @@ ty-head-same-length-3 t c =
 ty-head-returns-3 : (t : ℕ) → ty-head-lts.Need-returns-3 (ty-head-told t) (ty-head-at t) ty-head.Post
 unfolding types.tyHead plan choose chosen
 ty-head-returns-3 t c =
-    let pre0 = c .before .before .before .before .before .before .before .before .before .before .before .before .before .before .before .before .before .pre .1 .0 in
-    let if1 = c .before .before .before .before .before .before .before .before .before .before .if1 .left in
-    let if2 = c .before .before .before .before .before .before .before .before .before .if2 .left in
-    let if3 = c .before .before .before .before .before .before .before .before .if3 .taken in
-    let bump3 = c .before .before .before .before .before .before .bump3 .ensures in
-    let close3 = c .before .before .close3 .ensures in
-    in-steps pre0 (s-false _ _ (kind-not if1) (s-false _ _ (kind-not if2) (s-true _ _ (kind-is if3) (s-bump bump3 (s-close close3 s-end)))))
+    let X0 = c .before .before .before .before .before .before .before .before .before .before .before .before .before .before .before .before .before .args .text .now in
+    let T0 = c .before .before .before .before .before .before .before .before .before .before .before .before .before .before .before .before .before .args .toks .now in
+    let N0 = c .before .before .before .before .before .before .before .before .before .before .before .before .before .before .before .before .before .args .env .now in
+    let J0 = c .before .before .before .before .before .before .before .before .before .before .before .before .before .before .before .before .before .args .table .now in
+    let L0 = c .before .before .before .before .before .before .before .before .before .before .before .before .before .before .before .before .before .args .scratch .now in
+    let H0 = c .before .before .before .before .before .before .before .before .before .before .before .before .before .before .before .before .before .args .finds .now in
+    let S0 = c .before .before .before .before .before .before .before .before .before .before .before .before .before .before .before .before .before .args .s in
+    let L4 = c .before .before .before .before .before .before .bump3 .last .1 .0 in
+    let S4 = c .before .before .before .before .before .before .bump3 .result in
+    let L5 = c .before .before .close3 .last .0 in
+    let S5 = c .before .before .close3 .result in
+    in-steps {m = (mem X0 T0 N0 J0 L0 H0 S0)} {m' = (mem X0 T0 N0 J0 L5 H0 S5)} (c .before .before .before .before .before .before .before .before .before .before .before .before .before .before .before .before .before .pre .1 .0) (s-false {a = (mem X0 T0 N0 J0 L0 H0 S0)} {e = (mem X0 T0 N0 J0 L5 H0 S5)} _ _ (kind-not (c .before .before .before .before .before .before .before .before .before .before .if1 .left)) (s-false {a = (mem X0 T0 N0 J0 L0 H0 S0)} {e = (mem X0 T0 N0 J0 L5 H0 S5)} _ _ (kind-not (c .before .before .before .before .before .before .before .before .before .if2 .left)) (s-true {a = (mem X0 T0 N0 J0 L0 H0 S0)} {e = (mem X0 T0 N0 J0 L5 H0 S5)} _ _ (kind-is (c .before .before .before .before .before .before .before .before .if3 .taken)) (s-bump {e = (mem X0 T0 N0 J0 L5 H0 S5)} {x = X0} {t = T0} {n = N0} {j = J0} {l = L0} {h = H0} {s = S0} {s' = S4} {l' = L4} (c .before .before .before .before .before .before .bump3 .ensures) (s-close {e = (mem X0 T0 N0 J0 L5 H0 S5)} {x = X0} {t = T0} {n = N0} {j = J0} {l = L4} {h = H0} {s = S4} {s' = S5} {l' = L5} (c .before .before .close3 .ensures) s-end)))))
 
 ty-head-ty-inner-requires : (t : ℕ) → ty-head-lts.Need-ty-inner-requires (ty-head-told t) (ty-head-at t) ty-head.Post
 ty-head-ty-inner-requires t c κs =
@@ -1295,12 +1440,17 @@ ty-head-same-length-5 t c =
 ty-head-returns-4 : (t : ℕ) → ty-head-lts.Need-returns-4 (ty-head-told t) (ty-head-at t) ty-head.Post
 unfolding types.tyHead plan choose chosen
 ty-head-returns-4 t c =
-    let pre0 = c .before .before .before .before .before .before .before .before .before .before .before .before .before .before .before .before .pre .1 .0 in
-    let if1 = c .before .before .before .before .before .before .before .before .before .if1 .left in
-    let if2 = c .before .before .before .before .before .before .before .before .if2 .left in
-    let if3 = c .before .before .before .before .before .before .before .if3 .left in
-    let ty-inner = c .before .before .before .before .ty-inner .ensures in
-    in-steps pre0 (s-false _ _ (kind-not if1) (s-false _ _ (kind-not if2) (s-false _ _ (kind-not if3) (s-by _ ty-inner s-end))))
+    let X0 = c .before .before .before .before .before .before .before .before .before .before .before .before .before .before .before .before .args .text .now in
+    let T0 = c .before .before .before .before .before .before .before .before .before .before .before .before .before .before .before .before .args .toks .now in
+    let N0 = c .before .before .before .before .before .before .before .before .before .before .before .before .before .before .before .before .args .env .now in
+    let J0 = c .before .before .before .before .before .before .before .before .before .before .before .before .before .before .before .before .args .table .now in
+    let L0 = c .before .before .before .before .before .before .before .before .before .before .before .before .before .before .before .before .args .scratch .now in
+    let H0 = c .before .before .before .before .before .before .before .before .before .before .before .before .before .before .before .before .args .finds .now in
+    let S0 = c .before .before .before .before .before .before .before .before .before .before .before .before .before .before .before .before .args .s in
+    let L4 = c .before .before .before .before .ty-inner .last .1 .1 .1 .1 .0 in
+    let H4 = c .before .before .before .before .ty-inner .last .1 .1 .1 .1 .1 .0 in
+    let S4 = outState (c .before .before .before .before .ty-inner .result) in
+    in-steps {m = (mem X0 T0 N0 J0 L0 H0 S0)} {m' = (mem X0 T0 N0 J0 L4 H4 S4)} (c .before .before .before .before .before .before .before .before .before .before .before .before .before .before .before .before .pre .1 .0) (s-false {a = (mem X0 T0 N0 J0 L0 H0 S0)} {e = (mem X0 T0 N0 J0 L4 H4 S4)} _ _ (kind-not (c .before .before .before .before .before .before .before .before .before .if1 .left)) (s-false {a = (mem X0 T0 N0 J0 L0 H0 S0)} {e = (mem X0 T0 N0 J0 L4 H4 S4)} _ _ (kind-not (c .before .before .before .before .before .before .before .before .if2 .left)) (s-false {a = (mem X0 T0 N0 J0 L0 H0 S0)} {e = (mem X0 T0 N0 J0 L4 H4 S4)} _ _ (kind-not (c .before .before .before .before .before .before .before .if3 .left)) (s-by {a = (mem X0 T0 N0 J0 L0 H0 S0)} {c = (mem X0 T0 N0 J0 L4 H4 S4)} {e = (mem X0 T0 N0 J0 L4 H4 S4)} _ (c .before .before .before .before .ty-inner .ensures) s-end))))
 
 ty-inner-bump-requires : (t : ℕ) → ty-inner-lts.Need-bump-requires (ty-inner-told t) (ty-inner-at t) ty-inner.Post
 ty-inner-bump-requires t c κs =
@@ -1335,12 +1485,21 @@ ty-inner-same-length-2 t c =
 ty-inner-returns : (t : ℕ) → ty-inner-lts.Need-returns (ty-inner-told t) (ty-inner-at t) ty-inner.Post
 unfolding types.tyInner util.endSep plan choose chosen
 ty-inner-returns t c =
-    let pre0 = c .before .before .before .before .before .before .before .before .before .before .before .before .before .before .before .before .before .before .before .before .before .before .pre .1 .0 in
-    let if1 = c .before .before .before .before .before .before .before .before .before .before .before .before .before .before .before .if1 .taken in
-    let bump = c .before .before .before .before .before .before .before .before .before .before .before .before .before .bump .ensures in
-    let ty-rows = c .before .before .before .before .before .before .before .before .ty-rows .ensures in
-    let close = c .before .before .close .ensures in
-    in-steps pre0 (s-true _ _ (kind-is if1) (s-bump bump (s-run ty-rows (s-close close s-end))))
+    let X0 = c .before .before .before .before .before .before .before .before .before .before .before .before .before .before .before .before .before .before .before .before .before .before .args .text .now in
+    let T0 = c .before .before .before .before .before .before .before .before .before .before .before .before .before .before .before .before .before .before .before .before .before .before .args .toks .now in
+    let N0 = c .before .before .before .before .before .before .before .before .before .before .before .before .before .before .before .before .before .before .before .before .before .before .args .env .now in
+    let J0 = c .before .before .before .before .before .before .before .before .before .before .before .before .before .before .before .before .before .before .before .before .before .before .args .table .now in
+    let L0 = c .before .before .before .before .before .before .before .before .before .before .before .before .before .before .before .before .before .before .before .before .before .before .args .scratch .now in
+    let H0 = c .before .before .before .before .before .before .before .before .before .before .before .before .before .before .before .before .before .before .before .before .before .before .args .finds .now in
+    let S0 = c .before .before .before .before .before .before .before .before .before .before .before .before .before .before .before .before .before .before .before .before .before .before .args .s in
+    let L2 = c .before .before .before .before .before .before .before .before .before .before .before .before .before .bump .last .1 .0 in
+    let S2 = c .before .before .before .before .before .before .before .before .before .before .before .before .before .bump .result in
+    let L3 = c .before .before .before .before .before .before .before .before .ty-rows .last .1 .1 .1 .1 .0 in
+    let H3 = c .before .before .before .before .before .before .before .before .ty-rows .last .1 .1 .1 .1 .1 .0 in
+    let S3 = c .before .before .before .before .before .before .before .before .ty-rows .result in
+    let L4 = c .before .before .close .last .0 in
+    let S4 = c .before .before .close .result in
+    in-steps {m = (mem X0 T0 N0 J0 L0 H0 S0)} {m' = (mem X0 T0 N0 J0 L4 H3 S4)} (c .before .before .before .before .before .before .before .before .before .before .before .before .before .before .before .before .before .before .before .before .before .before .pre .1 .0) (s-true {a = (mem X0 T0 N0 J0 L0 H0 S0)} {e = (mem X0 T0 N0 J0 L4 H3 S4)} _ _ (kind-is (c .before .before .before .before .before .before .before .before .before .before .before .before .before .before .before .if1 .taken)) (s-bump {e = (mem X0 T0 N0 J0 L4 H3 S4)} {x = X0} {t = T0} {n = N0} {j = J0} {l = L0} {h = H0} {s = S0} {s' = S2} {l' = L2} (c .before .before .before .before .before .before .before .before .before .before .before .before .before .bump .ensures) (s-run {a = (mem X0 T0 N0 J0 L2 H0 S2)} {c = (mem X0 T0 N0 J0 L3 H3 S3)} {e = (mem X0 T0 N0 J0 L4 H3 S4)} (c .before .before .before .before .before .before .before .before .ty-rows .ensures) (s-close {e = (mem X0 T0 N0 J0 L4 H3 S4)} {x = X0} {t = T0} {n = N0} {j = J0} {l = L3} {h = H3} {s = S3} {s' = S4} {l' = L4} (c .before .before .close .ensures) s-end))))
 
 ty-inner-ty-round-requires : (t : ℕ) → ty-inner-lts.Need-ty-round-requires (ty-inner-told t) (ty-inner-at t) ty-inner.Post
 ty-inner-ty-round-requires t c κs =
@@ -1362,11 +1521,17 @@ ty-inner-same-length-4 t c =
 ty-inner-returns-2 : (t : ℕ) → ty-inner-lts.Need-returns-2 (ty-inner-told t) (ty-inner-at t) ty-inner.Post
 unfolding types.tyInner util.endSep plan choose chosen
 ty-inner-returns-2 t c =
-    let pre0 = c .before .before .before .before .before .before .before .before .before .before .before .before .before .before .before .pre .1 .0 in
-    let if1 = c .before .before .before .before .before .before .before .before .if1 .left in
-    let if2 = c .before .before .before .before .before .before .before .if2 .taken in
-    let ty-round = c .before .before .before .before .ty-round .ensures in
-    in-steps pre0 (s-false _ _ (kind-not if1) (s-true _ _ (kind-is if2) (s-by _ ty-round s-end)))
+    let X0 = c .before .before .before .before .before .before .before .before .before .before .before .before .before .before .before .args .text .now in
+    let T0 = c .before .before .before .before .before .before .before .before .before .before .before .before .before .before .before .args .toks .now in
+    let N0 = c .before .before .before .before .before .before .before .before .before .before .before .before .before .before .before .args .env .now in
+    let J0 = c .before .before .before .before .before .before .before .before .before .before .before .before .before .before .before .args .table .now in
+    let L0 = c .before .before .before .before .before .before .before .before .before .before .before .before .before .before .before .args .scratch .now in
+    let H0 = c .before .before .before .before .before .before .before .before .before .before .before .before .before .before .before .args .finds .now in
+    let S0 = c .before .before .before .before .before .before .before .before .before .before .before .before .before .before .before .args .s in
+    let L3 = c .before .before .before .before .ty-round .last .1 .1 .1 .1 .0 in
+    let H3 = c .before .before .before .before .ty-round .last .1 .1 .1 .1 .1 .0 in
+    let S3 = outState (c .before .before .before .before .ty-round .result) in
+    in-steps {m = (mem X0 T0 N0 J0 L0 H0 S0)} {m' = (mem X0 T0 N0 J0 L3 H3 S3)} (c .before .before .before .before .before .before .before .before .before .before .before .before .before .before .before .pre .1 .0) (s-false {a = (mem X0 T0 N0 J0 L0 H0 S0)} {e = (mem X0 T0 N0 J0 L3 H3 S3)} _ _ (kind-not (c .before .before .before .before .before .before .before .before .if1 .left)) (s-true {a = (mem X0 T0 N0 J0 L0 H0 S0)} {e = (mem X0 T0 N0 J0 L3 H3 S3)} _ _ (kind-is (c .before .before .before .before .before .before .before .if2 .taken)) (s-by {a = (mem X0 T0 N0 J0 L0 H0 S0)} {c = (mem X0 T0 N0 J0 L3 H3 S3)} {e = (mem X0 T0 N0 J0 L3 H3 S3)} _ (c .before .before .before .before .ty-round .ensures) s-end)))
 
 ty-inner-path-must-requires : (t : ℕ) → ty-inner-lts.Need-path-must-requires (ty-inner-told t) (ty-inner-at t) ty-inner.Post
 ty-inner-path-must-requires t c κs =
@@ -1397,14 +1562,20 @@ ty-inner-same-length-6 t c =
 ty-inner-returns-3 : (t : ℕ) → ty-inner-lts.Need-returns-3 (ty-inner-told t) (ty-inner-at t) ty-inner.Post
 unfolding types.tyInner util.endSep plan choose chosen
 ty-inner-returns-3 t c =
-    let pre0 = c .before .before .before .before .before .before .before .before .before .before .before .before .before .before .before .before .before .before .before .before .before .pre .1 .0 in
-    let if1 = c .before .before .before .before .before .before .before .before .before .before .before .before .before .before .if1 .left in
-    let if2 = c .before .before .before .before .before .before .before .before .before .before .before .before .before .if2 .left in
-    let if3 = c .before .before .before .before .before .before .before .before .before .before .before .before .if3 .taken in
-    let path-must = c .before .before .before .before .before .before .before .before .before .path-must .ensures in
-    let state = c .before .before .before .before .state .ensures in
-    let close2 = c .before .before .close2 .ensures in
-    in-steps pre0 (s-false _ _ (kind-not if1) (s-false _ _ (kind-not if2) (s-true _ _ (kind-is if3) (s-by _ (settled state (runs-in path-must)) (s-close close2 s-end)))))
+    let X0 = c .before .before .before .before .before .before .before .before .before .before .before .before .before .before .before .before .before .before .before .before .before .args .text .now in
+    let T0 = c .before .before .before .before .before .before .before .before .before .before .before .before .before .before .before .before .before .before .before .before .before .args .toks .now in
+    let N0 = c .before .before .before .before .before .before .before .before .before .before .before .before .before .before .before .before .before .before .before .before .before .args .env .now in
+    let J0 = c .before .before .before .before .before .before .before .before .before .before .before .before .before .before .before .before .before .before .before .before .before .args .table .now in
+    let L0 = c .before .before .before .before .before .before .before .before .before .before .before .before .before .before .before .before .before .before .before .before .before .args .scratch .now in
+    let H0 = c .before .before .before .before .before .before .before .before .before .before .before .before .before .before .before .before .before .before .before .before .before .args .finds .now in
+    let S0 = c .before .before .before .before .before .before .before .before .before .before .before .before .before .before .before .before .before .before .before .before .before .args .s in
+    let L4 = c .before .before .before .before .before .before .before .before .before .path-must .last .1 .1 .1 .1 .0 in
+    let H4 = c .before .before .before .before .before .before .before .before .before .path-must .last .1 .1 .1 .1 .1 .0 in
+    let S4 = outState (c .before .before .before .before .before .before .before .before .before .path-must .result) in
+    let S5 = c .before .before .before .before .state .result in
+    let L6 = c .before .before .close2 .last .0 in
+    let S6 = c .before .before .close2 .result in
+    in-steps {m = (mem X0 T0 N0 J0 L0 H0 S0)} {m' = (mem X0 T0 N0 J0 L6 H4 S6)} (c .before .before .before .before .before .before .before .before .before .before .before .before .before .before .before .before .before .before .before .before .before .pre .1 .0) (s-false {a = (mem X0 T0 N0 J0 L0 H0 S0)} {e = (mem X0 T0 N0 J0 L6 H4 S6)} _ _ (kind-not (c .before .before .before .before .before .before .before .before .before .before .before .before .before .before .if1 .left)) (s-false {a = (mem X0 T0 N0 J0 L0 H0 S0)} {e = (mem X0 T0 N0 J0 L6 H4 S6)} _ _ (kind-not (c .before .before .before .before .before .before .before .before .before .before .before .before .before .if2 .left)) (s-true {a = (mem X0 T0 N0 J0 L0 H0 S0)} {e = (mem X0 T0 N0 J0 L6 H4 S6)} _ _ (kind-is (c .before .before .before .before .before .before .before .before .before .before .before .before .if3 .taken)) (s-by {a = (mem X0 T0 N0 J0 L0 H0 S0)} {c = (mem X0 T0 N0 J0 L4 H4 S5)} {e = (mem X0 T0 N0 J0 L6 H4 S6)} _ (settled (c .before .before .before .before .state .ensures) (runs-in {a = (mem X0 T0 N0 J0 L0 H0 S0)} {c = (mem X0 T0 N0 J0 L4 H4 S4)} (c .before .before .before .before .before .before .before .before .before .path-must .ensures))) (s-close {e = (mem X0 T0 N0 J0 L6 H4 S6)} {x = X0} {t = T0} {n = N0} {j = J0} {l = L4} {h = H4} {s = S5} {s' = S6} {l' = L6} (c .before .before .close2 .ensures) s-end)))))
 
 ty-inner-returns-4 : (t : ℕ) → ty-inner-lts.Need-returns-4 (ty-inner-told t) (ty-inner-at t) ty-inner.Post
 unfolding types.tyInner util.endSep plan choose chosen
@@ -1451,9 +1622,17 @@ ty-must-same-length-2 t c =
 ty-must-returns : (t : ℕ) → ty-must-lts.Need-returns (ty-must-told t) (ty-must-at t) ty-must.Post
 unfolding types.tyMust plan choose chosen
 ty-must-returns t c =
-    let pre0 = c .before .before .before .before .before .before .before .before .before .before .before .before .before .before .before .before .pre .1 in
-    let ty-prec = rw (c .before .got .given .1) at (c .before .before .before .before .before .before .before .ty-prec .ensures) in
-    by-steps pre0 (λ b. s-run (runs-in ty-prec) s-end)
+    let X0 = c .before .before .before .before .before .before .before .before .before .before .before .before .before .before .before .before .args .text .now in
+    let T0 = c .before .before .before .before .before .before .before .before .before .before .before .before .before .before .before .before .args .toks .now in
+    let N0 = c .before .before .before .before .before .before .before .before .before .before .before .before .before .before .before .before .args .env .now in
+    let J0 = c .before .before .before .before .before .before .before .before .before .before .before .before .before .before .before .before .args .table .now in
+    let L0 = c .before .before .before .before .before .before .before .before .before .before .before .before .before .before .before .before .args .scratch .now in
+    let H0 = c .before .before .before .before .before .before .before .before .before .before .before .before .before .before .before .before .args .finds .now in
+    let S0 = c .before .before .before .before .before .before .before .before .before .before .before .before .before .before .before .before .args .s in
+    let L1 = c .before .before .before .before .before .before .before .ty-prec .last .1 .1 .1 .1 .0 in
+    let H1 = c .before .before .before .before .before .before .before .ty-prec .last .1 .1 .1 .1 .1 .0 in
+    let S1 = c .before .got .given .0 .0 in
+    by-steps {m = (mem X0 T0 N0 J0 L0 H0 S0)} {m' = (mem X0 T0 N0 J0 L1 H1 S1)} (c .before .before .before .before .before .before .before .before .before .before .before .before .before .before .before .before .pre .1) (λ b. s-run {a = (mem X0 T0 N0 J0 L0 H0 S0)} {c = (mem X0 T0 N0 J0 L1 H1 S1)} {e = (mem X0 T0 N0 J0 L1 H1 S1)} (runs-in {a = (mem X0 T0 N0 J0 L0 H0 S0)} {c = (mem X0 T0 N0 J0 L1 H1 S1)} (rw (c .before .got .given .1) at (c .before .before .before .before .before .before .before .ty-prec .ensures))) s-end)
 
 ty-must-same-length-3 : (t : ℕ) → ty-must-lts.Need-same-length-3 (ty-must-told t) (ty-must-at t) ty-must.Post
 ty-must-same-length-3 t c =
@@ -1466,10 +1645,19 @@ ty-must-same-length-4 t c =
 ty-must-returns-2 : (t : ℕ) → ty-must-lts.Need-returns-2 (ty-must-told t) (ty-must-at t) ty-must.Post
 unfolding types.tyMust plan choose chosen
 ty-must-returns-2 t c =
-    let pre0 = c .before .before .before .before .before .before .before .before .before .before .before .before .before .before .before .before .before .before .before .before .pre .1 in
-    let ty-prec = rw (c .before .before .before .before .before .got2 .given .1) at (c .before .before .before .before .before .before .before .before .before .before .before .ty-prec .ensures) in
-    let report = c .before .before .report .ensures in
-    by-steps pre0 (λ b. s-run (runs-in ty-prec) (s-report report s-end))
+    let X0 = c .before .before .before .before .before .before .before .before .before .before .before .before .before .before .before .before .before .before .before .before .args .text .now in
+    let T0 = c .before .before .before .before .before .before .before .before .before .before .before .before .before .before .before .before .before .before .before .before .args .toks .now in
+    let N0 = c .before .before .before .before .before .before .before .before .before .before .before .before .before .before .before .before .before .before .before .before .args .env .now in
+    let J0 = c .before .before .before .before .before .before .before .before .before .before .before .before .before .before .before .before .before .before .before .before .args .table .now in
+    let L0 = c .before .before .before .before .before .before .before .before .before .before .before .before .before .before .before .before .before .before .before .before .args .scratch .now in
+    let H0 = c .before .before .before .before .before .before .before .before .before .before .before .before .before .before .before .before .before .before .before .before .args .finds .now in
+    let S0 = c .before .before .before .before .before .before .before .before .before .before .before .before .before .before .before .before .before .before .before .before .args .s in
+    let L1 = c .before .before .before .before .before .before .before .before .before .before .before .ty-prec .last .1 .1 .1 .1 .0 in
+    let H1 = c .before .before .before .before .before .before .before .before .before .before .before .ty-prec .last .1 .1 .1 .1 .1 .0 in
+    let S1 = c .before .before .before .before .before .got2 .given .0 .0 in
+    let H2 = c .before .before .report .last .0 in
+    let S2 = c .before .before .report .result in
+    by-steps {m = (mem X0 T0 N0 J0 L0 H0 S0)} {m' = (mem X0 T0 N0 J0 L1 H2 S2)} (c .before .before .before .before .before .before .before .before .before .before .before .before .before .before .before .before .before .before .before .before .pre .1) (λ b. s-run {a = (mem X0 T0 N0 J0 L0 H0 S0)} {c = (mem X0 T0 N0 J0 L1 H1 S1)} {e = (mem X0 T0 N0 J0 L1 H2 S2)} (runs-in {a = (mem X0 T0 N0 J0 L0 H0 S0)} {c = (mem X0 T0 N0 J0 L1 H1 S1)} (rw (c .before .before .before .before .before .got2 .given .1) at (c .before .before .before .before .before .before .before .before .before .before .before .ty-prec .ensures))) (s-report {e = (mem X0 T0 N0 J0 L1 H2 S2)} {x = X0} {t = T0} {n = N0} {j = J0} {l = L1} {h = H1} {s = S1} {s' = S2} {h' = H2} (c .before .before .report .ensures) s-end))
 
 ty-prec-peek-requires : (t : ℕ) → ty-prec-lts.Need-peek-requires (ty-prec-told t) (ty-prec-at t) ty-prec.Post
 ty-prec-peek-requires t c κs =
@@ -1491,9 +1679,14 @@ ty-prec-enum-told t c =
 ty-prec-returns : (t : ℕ) → ty-prec-lts.Need-returns (ty-prec-told t) (ty-prec-at t) ty-prec.Post
 unfolding root.body types.tyScope plan choose chosen
 ty-prec-returns t c =
-    let pre0 = c .before .before .before .before .before .before .before .before .before .pre .1 in
-    let peek = rw (c .enum-told .given .1) at (c .before .before .peek .ensures) in
-    by-steps pre0 (λ b. s-rule (s-look peek s-end))
+    let X0 = c .before .before .before .before .before .before .before .before .before .args .text .now in
+    let T0 = c .before .before .before .before .before .before .before .before .before .args .toks .now in
+    let N0 = c .before .before .before .before .before .before .before .before .before .args .env .now in
+    let J0 = c .before .before .before .before .before .before .before .before .before .args .table .now in
+    let L0 = c .before .before .before .before .before .before .before .before .before .args .scratch .now in
+    let H0 = c .before .before .before .before .before .before .before .before .before .args .finds .now in
+    let S0 = c .before .before .before .before .before .before .before .before .before .args .s in
+    by-steps {m = (mem X0 T0 N0 J0 L0 H0 S0)} {m' = (mem X0 T0 N0 J0 L0 H0 S0)} (c .before .before .before .before .before .before .before .before .before .pre .1) (λ b. s-rule {a = (mem X0 T0 N0 J0 L0 H0 S0)} {e = (mem X0 T0 N0 J0 L0 H0 S0)} (s-look {a = (mem X0 T0 N0 J0 L0 H0 S0)} {e = (mem X0 T0 N0 J0 L0 H0 S0)} (rw (c .enum-told .given .1) at (c .before .before .peek .ensures)) s-end))
 
 ty-prec-refuse-requires : (t : ℕ) → ty-prec-lts.Need-refuse-requires (ty-prec-told t) (ty-prec-at t) ty-prec.Post
 ty-prec-refuse-requires t c κs =
@@ -1502,11 +1695,15 @@ ty-prec-refuse-requires t c κs =
 ty-prec-returns-2 : (t : ℕ) → ty-prec-lts.Need-returns-2 (ty-prec-told t) (ty-prec-at t) ty-prec.Post
 unfolding root.body types.tyScope plan choose chosen hushed
 ty-prec-returns-2 t c =
-    let pre0 = c .before .before .before .before .before .before .before .before .before .before .before .before .pre .1 in
-    let peek = rw (c .before .before .before .k .given .1) at (c .before .before .before .before .before .peek .ensures) in
-    let if1 = c .before .if1 .taken in
-    let refuse = c .refuse .ensures in
-    by-steps pre0 (λ b. s-rule (s-look peek (s-shut if1 refuse (λ k l. refl))))
+    let X0 = c .before .before .before .before .before .before .before .before .before .before .before .before .args .text .now in
+    let T0 = c .before .before .before .before .before .before .before .before .before .before .before .before .args .toks .now in
+    let N0 = c .before .before .before .before .before .before .before .before .before .before .before .before .args .env .now in
+    let J0 = c .before .before .before .before .before .before .before .before .before .before .before .before .args .table .now in
+    let L0 = c .before .before .before .before .before .before .before .before .before .before .before .before .args .scratch .now in
+    let H0 = c .before .before .before .before .before .before .before .before .before .before .before .before .args .finds .now in
+    let S0 = c .before .before .before .before .before .before .before .before .before .before .before .before .args .s in
+    let S3 = c .refuse .result in
+    by-steps {m = (mem X0 T0 N0 J0 L0 H0 S0)} {m' = (mem X0 T0 N0 J0 L0 H0 S3)} (c .before .before .before .before .before .before .before .before .before .before .before .before .pre .1) (λ b. s-rule {a = (mem X0 T0 N0 J0 L0 H0 S0)} {e = (mem X0 T0 N0 J0 L0 H0 S3)} (s-look {a = (mem X0 T0 N0 J0 L0 H0 S0)} {e = (mem X0 T0 N0 J0 L0 H0 S3)} (rw (c .before .before .before .k .given .1) at (c .before .before .before .before .before .peek .ensures)) (s-shut (c .before .if1 .taken) (c .refuse .ensures) (λ k l. refl))))
 
 ty-prec-sub-ty-head : (t : ℕ) → ty-prec-lts.Need-sub-ty-head (ty-prec-told t) (ty-prec-at t) ty-prec.Post
 ty-prec-sub-ty-head t c =
@@ -1562,12 +1759,18 @@ ty-prec-same-length-2 t c =
 ty-prec-returns-3 : (t : ℕ) → ty-prec-lts.Need-returns-3 (ty-prec-told t) (ty-prec-at t) ty-prec.Post
 unfolding root.body types.tyScope plan choose chosen
 ty-prec-returns-3 t c =
-    let pre0 = c .before .before .before .before .before .before .before .before .before .before .before .before .before .before .before .before .before .before .before .before .before .before .pre .1 in
-    let peek = rw (c .before .before .before .before .before .before .before .before .before .before .before .before .before .k .given .1) at (c .before .before .before .before .before .before .before .before .before .before .before .before .before .before .before .peek .ensures) in
-    let if1 = c .before .before .before .before .before .before .before .before .before .before .before .if1 .left in
-    let mark = c .before .before .before .before .before .before .before .before .mark .ensures in
-    let ty-head = rw (c .before .head .given .1) at (c .before .before .before .before .before .before .before .ty-head .ensures) in
-    by-steps pre0 (λ b. s-rule (s-look peek (s-mark if1 mark (s-by _ ty-head s-end))))
+    let X0 = c .before .before .before .before .before .before .before .before .before .before .before .before .before .before .before .before .before .before .before .before .before .before .args .text .now in
+    let T0 = c .before .before .before .before .before .before .before .before .before .before .before .before .before .before .before .before .before .before .before .before .before .before .args .toks .now in
+    let N0 = c .before .before .before .before .before .before .before .before .before .before .before .before .before .before .before .before .before .before .before .before .before .before .args .env .now in
+    let J0 = c .before .before .before .before .before .before .before .before .before .before .before .before .before .before .before .before .before .before .before .before .before .before .args .table .now in
+    let L0 = c .before .before .before .before .before .before .before .before .before .before .before .before .before .before .before .before .before .before .before .before .before .before .args .scratch .now in
+    let H0 = c .before .before .before .before .before .before .before .before .before .before .before .before .before .before .before .before .before .before .before .before .before .before .args .finds .now in
+    let S0 = c .before .before .before .before .before .before .before .before .before .before .before .before .before .before .before .before .before .before .before .before .before .before .args .s in
+    let S3 = c .before .before .before .before .before .before .before .before .mark .result in
+    let L4 = c .before .before .before .before .before .before .before .ty-head .last .1 .1 .1 .1 .0 in
+    let H4 = c .before .before .before .before .before .before .before .ty-head .last .1 .1 .1 .1 .1 .0 in
+    let S4 = c .before .head .given .0 .0 in
+    by-steps {m = (mem X0 T0 N0 J0 L0 H0 S0)} {m' = (mem X0 T0 N0 J0 L4 H4 S4)} (c .before .before .before .before .before .before .before .before .before .before .before .before .before .before .before .before .before .before .before .before .before .before .pre .1) (λ b. s-rule {a = (mem X0 T0 N0 J0 L0 H0 S0)} {e = (mem X0 T0 N0 J0 L4 H4 S4)} (s-look {a = (mem X0 T0 N0 J0 L0 H0 S0)} {e = (mem X0 T0 N0 J0 L4 H4 S4)} (rw (c .before .before .before .before .before .before .before .before .before .before .before .before .before .k .given .1) at (c .before .before .before .before .before .before .before .before .before .before .before .before .before .before .before .peek .ensures)) (s-mark {e = (mem X0 T0 N0 J0 L4 H4 S4)} {x = X0} {t = T0} {n = N0} {j = J0} {l = L0} {h = H0} {s = S0} {s' = S3} (c .before .before .before .before .before .before .before .before .before .before .before .if1 .left) (c .before .before .before .before .before .before .before .before .mark .ensures) (s-by {a = (mem X0 T0 N0 J0 L0 H0 S3)} {c = (mem X0 T0 N0 J0 L4 H4 S4)} {e = (mem X0 T0 N0 J0 L4 H4 S4)} _ (rw (c .before .head .given .1) at (c .before .before .before .before .before .before .before .ty-head .ensures)) s-end))))
 
 ty-prec-same-length-3 : (t : ℕ) → ty-prec-lts.Need-same-length-3 (ty-prec-told t) (ty-prec-at t) ty-prec.Post
 ty-prec-same-length-3 t c =
@@ -1580,13 +1783,21 @@ ty-prec-same-length-4 t c =
 ty-prec-returns-4 : (t : ℕ) → ty-prec-lts.Need-returns-4 (ty-prec-told t) (ty-prec-at t) ty-prec.Post
 unfolding root.body types.tyScope plan choose chosen
 ty-prec-returns-4 t c =
-    let pre0 = c .before .before .before .before .before .before .before .before .before .before .before .before .before .before .before .before .before .before .before .before .before .before .before .before .before .before .before .before .before .pre .1 in
-    let peek = rw (c .before .before .before .before .before .before .before .before .before .before .before .before .before .before .before .before .before .before .before .before .k .given .1) at (c .before .before .before .before .before .before .before .before .before .before .before .before .before .before .before .before .before .before .before .before .before .before .peek .ensures) in
-    let if1 = c .before .before .before .before .before .before .before .before .before .before .before .before .before .before .before .before .before .before .if1 .left in
-    let mark = c .before .before .before .before .before .before .before .before .before .before .before .before .before .before .before .mark .ensures in
-    let ty-head = rw (c .before .before .before .before .before .before .before .before .head2 .given .1) at (c .before .before .before .before .before .before .before .before .before .before .before .before .before .before .ty-head .ensures) in
-    let ty-tail = c .before .before .before .before .ty-tail .ensures in
-    by-steps pre0 (λ b. s-rule (s-look peek (s-mark if1 mark (s-by _ ty-head (s-run ty-tail s-end)))))
+    let X0 = c .before .before .before .before .before .before .before .before .before .before .before .before .before .before .before .before .before .before .before .before .before .before .before .before .before .before .before .before .before .args .text .now in
+    let T0 = c .before .before .before .before .before .before .before .before .before .before .before .before .before .before .before .before .before .before .before .before .before .before .before .before .before .before .before .before .before .args .toks .now in
+    let N0 = c .before .before .before .before .before .before .before .before .before .before .before .before .before .before .before .before .before .before .before .before .before .before .before .before .before .before .before .before .before .args .env .now in
+    let J0 = c .before .before .before .before .before .before .before .before .before .before .before .before .before .before .before .before .before .before .before .before .before .before .before .before .before .before .before .before .before .args .table .now in
+    let L0 = c .before .before .before .before .before .before .before .before .before .before .before .before .before .before .before .before .before .before .before .before .before .before .before .before .before .before .before .before .before .args .scratch .now in
+    let H0 = c .before .before .before .before .before .before .before .before .before .before .before .before .before .before .before .before .before .before .before .before .before .before .before .before .before .before .before .before .before .args .finds .now in
+    let S0 = c .before .before .before .before .before .before .before .before .before .before .before .before .before .before .before .before .before .before .before .before .before .before .before .before .before .before .before .before .before .args .s in
+    let S3 = c .before .before .before .before .before .before .before .before .before .before .before .before .before .before .before .mark .result in
+    let L4 = c .before .before .before .before .before .before .before .before .before .before .before .before .before .before .ty-head .last .1 .1 .1 .1 .0 in
+    let H4 = c .before .before .before .before .before .before .before .before .before .before .before .before .before .before .ty-head .last .1 .1 .1 .1 .1 .0 in
+    let S4 = c .before .before .before .before .before .before .before .before .head2 .given .0 .0 in
+    let L5 = c .before .before .before .before .ty-tail .last .1 .1 .1 .1 .0 in
+    let H5 = c .before .before .before .before .ty-tail .last .1 .1 .1 .1 .1 .0 in
+    let S5 = c .before .before .before .before .ty-tail .result in
+    by-steps {m = (mem X0 T0 N0 J0 L0 H0 S0)} {m' = (mem X0 T0 N0 J0 L5 H5 S5)} (c .before .before .before .before .before .before .before .before .before .before .before .before .before .before .before .before .before .before .before .before .before .before .before .before .before .before .before .before .before .pre .1) (λ b. s-rule {a = (mem X0 T0 N0 J0 L0 H0 S0)} {e = (mem X0 T0 N0 J0 L5 H5 S5)} (s-look {a = (mem X0 T0 N0 J0 L0 H0 S0)} {e = (mem X0 T0 N0 J0 L5 H5 S5)} (rw (c .before .before .before .before .before .before .before .before .before .before .before .before .before .before .before .before .before .before .before .before .k .given .1) at (c .before .before .before .before .before .before .before .before .before .before .before .before .before .before .before .before .before .before .before .before .before .before .peek .ensures)) (s-mark {e = (mem X0 T0 N0 J0 L5 H5 S5)} {x = X0} {t = T0} {n = N0} {j = J0} {l = L0} {h = H0} {s = S0} {s' = S3} (c .before .before .before .before .before .before .before .before .before .before .before .before .before .before .before .before .before .before .if1 .left) (c .before .before .before .before .before .before .before .before .before .before .before .before .before .before .before .mark .ensures) (s-by {a = (mem X0 T0 N0 J0 L0 H0 S3)} {c = (mem X0 T0 N0 J0 L4 H4 S4)} {e = (mem X0 T0 N0 J0 L5 H5 S5)} _ (rw (c .before .before .before .before .before .before .before .before .head2 .given .1) at (c .before .before .before .before .before .before .before .before .before .before .before .before .before .before .ty-head .ensures)) (s-run {a = (mem X0 T0 N0 J0 L4 H4 S4)} {c = (mem X0 T0 N0 J0 L5 H5 S5)} {e = (mem X0 T0 N0 J0 L5 H5 S5)} (c .before .before .before .before .ty-tail .ensures) s-end)))))
 
 ty-round-ty-seq-requires : (t : ℕ) → ty-round-lts.Need-ty-seq-requires (ty-round-told t) (ty-round-at t) ty-round.Post
 ty-round-ty-seq-requires t c κs =
@@ -1654,12 +1865,23 @@ ty-round-same-length-2 t c =
 ty-round-returns : (t : ℕ) → ty-round-lts.Need-returns (ty-round-told t) (ty-round-at t) ty-round.Post
 unfolding types.tyRound plan choose chosen
 ty-round-returns t c =
-    let pre0 = c .before .before .before .before .before .before .before .before .before .before .before .before .before .before .before .before .before .before .before .before .before .before .before .before .before .before .before .before .pre .1 .0 in
-    let ty-seq = rw (c .before .before .before .before .before .before .before .before .before .before .before .before .before .seq .given .1) at (c .before .before .before .before .before .before .before .before .before .before .before .before .before .before .before .before .before .before .before .ty-seq .ensures) in
-    let path-must = c .before .before .before .before .before .before .before .before .before .path-must .ensures in
-    let state = c .before .before .before .before .state .ensures in
-    let close = c .before .before .close .ensures in
-    in-steps pre0 (s-by _ (runs-in ty-seq) (s-by _ (settled state (runs-in path-must)) (s-close close s-end)))
+    let X0 = c .before .before .before .before .before .before .before .before .before .before .before .before .before .before .before .before .before .before .before .before .before .before .before .before .before .before .before .before .args .text .now in
+    let T0 = c .before .before .before .before .before .before .before .before .before .before .before .before .before .before .before .before .before .before .before .before .before .before .before .before .before .before .before .before .args .toks .now in
+    let N0 = c .before .before .before .before .before .before .before .before .before .before .before .before .before .before .before .before .before .before .before .before .before .before .before .before .before .before .before .before .args .env .now in
+    let J0 = c .before .before .before .before .before .before .before .before .before .before .before .before .before .before .before .before .before .before .before .before .before .before .before .before .before .before .before .before .args .table .now in
+    let L0 = c .before .before .before .before .before .before .before .before .before .before .before .before .before .before .before .before .before .before .before .before .before .before .before .before .before .before .before .before .args .scratch .now in
+    let H0 = c .before .before .before .before .before .before .before .before .before .before .before .before .before .before .before .before .before .before .before .before .before .before .before .before .before .before .before .before .args .finds .now in
+    let S0 = c .before .before .before .before .before .before .before .before .before .before .before .before .before .before .before .before .before .before .before .before .before .before .before .before .before .before .before .before .args .s in
+    let L1 = c .before .before .before .before .before .before .before .before .before .before .before .before .before .before .before .before .before .before .before .ty-seq .last .1 .1 .1 .1 .0 in
+    let H1 = c .before .before .before .before .before .before .before .before .before .before .before .before .before .before .before .before .before .before .before .ty-seq .last .1 .1 .1 .1 .1 .0 in
+    let S1 = c .before .before .before .before .before .before .before .before .before .before .before .before .before .seq .given .0 .0 in
+    let L2 = c .before .before .before .before .before .before .before .before .before .path-must .last .1 .1 .1 .1 .0 in
+    let H2 = c .before .before .before .before .before .before .before .before .before .path-must .last .1 .1 .1 .1 .1 .0 in
+    let S2 = outState (c .before .before .before .before .before .before .before .before .before .path-must .result) in
+    let S3 = c .before .before .before .before .state .result in
+    let L4 = c .before .before .close .last .0 in
+    let S4 = c .before .before .close .result in
+    in-steps {m = (mem X0 T0 N0 J0 L0 H0 S0)} {m' = (mem X0 T0 N0 J0 L4 H2 S4)} (c .before .before .before .before .before .before .before .before .before .before .before .before .before .before .before .before .before .before .before .before .before .before .before .before .before .before .before .before .pre .1 .0) (s-by {a = (mem X0 T0 N0 J0 L0 H0 S0)} {c = (mem X0 T0 N0 J0 L1 H1 S1)} {e = (mem X0 T0 N0 J0 L4 H2 S4)} _ (runs-in {a = (mem X0 T0 N0 J0 L0 H0 S0)} {c = (mem X0 T0 N0 J0 L1 H1 S1)} (rw (c .before .before .before .before .before .before .before .before .before .before .before .before .before .seq .given .1) at (c .before .before .before .before .before .before .before .before .before .before .before .before .before .before .before .before .before .before .before .ty-seq .ensures))) (s-by {a = (mem X0 T0 N0 J0 L1 H1 S1)} {c = (mem X0 T0 N0 J0 L2 H2 S3)} {e = (mem X0 T0 N0 J0 L4 H2 S4)} _ (settled (c .before .before .before .before .state .ensures) (runs-in {a = (mem X0 T0 N0 J0 L1 H1 S1)} {c = (mem X0 T0 N0 J0 L2 H2 S2)} (c .before .before .before .before .before .before .before .before .before .path-must .ensures))) (s-close {e = (mem X0 T0 N0 J0 L4 H2 S4)} {x = X0} {t = T0} {n = N0} {j = J0} {l = L2} {h = H2} {s = S3} {s' = S4} {l' = L4} (c .before .before .close .ensures) s-end)))
 
 ty-round-same-length-3 : (t : ℕ) → ty-round-lts.Need-same-length-3 (ty-round-told t) (ty-round-at t) ty-round.Post
 ty-round-same-length-3 t c =
@@ -1672,11 +1894,21 @@ ty-round-same-length-4 t c =
 ty-round-returns-2 : (t : ℕ) → ty-round-lts.Need-returns-2 (ty-round-told t) (ty-round-at t) ty-round.Post
 unfolding types.tyRound plan choose chosen
 ty-round-returns-2 t c =
-    let pre0 = c .before .before .before .before .before .before .before .before .before .before .before .before .before .before .before .before .before .before .before .before .before .before .before .before .pre .1 .0 in
-    let ty-seq = rw (c .before .before .before .before .before .before .before .before .before .seq2 .given .1) at (c .before .before .before .before .before .before .before .before .before .before .before .before .before .before .before .ty-seq .ensures) in
-    let bump = c .before .before .before .before .before .before .bump .ensures in
-    let close2 = c .before .before .close2 .ensures in
-    in-steps pre0 (s-by _ (runs-in ty-seq) (s-bump bump (s-close close2 s-end)))
+    let X0 = c .before .before .before .before .before .before .before .before .before .before .before .before .before .before .before .before .before .before .before .before .before .before .before .before .args .text .now in
+    let T0 = c .before .before .before .before .before .before .before .before .before .before .before .before .before .before .before .before .before .before .before .before .before .before .before .before .args .toks .now in
+    let N0 = c .before .before .before .before .before .before .before .before .before .before .before .before .before .before .before .before .before .before .before .before .before .before .before .before .args .env .now in
+    let J0 = c .before .before .before .before .before .before .before .before .before .before .before .before .before .before .before .before .before .before .before .before .before .before .before .before .args .table .now in
+    let L0 = c .before .before .before .before .before .before .before .before .before .before .before .before .before .before .before .before .before .before .before .before .before .before .before .before .args .scratch .now in
+    let H0 = c .before .before .before .before .before .before .before .before .before .before .before .before .before .before .before .before .before .before .before .before .before .before .before .before .args .finds .now in
+    let S0 = c .before .before .before .before .before .before .before .before .before .before .before .before .before .before .before .before .before .before .before .before .before .before .before .before .args .s in
+    let L1 = c .before .before .before .before .before .before .before .before .before .before .before .before .before .before .before .ty-seq .last .1 .1 .1 .1 .0 in
+    let H1 = c .before .before .before .before .before .before .before .before .before .before .before .before .before .before .before .ty-seq .last .1 .1 .1 .1 .1 .0 in
+    let S1 = c .before .before .before .before .before .before .before .before .before .seq2 .given .0 .0 in
+    let L2 = c .before .before .before .before .before .before .bump .last .1 .0 in
+    let S2 = c .before .before .before .before .before .before .bump .result in
+    let L3 = c .before .before .close2 .last .0 in
+    let S3 = c .before .before .close2 .result in
+    in-steps {m = (mem X0 T0 N0 J0 L0 H0 S0)} {m' = (mem X0 T0 N0 J0 L3 H1 S3)} (c .before .before .before .before .before .before .before .before .before .before .before .before .before .before .before .before .before .before .before .before .before .before .before .before .pre .1 .0) (s-by {a = (mem X0 T0 N0 J0 L0 H0 S0)} {c = (mem X0 T0 N0 J0 L1 H1 S1)} {e = (mem X0 T0 N0 J0 L3 H1 S3)} _ (runs-in {a = (mem X0 T0 N0 J0 L0 H0 S0)} {c = (mem X0 T0 N0 J0 L1 H1 S1)} (rw (c .before .before .before .before .before .before .before .before .before .seq2 .given .1) at (c .before .before .before .before .before .before .before .before .before .before .before .before .before .before .before .ty-seq .ensures))) (s-bump {e = (mem X0 T0 N0 J0 L3 H1 S3)} {x = X0} {t = T0} {n = N0} {j = J0} {l = L1} {h = H1} {s = S1} {s' = S2} {l' = L2} (c .before .before .before .before .before .before .bump .ensures) (s-close {e = (mem X0 T0 N0 J0 L3 H1 S3)} {x = X0} {t = T0} {n = N0} {j = J0} {l = L2} {h = H1} {s = S2} {s' = S3} {l' = L3} (c .before .before .close2 .ensures) s-end)))
 
 ty-row-lab-requires : (t : ℕ) → ty-row-lts.Need-lab-requires (ty-row-told t) (ty-row-at t) ty-row.Post
 ty-row-lab-requires t c κs =
@@ -1711,11 +1943,22 @@ ty-row-same-length-2 t c =
 ty-row-returns : (t : ℕ) → ty-row-lts.Need-returns (ty-row-told t) (ty-row-at t) ty-row.Post
 unfolding types.tyRow plan choose chosen
 ty-row-returns t c =
-    let pre0 = c .before .before .before .before .before .before .before .before .before .before .before .before .before .before .before .before .before .before .before .before .before .before .before .before .pre .1 in
-    let lab = c .before .before .before .before .before .before .before .before .before .before .before .before .before .before .before .lab .ensures in
-    let bump-ascription = c .before .before .before .before .before .before .before .before .before .bump-ascription .ensures in
-    let ty-must = c .before .before .before .before .ty-must .ensures in
-    by-steps pre0 (λ b. s-eats _ _ _ lab (s-takes _ _ _ bump-ascription (s-by _ (runs-in ty-must) s-end)))
+    let X0 = c .before .before .before .before .before .before .before .before .before .before .before .before .before .before .before .before .before .before .before .before .before .before .before .before .args .text .now in
+    let T0 = c .before .before .before .before .before .before .before .before .before .before .before .before .before .before .before .before .before .before .before .before .before .before .before .before .args .toks .now in
+    let N0 = c .before .before .before .before .before .before .before .before .before .before .before .before .before .before .before .before .before .before .before .before .before .before .before .before .args .env .now in
+    let J0 = c .before .before .before .before .before .before .before .before .before .before .before .before .before .before .before .before .before .before .before .before .before .before .before .before .args .table .now in
+    let L0 = c .before .before .before .before .before .before .before .before .before .before .before .before .before .before .before .before .before .before .before .before .before .before .before .before .args .scratch .now in
+    let H0 = c .before .before .before .before .before .before .before .before .before .before .before .before .before .before .before .before .before .before .before .before .before .before .before .before .args .finds .now in
+    let S0 = c .before .before .before .before .before .before .before .before .before .before .before .before .before .before .before .before .before .before .before .before .before .before .before .before .args .s in
+    let L1 = c .before .before .before .before .before .before .before .before .before .before .before .before .before .before .before .lab .last .1 .0 in
+    let H1 = c .before .before .before .before .before .before .before .before .before .before .before .before .before .before .before .lab .last .1 .1 .0 in
+    let S1 = c .before .before .before .before .before .before .before .before .before .before .before .before .before .before .before .lab .result in
+    let L2 = c .before .before .before .before .before .before .before .before .before .bump-ascription .last .1 .0 in
+    let S2 = c .before .before .before .before .before .before .before .before .before .bump-ascription .result in
+    let L3 = c .before .before .before .before .ty-must .last .1 .1 .1 .1 .0 in
+    let H3 = c .before .before .before .before .ty-must .last .1 .1 .1 .1 .1 .0 in
+    let S3 = c .before .before .before .before .ty-must .result in
+    by-steps {m = (mem X0 T0 N0 J0 L0 H0 S0)} {m' = (mem X0 T0 N0 J0 L3 H3 S3)} (c .before .before .before .before .before .before .before .before .before .before .before .before .before .before .before .before .before .before .before .before .before .before .before .before .pre .1) (λ b. s-eats _ _ {x = X0} {t = T0} {n = N0} {j = J0} {l = L0} {h = H0} {l' = L1} {s = S0} {s' = S1} {e = (mem X0 T0 N0 J0 L3 H3 S3)} _ {h' = H1} (c .before .before .before .before .before .before .before .before .before .before .before .before .before .before .before .lab .ensures) (s-takes _ _ {x = X0} {t = T0} {n = N0} {j = J0} {l = L1} {h = H1} {l' = L2} {s = S1} {s' = S2} {e = (mem X0 T0 N0 J0 L3 H3 S3)} _ (c .before .before .before .before .before .before .before .before .before .bump-ascription .ensures) (s-by {a = (mem X0 T0 N0 J0 L2 H1 S2)} {c = (mem X0 T0 N0 J0 L3 H3 S3)} {e = (mem X0 T0 N0 J0 L3 H3 S3)} _ (runs-in {a = (mem X0 T0 N0 J0 L2 H1 S2)} {c = (mem X0 T0 N0 J0 L3 H3 S3)} (c .before .before .before .before .ty-must .ensures)) s-end)))
 
 abbrev ty-rows-Inv-loop : ty-rows-lts.InvT-loop
 ty-rows-Inv-loop text toks env table scratch₀ finds₀ left b s1₀ scratch finds s1 =
@@ -1804,10 +2047,15 @@ ty-seq-refuse-requires t c κs =
 ty-seq-returns : (t : ℕ) → ty-seq-lts.Need-returns (ty-seq-told t) (ty-seq-at t) ty-seq.Post
 unfolding types.tySeq util.endSep plan choose chosen hushed
 ty-seq-returns t c =
-    let pre0 = c .before .before .before .before .before .before .before .before .pre .1 in
-    let if1 = c .before .if1 .taken in
-    let refuse = c .refuse .ensures in
-    by-steps pre0 (λ b. s-shut if1 refuse (λ k l. refl))
+    let X0 = c .before .before .before .before .before .before .before .before .args .text .now in
+    let T0 = c .before .before .before .before .before .before .before .before .args .toks .now in
+    let N0 = c .before .before .before .before .before .before .before .before .args .env .now in
+    let J0 = c .before .before .before .before .before .before .before .before .args .table .now in
+    let L0 = c .before .before .before .before .before .before .before .before .args .scratch .now in
+    let H0 = c .before .before .before .before .before .before .before .before .args .finds .now in
+    let S0 = c .before .before .before .before .before .before .before .before .args .s in
+    let S2 = c .refuse .result in
+    by-steps {m = (mem X0 T0 N0 J0 L0 H0 S0)} {m' = (mem X0 T0 N0 J0 L0 H0 S2)} (c .before .before .before .before .before .before .before .before .pre .1) (λ b. s-shut (c .before .if1 .taken) (c .refuse .ensures) (λ k l. refl))
 
 ty-seq-mark-requires : (t : ℕ) → ty-seq-lts.Need-mark-requires (ty-seq-told t) (ty-seq-at t) ty-seq.Post
 ty-seq-mark-requires t c κs =
@@ -1887,14 +2135,25 @@ ty-seq-same-length-2 t c =
 ty-seq-returns-2 : (t : ℕ) → ty-seq-lts.Need-returns-2 (ty-seq-told t) (ty-seq-at t) ty-seq.Post
 unfolding types.tySeq util.endSep plan choose chosen
 ty-seq-returns-2 t c =
-    let pre0 = c .before .before .before .before .before .before .before .before .before .before .before .before .before .before .before .before .before .before .before .before .before .before .before .before .before .before .before .before .before .before .before .before .before .pre .1 in
-    let if1 = c .before .before .before .before .before .before .before .before .before .before .before .before .before .before .before .before .before .before .before .before .before .before .before .before .before .before .if1 .left in
-    let mark = c .before .before .before .before .before .before .before .before .before .before .before .before .before .before .before .before .before .before .before .before .before .before .before .before .before .mark .ensures in
-    let bump = c .before .before .before .before .before .before .before .before .before .before .before .before .before .before .before .before .before .before .before .before .before .before .before .bump .ensures in
-    let ty-arg = rw (c .before .before .before .before .before .before .before .before .before .before .before .before .arg .given .1) at (c .before .before .before .before .before .before .before .before .before .before .before .before .before .before .before .before .before .before .ty-arg .ensures) in
-    let ty-args = c .before .before .before .before .before .before .before .before .ty-args .ensures in
-    let close = c .before .before .close .ensures in
-    by-steps pre0 (λ b. s-mark if1 mark (s-bump bump (s-by _ (runs-in ty-arg) (s-run ty-args (s-close close s-end)))))
+    let X0 = c .before .before .before .before .before .before .before .before .before .before .before .before .before .before .before .before .before .before .before .before .before .before .before .before .before .before .before .before .before .before .before .before .before .args .text .now in
+    let T0 = c .before .before .before .before .before .before .before .before .before .before .before .before .before .before .before .before .before .before .before .before .before .before .before .before .before .before .before .before .before .before .before .before .before .args .toks .now in
+    let N0 = c .before .before .before .before .before .before .before .before .before .before .before .before .before .before .before .before .before .before .before .before .before .before .before .before .before .before .before .before .before .before .before .before .before .args .env .now in
+    let J0 = c .before .before .before .before .before .before .before .before .before .before .before .before .before .before .before .before .before .before .before .before .before .before .before .before .before .before .before .before .before .before .before .before .before .args .table .now in
+    let L0 = c .before .before .before .before .before .before .before .before .before .before .before .before .before .before .before .before .before .before .before .before .before .before .before .before .before .before .before .before .before .before .before .before .before .args .scratch .now in
+    let H0 = c .before .before .before .before .before .before .before .before .before .before .before .before .before .before .before .before .before .before .before .before .before .before .before .before .before .before .before .before .before .before .before .before .before .args .finds .now in
+    let S0 = c .before .before .before .before .before .before .before .before .before .before .before .before .before .before .before .before .before .before .before .before .before .before .before .before .before .before .before .before .before .before .before .before .before .args .s in
+    let S2 = c .before .before .before .before .before .before .before .before .before .before .before .before .before .before .before .before .before .before .before .before .before .before .before .before .before .mark .result in
+    let L3 = c .before .before .before .before .before .before .before .before .before .before .before .before .before .before .before .before .before .before .before .before .before .before .before .bump .last .1 .0 in
+    let S3 = c .before .before .before .before .before .before .before .before .before .before .before .before .before .before .before .before .before .before .before .before .before .before .before .bump .result in
+    let L4 = c .before .before .before .before .before .before .before .before .before .before .before .before .before .before .before .before .before .before .ty-arg .last .1 .1 .1 .1 .0 in
+    let H4 = c .before .before .before .before .before .before .before .before .before .before .before .before .before .before .before .before .before .before .ty-arg .last .1 .1 .1 .1 .1 .0 in
+    let S4 = c .before .before .before .before .before .before .before .before .before .before .before .before .arg .given .0 .0 in
+    let L5 = c .before .before .before .before .before .before .before .before .ty-args .last .1 .1 .1 .1 .0 in
+    let H5 = c .before .before .before .before .before .before .before .before .ty-args .last .1 .1 .1 .1 .1 .0 in
+    let S5 = c .before .before .before .before .before .before .before .before .ty-args .result in
+    let L6 = c .before .before .close .last .0 in
+    let S6 = c .before .before .close .result in
+    by-steps {m = (mem X0 T0 N0 J0 L0 H0 S0)} {m' = (mem X0 T0 N0 J0 L6 H5 S6)} (c .before .before .before .before .before .before .before .before .before .before .before .before .before .before .before .before .before .before .before .before .before .before .before .before .before .before .before .before .before .before .before .before .before .pre .1) (λ b. s-mark {e = (mem X0 T0 N0 J0 L6 H5 S6)} {x = X0} {t = T0} {n = N0} {j = J0} {l = L0} {h = H0} {s = S0} {s' = S2} (c .before .before .before .before .before .before .before .before .before .before .before .before .before .before .before .before .before .before .before .before .before .before .before .before .before .before .if1 .left) (c .before .before .before .before .before .before .before .before .before .before .before .before .before .before .before .before .before .before .before .before .before .before .before .before .before .mark .ensures) (s-bump {e = (mem X0 T0 N0 J0 L6 H5 S6)} {x = X0} {t = T0} {n = N0} {j = J0} {l = L0} {h = H0} {s = S2} {s' = S3} {l' = L3} (c .before .before .before .before .before .before .before .before .before .before .before .before .before .before .before .before .before .before .before .before .before .before .before .bump .ensures) (s-by {a = (mem X0 T0 N0 J0 L3 H0 S3)} {c = (mem X0 T0 N0 J0 L4 H4 S4)} {e = (mem X0 T0 N0 J0 L6 H5 S6)} _ (runs-in {a = (mem X0 T0 N0 J0 L3 H0 S3)} {c = (mem X0 T0 N0 J0 L4 H4 S4)} (rw (c .before .before .before .before .before .before .before .before .before .before .before .before .arg .given .1) at (c .before .before .before .before .before .before .before .before .before .before .before .before .before .before .before .before .before .before .ty-arg .ensures))) (s-run {a = (mem X0 T0 N0 J0 L4 H4 S4)} {c = (mem X0 T0 N0 J0 L5 H5 S5)} {e = (mem X0 T0 N0 J0 L6 H5 S6)} (c .before .before .before .before .before .before .before .before .ty-args .ensures) (s-close {e = (mem X0 T0 N0 J0 L6 H5 S6)} {x = X0} {t = T0} {n = N0} {j = J0} {l = L5} {h = H5} {s = S5} {s' = S6} {l' = L6} (c .before .before .close .ensures) s-end)))))
 
 ty-seq-same-length-3 : (t : ℕ) → ty-seq-lts.Need-same-length-3 (ty-seq-told t) (ty-seq-at t) ty-seq.Post
 ty-seq-same-length-3 t c =
@@ -1907,12 +2166,20 @@ ty-seq-same-length-4 t c =
 ty-seq-returns-3 : (t : ℕ) → ty-seq-lts.Need-returns-3 (ty-seq-told t) (ty-seq-at t) ty-seq.Post
 unfolding types.tySeq util.endSep plan choose chosen
 ty-seq-returns-3 t c =
-    let pre0 = c .before .before .before .before .before .before .before .before .before .before .before .before .before .before .before .before .before .before .before .before .before .before .pre .1 in
-    let if1 = c .before .before .before .before .before .before .before .before .before .before .before .before .before .before .before .if1 .left in
-    let mark = c .before .before .before .before .before .before .before .before .before .before .before .before .before .before .mark .ensures in
-    let bump = c .before .before .before .before .before .before .before .before .before .before .before .before .bump .ensures in
-    let ty-arg = rw (c .before .arg2 .given .1) at (c .before .before .before .before .before .before .before .ty-arg .ensures) in
-    by-steps pre0 (λ b. s-mark if1 mark (s-bump bump (s-by _ (runs-in ty-arg) s-end)))
+    let X0 = c .before .before .before .before .before .before .before .before .before .before .before .before .before .before .before .before .before .before .before .before .before .before .args .text .now in
+    let T0 = c .before .before .before .before .before .before .before .before .before .before .before .before .before .before .before .before .before .before .before .before .before .before .args .toks .now in
+    let N0 = c .before .before .before .before .before .before .before .before .before .before .before .before .before .before .before .before .before .before .before .before .before .before .args .env .now in
+    let J0 = c .before .before .before .before .before .before .before .before .before .before .before .before .before .before .before .before .before .before .before .before .before .before .args .table .now in
+    let L0 = c .before .before .before .before .before .before .before .before .before .before .before .before .before .before .before .before .before .before .before .before .before .before .args .scratch .now in
+    let H0 = c .before .before .before .before .before .before .before .before .before .before .before .before .before .before .before .before .before .before .before .before .before .before .args .finds .now in
+    let S0 = c .before .before .before .before .before .before .before .before .before .before .before .before .before .before .before .before .before .before .before .before .before .before .args .s in
+    let S2 = c .before .before .before .before .before .before .before .before .before .before .before .before .before .before .mark .result in
+    let L3 = c .before .before .before .before .before .before .before .before .before .before .before .before .bump .last .1 .0 in
+    let S3 = c .before .before .before .before .before .before .before .before .before .before .before .before .bump .result in
+    let L4 = c .before .before .before .before .before .before .before .ty-arg .last .1 .1 .1 .1 .0 in
+    let H4 = c .before .before .before .before .before .before .before .ty-arg .last .1 .1 .1 .1 .1 .0 in
+    let S4 = c .before .arg2 .given .0 .0 in
+    by-steps {m = (mem X0 T0 N0 J0 L0 H0 S0)} {m' = (mem X0 T0 N0 J0 L4 H4 S4)} (c .before .before .before .before .before .before .before .before .before .before .before .before .before .before .before .before .before .before .before .before .before .before .pre .1) (λ b. s-mark {e = (mem X0 T0 N0 J0 L4 H4 S4)} {x = X0} {t = T0} {n = N0} {j = J0} {l = L0} {h = H0} {s = S0} {s' = S2} (c .before .before .before .before .before .before .before .before .before .before .before .before .before .before .before .if1 .left) (c .before .before .before .before .before .before .before .before .before .before .before .before .before .before .mark .ensures) (s-bump {e = (mem X0 T0 N0 J0 L4 H4 S4)} {x = X0} {t = T0} {n = N0} {j = J0} {l = L0} {h = H0} {s = S2} {s' = S3} {l' = L3} (c .before .before .before .before .before .before .before .before .before .before .before .before .bump .ensures) (s-by {a = (mem X0 T0 N0 J0 L3 H0 S3)} {c = (mem X0 T0 N0 J0 L4 H4 S4)} {e = (mem X0 T0 N0 J0 L4 H4 S4)} _ (runs-in {a = (mem X0 T0 N0 J0 L3 H0 S3)} {c = (mem X0 T0 N0 J0 L4 H4 S4)} (rw (c .before .arg2 .given .1) at (c .before .before .before .before .before .before .before .ty-arg .ensures))) s-end)))
 
 ty-step-peek-requires : (t : ℕ) → ty-step-lts.Need-peek-requires (ty-step-told t) (ty-step-at t) ty-step.Post
 ty-step-peek-requires t c κs =
@@ -1936,9 +2203,14 @@ ty-step-enum-told t c =
 ty-step-returns : (t : ℕ) → ty-step-lts.Need-returns (ty-step-told t) (ty-step-at t) ty-step.Post
 unfolding types.tyStep plan choose chosen
 ty-step-returns t c =
-    let pre0 = c .before .before .before .before .before .before .before .before .before .pre .1 .0 in
-    let peek = rw (c .enum-told .given .1) at (c .before .before .peek .ensures) in
-    in-steps pre0 (s-look peek s-end)
+    let X0 = c .before .before .before .before .before .before .before .before .before .args .text .now in
+    let T0 = c .before .before .before .before .before .before .before .before .before .args .toks .now in
+    let N0 = c .before .before .before .before .before .before .before .before .before .args .env .now in
+    let J0 = c .before .before .before .before .before .before .before .before .before .args .table .now in
+    let L0 = c .before .before .before .before .before .before .before .before .before .args .scratch .now in
+    let H0 = c .before .before .before .before .before .before .before .before .before .args .finds .now in
+    let S0 = c .before .before .before .before .before .before .before .before .before .args .s in
+    in-steps {m = (mem X0 T0 N0 J0 L0 H0 S0)} {m' = (mem X0 T0 N0 J0 L0 H0 S0)} (c .before .before .before .before .before .before .before .before .before .pre .1 .0) (s-look {a = (mem X0 T0 N0 J0 L0 H0 S0)} {e = (mem X0 T0 N0 J0 L0 H0 S0)} (rw (c .enum-told .given .1) at (c .before .before .peek .ensures)) s-end)
 
 ty-step-arrow-ends-requires : (t : ℕ) → ty-step-lts.Need-arrow-ends-requires (ty-step-told t) (ty-step-at t) ty-step.Post
 ty-step-arrow-ends-requires t c κs =
@@ -1947,12 +2219,14 @@ ty-step-arrow-ends-requires t c κs =
 ty-step-returns-2 : (t : ℕ) → ty-step-lts.Need-returns-2 (ty-step-told t) (ty-step-at t) ty-step.Post
 unfolding types.tyStep plan choose chosen
 ty-step-returns-2 t c =
-    let pre0 = c .before .before .before .before .before .before .before .before .before .before .before .before .before .pre .1 .0 in
-    let peek = rw (c .before .before .before .before .k .given .1) at (c .before .before .before .before .before .before .peek .ensures) in
-    let if1 = c .before .before .if1 .taken in
-    let arrow-ends = c .before .arrow-ends .ensures in
-    let if2 = c .if2 .taken in
-    in-steps pre0 (s-look peek (s-true _ _ (kind-is if1) (s-true _ _ (test-true arrow-ends if2) s-end)))
+    let X0 = c .before .before .before .before .before .before .before .before .before .before .before .before .before .args .text .now in
+    let T0 = c .before .before .before .before .before .before .before .before .before .before .before .before .before .args .toks .now in
+    let N0 = c .before .before .before .before .before .before .before .before .before .before .before .before .before .args .env .now in
+    let J0 = c .before .before .before .before .before .before .before .before .before .before .before .before .before .args .table .now in
+    let L0 = c .before .before .before .before .before .before .before .before .before .before .before .before .before .args .scratch .now in
+    let H0 = c .before .before .before .before .before .before .before .before .before .before .before .before .before .args .finds .now in
+    let S0 = c .before .before .before .before .before .before .before .before .before .before .before .before .before .args .s in
+    in-steps {m = (mem X0 T0 N0 J0 L0 H0 S0)} {m' = (mem X0 T0 N0 J0 L0 H0 S0)} (c .before .before .before .before .before .before .before .before .before .before .before .before .before .pre .1 .0) (s-look {a = (mem X0 T0 N0 J0 L0 H0 S0)} {e = (mem X0 T0 N0 J0 L0 H0 S0)} (rw (c .before .before .before .before .k .given .1) at (c .before .before .before .before .before .before .peek .ensures)) (s-true {a = (mem X0 T0 N0 J0 L0 H0 S0)} {e = (mem X0 T0 N0 J0 L0 H0 S0)} _ _ (kind-is (c .before .before .if1 .taken)) (s-true {a = (mem X0 T0 N0 J0 L0 H0 S0)} {e = (mem X0 T0 N0 J0 L0 H0 S0)} _ _ (test-true (c .before .arrow-ends .ensures) (c .if2 .taken)) s-end)))
 
 ty-step-ty-arrow-requires : (t : ℕ) → ty-step-lts.Need-ty-arrow-requires (ty-step-told t) (ty-step-at t) ty-step.Post
 ty-step-ty-arrow-requires t c κs =
@@ -1974,13 +2248,17 @@ ty-step-same-length-2 t c =
 ty-step-returns-3 : (t : ℕ) → ty-step-lts.Need-returns-3 (ty-step-told t) (ty-step-at t) ty-step.Post
 unfolding types.tyStep plan choose chosen
 ty-step-returns-3 t c =
-    let pre0 = c .before .before .before .before .before .before .before .before .before .before .before .before .before .before .before .before .before .before .before .before .pre .1 .0 in
-    let peek = rw (c .before .before .before .before .before .before .before .before .before .before .before .k .given .1) at (c .before .before .before .before .before .before .before .before .before .before .before .before .before .peek .ensures) in
-    let if1 = c .before .before .before .before .before .before .before .before .before .if1 .taken in
-    let arrow-ends = c .before .before .before .before .before .before .before .before .arrow-ends .ensures in
-    let if2 = c .before .before .before .before .before .before .before .if2 .left in
-    let ty-arrow = c .before .before .before .before .ty-arrow .ensures in
-    in-steps pre0 (s-look peek (s-true _ _ (kind-is if1) (s-false _ _ (test-false arrow-ends if2) (s-by _ ty-arrow s-end))))
+    let X0 = c .before .before .before .before .before .before .before .before .before .before .before .before .before .before .before .before .before .before .before .before .args .text .now in
+    let T0 = c .before .before .before .before .before .before .before .before .before .before .before .before .before .before .before .before .before .before .before .before .args .toks .now in
+    let N0 = c .before .before .before .before .before .before .before .before .before .before .before .before .before .before .before .before .before .before .before .before .args .env .now in
+    let J0 = c .before .before .before .before .before .before .before .before .before .before .before .before .before .before .before .before .before .before .before .before .args .table .now in
+    let L0 = c .before .before .before .before .before .before .before .before .before .before .before .before .before .before .before .before .before .before .before .before .args .scratch .now in
+    let H0 = c .before .before .before .before .before .before .before .before .before .before .before .before .before .before .before .before .before .before .before .before .args .finds .now in
+    let S0 = c .before .before .before .before .before .before .before .before .before .before .before .before .before .before .before .before .before .before .before .before .args .s in
+    let L5 = c .before .before .before .before .ty-arrow .last .1 .1 .1 .1 .0 in
+    let H5 = c .before .before .before .before .ty-arrow .last .1 .1 .1 .1 .1 .0 in
+    let S5 = c .before .before .before .before .ty-arrow .result in
+    in-steps {m = (mem X0 T0 N0 J0 L0 H0 S0)} {m' = (mem X0 T0 N0 J0 L5 H5 S5)} (c .before .before .before .before .before .before .before .before .before .before .before .before .before .before .before .before .before .before .before .before .pre .1 .0) (s-look {a = (mem X0 T0 N0 J0 L0 H0 S0)} {e = (mem X0 T0 N0 J0 L5 H5 S5)} (rw (c .before .before .before .before .before .before .before .before .before .before .before .k .given .1) at (c .before .before .before .before .before .before .before .before .before .before .before .before .before .peek .ensures)) (s-true {a = (mem X0 T0 N0 J0 L0 H0 S0)} {e = (mem X0 T0 N0 J0 L5 H5 S5)} _ _ (kind-is (c .before .before .before .before .before .before .before .before .before .if1 .taken)) (s-false {a = (mem X0 T0 N0 J0 L0 H0 S0)} {e = (mem X0 T0 N0 J0 L5 H5 S5)} _ _ (test-false (c .before .before .before .before .before .before .before .before .arrow-ends .ensures) (c .before .before .before .before .before .before .before .if2 .left)) (s-by {a = (mem X0 T0 N0 J0 L0 H0 S0)} {c = (mem X0 T0 N0 J0 L5 H5 S5)} {e = (mem X0 T0 N0 J0 L5 H5 S5)} _ (c .before .before .before .before .ty-arrow .ensures) s-end))))
 
 ty-step-star-ends-requires : (t : ℕ) → ty-step-lts.Need-star-ends-requires (ty-step-told t) (ty-step-at t) ty-step.Post
 ty-step-star-ends-requires t c κs =
@@ -1989,13 +2267,14 @@ ty-step-star-ends-requires t c κs =
 ty-step-returns-4 : (t : ℕ) → ty-step-lts.Need-returns-4 (ty-step-told t) (ty-step-at t) ty-step.Post
 unfolding types.tyStep plan choose chosen
 ty-step-returns-4 t c =
-    let pre0 = c .before .before .before .before .before .before .before .before .before .before .before .before .before .before .pre .1 .0 in
-    let peek = rw (c .before .before .before .before .before .k .given .1) at (c .before .before .before .before .before .before .before .peek .ensures) in
-    let if1 = c .before .before .before .if1 .left in
-    let if3 = c .before .before .if3 .taken in
-    let star-ends = c .before .star-ends .ensures in
-    let if4 = c .if4 .taken in
-    in-steps pre0 (s-look peek (s-false _ _ (kind-not if1) (s-true _ _ (kind-is if3) (s-true _ _ (test-true star-ends if4) s-end))))
+    let X0 = c .before .before .before .before .before .before .before .before .before .before .before .before .before .before .args .text .now in
+    let T0 = c .before .before .before .before .before .before .before .before .before .before .before .before .before .before .args .toks .now in
+    let N0 = c .before .before .before .before .before .before .before .before .before .before .before .before .before .before .args .env .now in
+    let J0 = c .before .before .before .before .before .before .before .before .before .before .before .before .before .before .args .table .now in
+    let L0 = c .before .before .before .before .before .before .before .before .before .before .before .before .before .before .args .scratch .now in
+    let H0 = c .before .before .before .before .before .before .before .before .before .before .before .before .before .before .args .finds .now in
+    let S0 = c .before .before .before .before .before .before .before .before .before .before .before .before .before .before .args .s in
+    in-steps {m = (mem X0 T0 N0 J0 L0 H0 S0)} {m' = (mem X0 T0 N0 J0 L0 H0 S0)} (c .before .before .before .before .before .before .before .before .before .before .before .before .before .before .pre .1 .0) (s-look {a = (mem X0 T0 N0 J0 L0 H0 S0)} {e = (mem X0 T0 N0 J0 L0 H0 S0)} (rw (c .before .before .before .before .before .k .given .1) at (c .before .before .before .before .before .before .before .peek .ensures)) (s-false {a = (mem X0 T0 N0 J0 L0 H0 S0)} {e = (mem X0 T0 N0 J0 L0 H0 S0)} _ _ (kind-not (c .before .before .before .if1 .left)) (s-true {a = (mem X0 T0 N0 J0 L0 H0 S0)} {e = (mem X0 T0 N0 J0 L0 H0 S0)} _ _ (kind-is (c .before .before .if3 .taken)) (s-true {a = (mem X0 T0 N0 J0 L0 H0 S0)} {e = (mem X0 T0 N0 J0 L0 H0 S0)} _ _ (test-true (c .before .star-ends .ensures) (c .if4 .taken)) s-end))))
 
 ty-step-ty-tuple-requires : (t : ℕ) → ty-step-lts.Need-ty-tuple-requires (ty-step-told t) (ty-step-at t) ty-step.Post
 ty-step-ty-tuple-requires t c κs =
@@ -2018,14 +2297,17 @@ ty-step-same-length-4 t c =
 ty-step-returns-5 : (t : ℕ) → ty-step-lts.Need-returns-5 (ty-step-told t) (ty-step-at t) ty-step.Post
 unfolding types.tyStep plan choose chosen
 ty-step-returns-5 t c =
-    let pre0 = c .before .before .before .before .before .before .before .before .before .before .before .before .before .before .before .before .before .before .before .before .before .pre .1 .0 in
-    let peek = rw (c .before .before .before .before .before .before .before .before .before .before .before .before .k .given .1) at (c .before .before .before .before .before .before .before .before .before .before .before .before .before .before .peek .ensures) in
-    let if1 = c .before .before .before .before .before .before .before .before .before .before .if1 .left in
-    let if3 = c .before .before .before .before .before .before .before .before .before .if3 .taken in
-    let star-ends = c .before .before .before .before .before .before .before .before .star-ends .ensures in
-    let if4 = c .before .before .before .before .before .before .before .if4 .left in
-    let ty-tuple = c .before .before .before .before .ty-tuple .ensures in
-    in-steps pre0 (s-look peek (s-false _ _ (kind-not if1) (s-true _ _ (kind-is if3) (s-false _ _ (test-false star-ends if4) (s-by _ ty-tuple s-end)))))
+    let X0 = c .before .before .before .before .before .before .before .before .before .before .before .before .before .before .before .before .before .before .before .before .before .args .text .now in
+    let T0 = c .before .before .before .before .before .before .before .before .before .before .before .before .before .before .before .before .before .before .before .before .before .args .toks .now in
+    let N0 = c .before .before .before .before .before .before .before .before .before .before .before .before .before .before .before .before .before .before .before .before .before .args .env .now in
+    let J0 = c .before .before .before .before .before .before .before .before .before .before .before .before .before .before .before .before .before .before .before .before .before .args .table .now in
+    let L0 = c .before .before .before .before .before .before .before .before .before .before .before .before .before .before .before .before .before .before .before .before .before .args .scratch .now in
+    let H0 = c .before .before .before .before .before .before .before .before .before .before .before .before .before .before .before .before .before .before .before .before .before .args .finds .now in
+    let S0 = c .before .before .before .before .before .before .before .before .before .before .before .before .before .before .before .before .before .before .before .before .before .args .s in
+    let L6 = c .before .before .before .before .ty-tuple .last .1 .1 .1 .1 .0 in
+    let H6 = c .before .before .before .before .ty-tuple .last .1 .1 .1 .1 .1 .0 in
+    let S6 = c .before .before .before .before .ty-tuple .result in
+    in-steps {m = (mem X0 T0 N0 J0 L0 H0 S0)} {m' = (mem X0 T0 N0 J0 L6 H6 S6)} (c .before .before .before .before .before .before .before .before .before .before .before .before .before .before .before .before .before .before .before .before .before .pre .1 .0) (s-look {a = (mem X0 T0 N0 J0 L0 H0 S0)} {e = (mem X0 T0 N0 J0 L6 H6 S6)} (rw (c .before .before .before .before .before .before .before .before .before .before .before .before .k .given .1) at (c .before .before .before .before .before .before .before .before .before .before .before .before .before .before .peek .ensures)) (s-false {a = (mem X0 T0 N0 J0 L0 H0 S0)} {e = (mem X0 T0 N0 J0 L6 H6 S6)} _ _ (kind-not (c .before .before .before .before .before .before .before .before .before .before .if1 .left)) (s-true {a = (mem X0 T0 N0 J0 L0 H0 S0)} {e = (mem X0 T0 N0 J0 L6 H6 S6)} _ _ (kind-is (c .before .before .before .before .before .before .before .before .before .if3 .taken)) (s-false {a = (mem X0 T0 N0 J0 L0 H0 S0)} {e = (mem X0 T0 N0 J0 L6 H6 S6)} _ _ (test-false (c .before .before .before .before .before .before .before .before .star-ends .ensures) (c .before .before .before .before .before .before .before .if4 .left)) (s-by {a = (mem X0 T0 N0 J0 L0 H0 S0)} {c = (mem X0 T0 N0 J0 L6 H6 S6)} {e = (mem X0 T0 N0 J0 L6 H6 S6)} _ (c .before .before .before .before .ty-tuple .ensures) s-end)))))
 
 ty-step-ty-con-requires : (t : ℕ) → ty-step-lts.Need-ty-con-requires (ty-step-told t) (ty-step-at t) ty-step.Post
 ty-step-ty-con-requires t c κs =
@@ -2044,23 +2326,29 @@ ty-step-same-length-6 t c =
 ty-step-returns-6 : (t : ℕ) → ty-step-lts.Need-returns-6 (ty-step-told t) (ty-step-at t) ty-step.Post
 unfolding types.tyStep plan choose chosen
 ty-step-returns-6 t c =
-    let pre0 = c .before .before .before .before .before .before .before .before .before .before .before .before .before .before .before .before .before .before .before .before .pre .1 .0 in
-    let peek = rw (c .before .before .before .before .before .before .before .before .before .before .before .k .given .1) at (c .before .before .before .before .before .before .before .before .before .before .before .before .before .peek .ensures) in
-    let if1 = c .before .before .before .before .before .before .before .before .before .if1 .left in
-    let if3 = c .before .before .before .before .before .before .before .before .if3 .left in
-    let if5 = c .before .before .before .before .before .before .before .if5 .taken in
-    let ty-con = c .before .before .before .before .ty-con .ensures in
-    in-steps pre0 (s-look peek (s-false _ _ (kind-not if1) (s-false _ _ (kind-not if3) (s-true _ _ (kind-is if5) (s-by _ ty-con s-end)))))
+    let X0 = c .before .before .before .before .before .before .before .before .before .before .before .before .before .before .before .before .before .before .before .before .args .text .now in
+    let T0 = c .before .before .before .before .before .before .before .before .before .before .before .before .before .before .before .before .before .before .before .before .args .toks .now in
+    let N0 = c .before .before .before .before .before .before .before .before .before .before .before .before .before .before .before .before .before .before .before .before .args .env .now in
+    let J0 = c .before .before .before .before .before .before .before .before .before .before .before .before .before .before .before .before .before .before .before .before .args .table .now in
+    let L0 = c .before .before .before .before .before .before .before .before .before .before .before .before .before .before .before .before .before .before .before .before .args .scratch .now in
+    let H0 = c .before .before .before .before .before .before .before .before .before .before .before .before .before .before .before .before .before .before .before .before .args .finds .now in
+    let S0 = c .before .before .before .before .before .before .before .before .before .before .before .before .before .before .before .before .before .before .before .before .args .s in
+    let L5 = c .before .before .before .before .ty-con .last .1 .1 .1 .1 .0 in
+    let H5 = c .before .before .before .before .ty-con .last .1 .1 .1 .1 .1 .0 in
+    let S5 = c .before .before .before .before .ty-con .result in
+    in-steps {m = (mem X0 T0 N0 J0 L0 H0 S0)} {m' = (mem X0 T0 N0 J0 L5 H5 S5)} (c .before .before .before .before .before .before .before .before .before .before .before .before .before .before .before .before .before .before .before .before .pre .1 .0) (s-look {a = (mem X0 T0 N0 J0 L0 H0 S0)} {e = (mem X0 T0 N0 J0 L5 H5 S5)} (rw (c .before .before .before .before .before .before .before .before .before .before .before .k .given .1) at (c .before .before .before .before .before .before .before .before .before .before .before .before .before .peek .ensures)) (s-false {a = (mem X0 T0 N0 J0 L0 H0 S0)} {e = (mem X0 T0 N0 J0 L5 H5 S5)} _ _ (kind-not (c .before .before .before .before .before .before .before .before .before .if1 .left)) (s-false {a = (mem X0 T0 N0 J0 L0 H0 S0)} {e = (mem X0 T0 N0 J0 L5 H5 S5)} _ _ (kind-not (c .before .before .before .before .before .before .before .before .if3 .left)) (s-true {a = (mem X0 T0 N0 J0 L0 H0 S0)} {e = (mem X0 T0 N0 J0 L5 H5 S5)} _ _ (kind-is (c .before .before .before .before .before .before .before .if5 .taken)) (s-by {a = (mem X0 T0 N0 J0 L0 H0 S0)} {c = (mem X0 T0 N0 J0 L5 H5 S5)} {e = (mem X0 T0 N0 J0 L5 H5 S5)} _ (c .before .before .before .before .ty-con .ensures) s-end)))))
 
 ty-step-returns-7 : (t : ℕ) → ty-step-lts.Need-returns-7 (ty-step-told t) (ty-step-at t) ty-step.Post
 unfolding types.tyStep plan choose chosen
 ty-step-returns-7 t c =
-    let pre0 = c .before .before .before .before .before .before .before .before .before .before .before .before .before .pre .1 .0 in
-    let peek = rw (c .before .before .before .before .k .given .1) at (c .before .before .before .before .before .before .peek .ensures) in
-    let if1 = c .before .before .if1 .left in
-    let if3 = c .before .if3 .left in
-    let if5 = c .if5 .left in
-    in-steps pre0 (s-look peek (s-false _ _ (kind-not if1) (s-false _ _ (kind-not if3) (s-false _ _ (kind-not if5) s-end))))
+    let X0 = c .before .before .before .before .before .before .before .before .before .before .before .before .before .args .text .now in
+    let T0 = c .before .before .before .before .before .before .before .before .before .before .before .before .before .args .toks .now in
+    let N0 = c .before .before .before .before .before .before .before .before .before .before .before .before .before .args .env .now in
+    let J0 = c .before .before .before .before .before .before .before .before .before .before .before .before .before .args .table .now in
+    let L0 = c .before .before .before .before .before .before .before .before .before .before .before .before .before .args .scratch .now in
+    let H0 = c .before .before .before .before .before .before .before .before .before .before .before .before .before .args .finds .now in
+    let S0 = c .before .before .before .before .before .before .before .before .before .before .before .before .before .args .s in
+    in-steps {m = (mem X0 T0 N0 J0 L0 H0 S0)} {m' = (mem X0 T0 N0 J0 L0 H0 S0)} (c .before .before .before .before .before .before .before .before .before .before .before .before .before .pre .1 .0) (s-look {a = (mem X0 T0 N0 J0 L0 H0 S0)} {e = (mem X0 T0 N0 J0 L0 H0 S0)} (rw (c .before .before .before .before .k .given .1) at (c .before .before .before .before .before .before .peek .ensures)) (s-false {a = (mem X0 T0 N0 J0 L0 H0 S0)} {e = (mem X0 T0 N0 J0 L0 H0 S0)} _ _ (kind-not (c .before .before .if1 .left)) (s-false {a = (mem X0 T0 N0 J0 L0 H0 S0)} {e = (mem X0 T0 N0 J0 L0 H0 S0)} _ _ (kind-not (c .before .if3 .left)) (s-false {a = (mem X0 T0 N0 J0 L0 H0 S0)} {e = (mem X0 T0 N0 J0 L0 H0 S0)} _ _ (kind-not (c .if5 .left)) s-end))))
 
 abbrev ty-tail-Inv-loop : ty-tail-lts.InvT-loop
 ty-tail-Inv-loop text toks env table scratch₀ finds₀ left min b s1₀ scratch finds s1 =
@@ -2153,10 +2441,15 @@ ty-tuple-refuse-requires t c κs =
 ty-tuple-returns : (t : ℕ) → ty-tuple-lts.Need-returns (ty-tuple-told t) (ty-tuple-at t) ty-tuple.Post
 unfolding types.tyTuple plan choose chosen hushed
 ty-tuple-returns t c =
-    let pre0 = c .before .before .before .before .before .before .before .before .pre .1 .0 in
-    let if1 = c .before .if1 .taken in
-    let refuse = c .refuse .ensures in
-    in-steps pre0 (s-shut if1 refuse (λ k l. refl))
+    let X0 = c .before .before .before .before .before .before .before .before .args .text .now in
+    let T0 = c .before .before .before .before .before .before .before .before .args .toks .now in
+    let N0 = c .before .before .before .before .before .before .before .before .args .env .now in
+    let J0 = c .before .before .before .before .before .before .before .before .args .table .now in
+    let L0 = c .before .before .before .before .before .before .before .before .args .scratch .now in
+    let H0 = c .before .before .before .before .before .before .before .before .args .finds .now in
+    let S0 = c .before .before .before .before .before .before .before .before .args .s in
+    let S2 = c .refuse .result in
+    in-steps {m = (mem X0 T0 N0 J0 L0 H0 S0)} {m' = (mem X0 T0 N0 J0 L0 H0 S2)} (c .before .before .before .before .before .before .before .before .pre .1 .0) (s-shut (c .before .if1 .taken) (c .refuse .ensures) (λ k l. refl))
 
 ty-tuple-sub-star-tail : (t : ℕ) → ty-tuple-lts.Need-sub-star-tail (ty-tuple-told t) (ty-tuple-at t) ty-tuple.Post
 ty-tuple-sub-star-tail t c =
@@ -2198,12 +2491,20 @@ ty-tuple-same-length-2 t c =
 ty-tuple-returns-2 : (t : ℕ) → ty-tuple-lts.Need-returns-2 (ty-tuple-told t) (ty-tuple-at t) ty-tuple.Post
 unfolding types.tyTuple plan choose chosen
 ty-tuple-returns-2 t c =
-    let pre0 = c .before .before .before .before .before .before .before .before .before .before .before .before .before .before .before .before .before .before .before .pre .1 .0 in
-    let if1 = c .before .before .before .before .before .before .before .before .before .before .before .before .if1 .left in
-    let mark = c .before .before .before .before .before .before .before .before .before .mark .ensures in
-    let star-tail = c .before .before .before .before .before .before .before .before .star-tail .ensures in
-    let close = c .before .before .close .ensures in
-    in-steps pre0 (s-mark if1 mark (s-run star-tail (s-close close s-end)))
+    let X0 = c .before .before .before .before .before .before .before .before .before .before .before .before .before .before .before .before .before .before .before .args .text .now in
+    let T0 = c .before .before .before .before .before .before .before .before .before .before .before .before .before .before .before .before .before .before .before .args .toks .now in
+    let N0 = c .before .before .before .before .before .before .before .before .before .before .before .before .before .before .before .before .before .before .before .args .env .now in
+    let J0 = c .before .before .before .before .before .before .before .before .before .before .before .before .before .before .before .before .before .before .before .args .table .now in
+    let L0 = c .before .before .before .before .before .before .before .before .before .before .before .before .before .before .before .before .before .before .before .args .scratch .now in
+    let H0 = c .before .before .before .before .before .before .before .before .before .before .before .before .before .before .before .before .before .before .before .args .finds .now in
+    let S0 = c .before .before .before .before .before .before .before .before .before .before .before .before .before .before .before .before .before .before .before .args .s in
+    let S2 = c .before .before .before .before .before .before .before .before .before .mark .result in
+    let L3 = c .before .before .before .before .before .before .before .before .star-tail .last .1 .1 .1 .1 .0 in
+    let H3 = c .before .before .before .before .before .before .before .before .star-tail .last .1 .1 .1 .1 .1 .0 in
+    let S3 = c .before .before .before .before .before .before .before .before .star-tail .result in
+    let L4 = c .before .before .close .last .0 in
+    let S4 = c .before .before .close .result in
+    in-steps {m = (mem X0 T0 N0 J0 L0 H0 S0)} {m' = (mem X0 T0 N0 J0 L4 H3 S4)} (c .before .before .before .before .before .before .before .before .before .before .before .before .before .before .before .before .before .before .before .pre .1 .0) (s-mark {e = (mem X0 T0 N0 J0 L4 H3 S4)} {x = X0} {t = T0} {n = N0} {j = J0} {l = L0} {h = H0} {s = S0} {s' = S2} (c .before .before .before .before .before .before .before .before .before .before .before .before .if1 .left) (c .before .before .before .before .before .before .before .before .before .mark .ensures) (s-run {a = (mem X0 T0 N0 J0 L0 H0 S2)} {c = (mem X0 T0 N0 J0 L3 H3 S3)} {e = (mem X0 T0 N0 J0 L4 H3 S4)} (c .before .before .before .before .before .before .before .before .star-tail .ensures) (s-close {e = (mem X0 T0 N0 J0 L4 H3 S4)} {x = X0} {t = T0} {n = N0} {j = J0} {l = L3} {h = H3} {s = S3} {s' = S4} {l' = L4} (c .before .before .close .ensures) s-end)))
 
 pub +arg-item+arg-turn+row-item+row-turn+star-factor+star-tail+star-turn+ty-arg+ty-args+ty-arrow+ty-head+ty-inner+ty-must+ty-prec+ty-round+ty-row+ty-rows+ty-seq+ty-step+ty-tail+ty-tuple-spec :
     {M : Type 1} → statement M
