@@ -18,7 +18,7 @@ use Rattle.env_bytes.specs.declared.out.Copied.the-variants.{Fits, TooLong}
 use Rattle.sml_fixity.specs.Table.{tableOf}
 use Rattle.parser.specs.View.{mem, nowOf, tableIn, chunks, findOf}
 use Rattle.parser.specs.declared.State.{State}
-use Rattle.nodes.specs.Grown.{Counted, nodesIn}
+use Rattle.node_count.specs.Log.{nodesIn, Counted}
 use Rattle.answers.specs.Entry.{roomOf, resultOf, Held, Holds}
 use Rattle.answers.proofs.Finds.{found-length}
 

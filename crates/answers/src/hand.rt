@@ -1,10 +1,10 @@
 // What a call hands out: the nodes, the findings and the final environment, with every other byte cleared.
 use crate::Answer;
 use crate::refusal::refuse_all;
+use clearing::clear;
 use env_bytes::out;
 use env_bytes::out::Copied;
-use nodes::clear;
-use nodes::node_count;
+use node_count::node_count;
 use nodes::write_nodes;
 use parser::State;
 use sml_fixity::table::Table;
@@ -17,7 +17,8 @@ ghost use Rattle.grammar.specs.Nodes.{findBytes};
 ghost use Rattle.grammar.specs.Read.{finish, pad};
 ghost use Rattle.sml_fixity.specs.Table.{Stands, tableOf};
 ghost use Rattle.parser.specs.View.{Sound, mem, nowOf, tableIn, chunks, findOf};
-ghost use Rattle.nodes.specs.Grown.{Grown, logIn};
+ghost use Rattle.node_count.specs.Log.{logIn};
+ghost use Rattle.nodes.specs.Grown.{Grown};
 ghost use Rattle.answers.specs.Entry.{Bytes, roomOf, resultOf, Holds};
 
 // The answers that are not given before or while reading.

@@ -1,6 +1,6 @@
 // The refusal of a call.
 use crate::Answer;
-use nodes::clear;
+use clearing::clear;
 ghost use mathlib.Core.Path.{_≡_};
 ghost use Rattle.grammar.specs.Read.{refusal};
 ghost use Rattle.answers.specs.Entry.{roomOf, resultOf};

@@ -11,7 +11,7 @@ use parser::kind;
 use parser::report;
 use pat::pat_must;
 use pat::pat_prec;
-use pat_parts::PatPrec;
+use pat_prec::PatPrec;
 use ty_parts::ty_var_seq;
 use util::path_must;
 use util::want;

@@ -35,7 +35,7 @@ use parser::kind;
 use parser::peek;
 use parser::report;
 use pat::pat_prec;
-use pat_parts::PatPrec;
+use pat_prec::PatPrec;
 use scopes::leave;
 use sharing_parts::bare_tail;
 use sharing_parts::full_tail;
@@ -67,7 +67,7 @@ ghost use Rattle.exp_prec.specs.Prec.{precOf};
 
 // The names of the functions are short because the proofs of a cycle of calls stand in a folder that is named by all of them.
 
-// The least precedences: with them `pat_prec` and `exp_prec` of the source are its `pat` and `exp`. And the operators that are no names.
+// The least precedences: with them `pat_prec` and `exp_prec` of the source are its `pat` and `exp_opt`. And the operators that are no names.
 const ANY: PatPrec = PatPrec::Min;
 
 const MIN: ExpPrec = ExpPrec::Min;

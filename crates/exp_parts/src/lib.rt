@@ -14,7 +14,7 @@ use parser::finding;
 use parser::kind;
 use parser::peek_n;
 use parser::report;
-use pat_parts::cases::s_con;
+use pat_prec::s_con;
 use util::name_star_eq;
 use util::path_infix;
 use util::path_no_infix;

@@ -1,4 +1,4 @@
-// The declarations that hold no expression, structure or signature: dec.rs. They hold imports, and so patterns, which dec_parts does not need.
+// The declarations that hold no expression, structure or signature: dec.rs.
 use bind_parts::ty_binds;
 use dat_parts::datatype;
 use fix_parts::infix_dec;

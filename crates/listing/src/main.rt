@@ -2,16 +2,16 @@
 use env_bytes::basis;
 use libc::STDIN_FILENO;
 use libc::STDOUT_FILENO;
-use listing_parts::TRAILER;
-use listing_parts::is_file;
 use listing_parts::lines::wide;
 use listing_parts::list_answer;
 use sml_fixity::table::pair;
+use token_file::TRAILER;
+use token_file::is_file;
 ghost use mathlib.Core.Path.{_≡_};
 ghost use mathlib.Core.Bool.{true};
 ghost use Prim.Native.Nat.{_≤_};
 ghost use lib.ListN.{length};
-ghost use Rattle.listing_parts.specs.File.{isFile};
+ghost use Rattle.token_file.specs.File.{isFile};
 
 // Reads the tokens into what is lent, and lists what came of it.
 fn list_read(

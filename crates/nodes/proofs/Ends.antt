@@ -9,10 +9,11 @@ use Rattle.grammar.specs.World.{Rec}
 use Rattle.grammar.specs.Nodes.{Node, nodesOf, nodesBytes}
 use Rattle.grammar.specs.Read.{zeroes, pad}
 use Rattle.laws.specs.Flat.{flat, nodes-posts}
-use Rattle.nodes.specs.Grown.{nodeSize, nodesIn, Ready}
+use Rattle.node_count.specs.Log.{nodeSize, nodesIn}
+use Rattle.nodes.specs.Grown.{Ready}
 use Rattle.nodes.specs.Walk.{before, ahead, Walks}
 use Rattle.nodes.specs.Walk.Way.{outside}
-use Rattle.nodes.proofs.Counts.{bytes-length}
+use Rattle.node_count.specs.Counts.{bytes-length}
 
 -- zeroes from a place on
 drop-zeroes : (n k : ℕ) → k ≤ n → drop k (zeroes n) ≡ zeroes (n - k)

@@ -1,4 +1,3 @@
-pub mod Counts
 pub mod Ends
 pub mod Records
 pub mod Steps

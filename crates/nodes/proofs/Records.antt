@@ -11,8 +11,8 @@ use Rattle.grammar.specs.World.{Rec}
 use Rattle.grammar.specs.Nodes.{Node, nodesBytes, nodeRecord}
 use Rattle.grammar.specs.Nodes.Node.{opens, token, closes}
 use Rattle.parser.specs.View.{chunks, chunkSize}
-use Rattle.nodes.specs.Grown.{nodeSize, logIn}
-use Rattle.nodes.specs.Walk.{putNode, copied, heldAt, kindAt, numberAt}
+use Rattle.node_count.specs.Log.{nodeSize, kindAt, numberAt, logIn}
+use Rattle.nodes.specs.Walk.{putNode, copied, heldAt}
 
 -- ---- a run of stores
 

@@ -17,10 +17,10 @@ use Rattle.laws.specs.Trees.Forest.{none, leaf, node}
 use Rattle.laws.specs.Flat.{flat}
 use Rattle.parser.specs.View.{chunks, chunkSize, chunkAt, recOf, tookTag}
 use Rattle.parser.specs.Runs.{length-chunks}
-use Rattle.nodes.specs.Grown.{nodeSize, logIn}
-use Rattle.nodes.specs.Walk.{Way, before, ahead, Stack, Stands, Walks, kindAt, numberAt, startsAt, putNode, copied}
+use Rattle.node_count.specs.Log.{nodeSize, kindAt, numberAt, logIn}
+use Rattle.nodes.specs.Walk.{Way, before, ahead, Stack, Stands, Walks, startsAt, putNode, copied}
 use Rattle.nodes.specs.Walk.Way.{outside, inside}
-use Rattle.nodes.proofs.Counts.{rec-took, rec-ended}
+use Rattle.node_count.specs.Counts.{rec-took, rec-ended}
 use Rattle.nodes.proofs.Records.{log-same, cut-last, copied-length, copied-below, copied-above, copied-kind, copied-number, written}
 
 -- ---- whether the innermost node starts here

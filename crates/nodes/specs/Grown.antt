@@ -1,4 +1,4 @@
--- What the log of a reading is, and how many bytes its nodes take.
+-- That the log of a reading is a forest's, and what the writing of its nodes requires.
 use Prim.Native.Nat.{ℕ, _*_, _≤_}
 use mathlib.Core.Path.{_≡_}
 use mathlib.Core.List.{List}
@@ -6,33 +6,16 @@ use lib.ListN.{length}
 use Rattle.grammar.specs.Env.{Entry}
 use Rattle.grammar.specs.World.{Rec, Now}
 use Rattle.grammar.specs.World.World.{on}
-use Rattle.grammar.specs.Nodes.{nodesOf, nodesBytes}
 use Rattle.grammar.specs.Read.{Call, start, reading}
 use Rattle.grammar.specs.Root.{root, body}
 use Rattle.laws.specs.Trees.{Forest, posts, eval-built}
-use Rattle.parser.specs.View.{chunks, recOf, chunkSize}
-
--- the bytes of a node record
-abbrev pub nodeSize : ℕ
-nodeSize = 4
+use Rattle.parser.specs.View.{chunkSize}
+use Rattle.node_count.specs.Log.{nodeSize, logIn, nodesIn}
 
 -- A log is that of a forest.
 pub record Grown (log : List Rec) : Type 0 where
   pub forest : Forest
   pub same : log ≡ posts 0 forest
-
--- the log in a buffer
-abbrev pub logIn : List ℕ → ℕ → List Rec
-logIn scratch len = chunks recOf scratch len
-
--- the bytes of its nodes
-abbrev pub nodesIn : List ℕ → ℕ → List ℕ
-nodesIn scratch len = nodesBytes (nodesOf (logIn scratch len))
-
--- The nodes of the log are so many, and few enough to count bytes.
-pub record Counted (scratch : List ℕ) (len r : ℕ) : Type 0 where
-  pub bytes : length (nodesIn scratch len) ≡ nodeSize * r
-  pub few : r ≤ 2 * len
 
 -- The log of a reading of a whole file is that of a forest: how a caller meets what `write_nodes` requires.
 pub reading-grown : (c : Call) (es : List Entry) (s : Now) → reading c es ≡ on s → Grown (s .log)

@@ -12,15 +12,7 @@ use Rattle.grammar.specs.Nodes.Node.{opens}
 use Rattle.laws.specs.Trees.{Forest, posts}
 use Rattle.laws.specs.Flat.{flat}
 use Rattle.parser.specs.View.{chunkSize}
-use Rattle.nodes.specs.Grown.{nodeSize, logIn}
-
--- the kind and the number of the record i of the scratch buffer
-abbrev pub kindAt : List ℕ → ℕ → ℕ
-kindAt scratch i = getD scratch (chunkSize * i + 1) 0
-
-abbrev pub numberAt : List ℕ → ℕ → ℕ
-numberAt scratch i =
-    getD scratch (chunkSize * i + 2) 0 + 256 * (getD scratch (chunkSize * i + 3) 0 + 256 * (getD scratch (chunkSize * i + 4) 0 + 256 * getD scratch (chunkSize * i + 5) 0))
+use Rattle.node_count.specs.Log.{nodeSize, kindAt, numberAt, logIn}
 
 -- The nodes that the walk is inside of, from the outermost: none, or those, what stands behind the last one's opening and before the next, and that one's kind.
 pub data Way : Type 0 where

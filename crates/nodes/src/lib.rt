@@ -1,13 +1,16 @@
-// The nodes, counted and written from the log of a reading, and the clearing of a lent buffer.
+// The nodes, written from the log of a reading.
+use clearing::clear;
+use node_count::TOOK;
 use sml_fixity::table::pair;
 ghost use mathlib.Core.Path.{_≡_};
 ghost use Prim.Native.Nat.{_+_, _*_, _≤_, _<_};
-ghost use mathlib.Core.List.{[], _∷_, _++_};
-ghost use lib.ListN.{length, take, drop};
+ghost use mathlib.Core.List.{[], _∷_};
+ghost use lib.ListN.{length};
 ghost use Rattle.grammar.specs.Bytes.{low, high};
-ghost use Rattle.grammar.specs.Read.{zeroes, pad};
-ghost use Rattle.nodes.specs.Grown.{Counted, Ready, nodesIn};
-ghost use Rattle.nodes.specs.Walk.{Walking, Steps, numberAt, startsAt, putNode, copied};
+ghost use Rattle.grammar.specs.Read.{pad};
+ghost use Rattle.node_count.specs.Log.{numberAt, nodesIn};
+ghost use Rattle.nodes.specs.Grown.{Ready};
+ghost use Rattle.nodes.specs.Walk.{Walking, Steps, startsAt, putNode, copied};
 
 // The first byte of a node record.
 const OPENS: u8 = 1;
@@ -16,41 +19,11 @@ const TOKEN: u8 = 2;
 
 const CLOSES: u8 = 3;
 
-// The tag of the log's record of a token; any other is that of a node that ended.
-const TOOK: u8 = 1;
-
 // Where the walk over the log stands: the node records to be written, the log's records to be read, and the top of the stack.
 struct Walk {
     at: usize,
     left: usize,
     top: usize,
-}
-
-// Makes every byte 0 but the first `kept`.
-pub fn clear(b: &mut [u8], kept: usize)
-    ensures { λ _. ⌜ now (b .exit) ≡ take kept (now (b .entry)) ++ zeroes (length (drop kept (now (b .entry)))) ⌝ }
-{
-    let mut at = kept;
-    while at < b.len() {
-        b[at] = 0;
-        at += 1;
-    }
-}
-
-// How many node records the log comes to: a token one, a node that ended two.
-pub fn node_count(scratch: &[u8], len: usize) -> usize
-    requires { ⌜ 8 * len ≤ length (now scratch) ⌝ }
-    ensures { λ r. ⌜ Counted (now (scratch .entry)) len r ⌝ }
-{
-    let mut n = len;
-    let mut i = 0;
-    while i < len {
-        if scratch[8 * i] != TOOK {
-            n += 1;
-        }
-        i += 1;
-    }
-    n
 }
 
 // The number in the record `i` of the log or the stack.

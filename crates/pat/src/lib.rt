@@ -16,16 +16,16 @@ use parser::peek;
 use parser::peek_n;
 use parser::report;
 use pat_parts::Head;
-use pat_parts::PatPrec;
-use pat_parts::cases::arg;
-use pat_parts::cases::is_infix;
-use pat_parts::cases::is_min;
-use pat_parts::cases::s_con;
-use pat_parts::leaves::con_name;
-use pat_parts::leaves::con_op;
-use pat_parts::leaves::con_path;
-use pat_parts::leaves::should_break_pat;
-use pat_parts::leaves::typed_step;
+use pat_parts::con_name;
+use pat_parts::con_op;
+use pat_parts::con_path;
+use pat_parts::typed_step;
+use pat_prec::PatPrec;
+use pat_prec::arg;
+use pat_prec::is_infix;
+use pat_prec::is_min;
+use pat_prec::s_con;
+use pat_prec::should_break_pat;
 use sml_fixity::Fixity;
 use sml_fixity::Infix;
 use texts::fixity_at;
@@ -47,7 +47,8 @@ ghost use Rattle.grammar.specs.SyntaxKind as SK;
 ghost use Rattle.sml_fixity.specs.Fix.{infixOf};
 ghost use Rattle.parser.specs.View.{Sound, mem, errOf, outState, outVal};
 ghost use Rattle.parser.specs.Runs.{Always, Runs, RunsIn};
-ghost use Rattle.pat_parts.specs.Prec.{precOf, headState, headVal};
+ghost use Rattle.pat_prec.specs.Prec.{precOf};
+ghost use Rattle.pat_parts.specs.Head.{headState, headVal};
 
 // `pat_prec`, or the finding that there is no pattern.
 // measure: 64 * left + 6

@@ -1,1 +1,1 @@
-pub mod Prec
+pub mod Head

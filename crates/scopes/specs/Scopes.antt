@@ -1,4 +1,4 @@
--- The fixities that are in force behind a node: document 01, scopes.
+-- The fixities that are in force behind a let expression and behind a local's first part: document 01, scopes.
 use Prim.Native.Nat.{ℕ}
 use mathlib.Core.Bool.{true, false}
 use lib.Dec.{eqb}

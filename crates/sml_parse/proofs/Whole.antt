@@ -16,7 +16,8 @@ use Rattle.grammar.specs.Read.{Call, start, reading, finish, refusal, handed}
 use Rattle.sml_fixity.specs.Table.{entriesIn}
 use Rattle.parser.specs.View.{Mem, seenIn, nowOf}
 use Rattle.parser.specs.Runs.{Runs, shut}
-use Rattle.nodes.specs.Grown.{Grown, logIn, reading-grown}
+use Rattle.node_count.specs.Log.{logIn}
+use Rattle.nodes.specs.Grown.{Grown, reading-grown}
 use Rattle.answers.specs.Entry.{callOf, roomOf}
 use Rattle.answers.proofs.Hands.{chosen, tests}
 

@@ -1,8 +1,8 @@
 -- by tools/prove
+use Rattle.grammar.specs.Exp as expr
 use Rattle.parser.specs.Runs.{runs-in, kind-is, kind-not, test-true, test-false, ok-bumps, ok-state}
 use Rattle.parser.specs.Plans.{plan, choose, chosen, in-steps, s-true, s-false, s-bump, s-close, s-by, settled, s-end}
 use mathlib.Core.Path.{_≡_, refl, _∙_}
-use Rattle.grammar.specs.Exp as expr
 use lib.ListN.{length}
 use borrow.Author.Needs.{needs}
 use Rattle.exp_parts.proofs.leaf.Statement.{statement}
@@ -13,9 +13,9 @@ use Rattle.exp_parts.proofs.op_exp.Reads as op-exp-reads
 use Rattle.parser.proofs.Found.state.Reads as state-reads
 use Rattle.parser.proofs.bump.Reads as bump-reads
 use Rattle.parser.proofs.close.Reads as close-reads
+use Rattle.pat_prec.proofs.s_con.Reads as s-con-reads
 use Rattle.util.proofs.name_star_eq.Reads as name-star-eq-reads
 use Rattle.util.proofs.path_no_infix.Reads as path-no-infix-reads
-use Rattle.pat_parts.proofs.cases.s_con.Reads as s-con-reads
 
 bump-requires : tie.Need-bump-requires
 bump-requires c κs =

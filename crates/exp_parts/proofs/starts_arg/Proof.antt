@@ -7,7 +7,7 @@ use Rattle.exp_parts.proofs.starts_arg.Statement.{statement}
 use Rattle.exp_parts.proofs.starts_arg.Tie as tie
 use Rattle.exp_parts.proofs.starts_arg.Reads as reads
 use Rattle.exp_parts.proofs.starts_arg.Lts as lts
-use Rattle.pat_parts.proofs.cases.s_con.Reads as s-con-reads
+use Rattle.pat_prec.proofs.s_con.Reads as s-con-reads
 
 returns : tie.Need-returns
 returns c =

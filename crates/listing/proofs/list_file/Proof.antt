@@ -2,7 +2,7 @@
 use native.Mathlib.Omega.{arith}
 use borrow.Author.Needs.{needs}
 use lib.ListN.{length-take}
-use Rattle.listing_parts.specs.Files.{formed}
+use Rattle.token_file.specs.Files.{formed}
 use Rattle.listing.proofs.list_file.Statement.{statement}
 use Rattle.listing.proofs.list_file.Tie as tie
 

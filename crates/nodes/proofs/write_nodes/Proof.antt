@@ -6,7 +6,7 @@ use mathlib.Core.Path.{_≡_, refl, ap, _∙_}
 use borrow.Author.Needs.{needs}
 use lib.ListN.{length}
 use Rattle.grammar.specs.Read.{pad}
-use Rattle.nodes.specs.Grown.{nodesIn}
+use Rattle.node_count.specs.Log.{nodesIn}
 use Rattle.nodes.specs.Walk.{Walks}
 use Rattle.nodes.proofs.Ends.{begins, ended}
 use Rattle.nodes.proofs.write_nodes.Statement.{statement}

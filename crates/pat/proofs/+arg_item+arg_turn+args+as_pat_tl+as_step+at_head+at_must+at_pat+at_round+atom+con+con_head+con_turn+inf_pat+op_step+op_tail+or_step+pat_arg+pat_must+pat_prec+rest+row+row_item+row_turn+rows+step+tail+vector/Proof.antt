@@ -1,10 +1,10 @@
 -- by tools/prove
 use Rattle.grammar.specs.Rule.{PatPrec as Prec}
+use Rattle.pat_prec.specs.Prec.{precOf}
 use Rattle.laws.specs.Progress.{end-turn-advances, pat-step-advances}
-use Rattle.parser.specs.View.{mem, errOf}
+use Rattle.parser.specs.View.{mem, errOf, outState}
 use Rattle.parser.specs.Runs.{runs-in, runs-always, kind-at, kind-off, kind-is, kind-not, test-true, test-false, ok-bumps, ok-tells, ok-marks, ok-eats, ok-state, small-len, small-index, Loops, turns, loop-starts, loop-goes, loop-falls, loop-ends}
-use Rattle.parser.specs.Plans.{plan, choose, chosen, in-steps, by-steps, s-rule, s-look, s-index, s-kind, s-fixed, s-true, s-false, s-bump, s-close, s-report, s-mark, s-deep, s-by, s-eats, s-run, settled, eats-settled, s-end}
-use Rattle.pat_parts.specs.Prec.{precOf}
+use Rattle.parser.specs.Plans.{plan, choose, chosen, in-steps, by-steps, s-rule, s-look, s-index, s-kind, s-fixed, s-true, s-false, s-bump, s-close, s-report, s-mark, s-shut, hushed, s-by, s-eats, s-run, settled, eats-settled, s-end}
 use borrow.Author.Needs.{needs}
 use native.Mathlib.Omega.{arith}
 use mathlib.Core.Path.{_≡_, refl, _∙_}
@@ -120,15 +120,15 @@ use Rattle.util.proofs.eat_name_star.Reads as eat-name-star-reads
 use Rattle.util.proofs.lab.Reads as lab-reads
 use Rattle.util.proofs.name_star.Reads as name-star-reads
 use Rattle.util.proofs.path_infix.Reads as path-infix-reads
-use Rattle.pat_parts.proofs.cases.arg.Reads as arg-reads
-use Rattle.pat_parts.proofs.cases.is_infix.Reads as is-infix-reads
-use Rattle.pat_parts.proofs.cases.is_min.Reads as is-min-reads
-use Rattle.pat_parts.proofs.cases.s_con.Reads as s-con-reads
-use Rattle.pat_parts.proofs.leaves.con_name.Reads as con-name-reads
-use Rattle.pat_parts.proofs.leaves.con_op.Reads as con-op-reads
-use Rattle.pat_parts.proofs.leaves.con_path.Reads as con-path-reads
-use Rattle.pat_parts.proofs.leaves.should_break_pat.Reads as should-break-pat-reads
-use Rattle.pat_parts.proofs.leaves.typed_step.Reads as typed-step-reads
+use Rattle.pat_prec.proofs.arg.Reads as arg-reads
+use Rattle.pat_prec.proofs.is_infix.Reads as is-infix-reads
+use Rattle.pat_prec.proofs.is_min.Reads as is-min-reads
+use Rattle.pat_prec.proofs.s_con.Reads as s-con-reads
+use Rattle.pat_parts.proofs.con_name.Reads as con-name-reads
+use Rattle.pat_parts.proofs.con_op.Reads as con-op-reads
+use Rattle.pat_parts.proofs.con_path.Reads as con-path-reads
+use Rattle.pat_prec.proofs.should_break_pat.Reads as should-break-pat-reads
+use Rattle.pat_parts.proofs.typed_step.Reads as typed-step-reads
 use Rattle.ty.proofs.ty_annotation.Reads as ty-annotation-reads
 use Rattle.pat.proofs.+arg_item+arg_turn+args+as_pat_tl+as_step+at_head+at_must+at_pat+at_round+atom+con+con_head+con_turn+inf_pat+op_step+op_tail+or_step+pat_arg+pat_must+pat_prec+rest+row+row_item+row_turn+rows+step+tail+vector.{
   statement,
@@ -399,7 +399,6 @@ vector-at t = and 6 vector-kinds.ps (is 6 vector-kinds.ps μ-vector t) vector.Pr
 abbrev vector-below : ℕ → In 6 vector-kinds.ps
 vector-below t = and 6 vector-kinds.ps (falls 6 vector-kinds.ps _<_ μ-vector t) vector.Pre
 
--- what the calls of a function ask and say
 abbrev arg-item-told : ℕ → arg-item-lts.Claims
 arg-item-told t = (refuse-reads.Asked, refuse-reads.Learnt, mark-reads.Asked, mark-reads.Learnt, pat-must-below t, pat-must.Post, at-reads.Asked, at-reads.Learnt, bump-reads.Asked, bump-reads.Learnt, close-reads.Asked, close-reads.Learnt)
 
@@ -489,12 +488,17 @@ arg-item-refuse-requires t c κs =
     tt
 
 arg-item-returns : (t : ℕ) → arg-item-lts.Need-returns (arg-item-told t) (arg-item-at t) arg-item.Post
-unfolding util.endItem plan choose chosen
+unfolding util.endItem plan choose chosen hushed
 arg-item-returns t c =
-    let pre0 = c .before .before .before .before .before .before .before .before .pre .1 in
-    let if1 = c .before .if1 .taken in
-    let refuse = c .refuse .ensures in
-    by-steps pre0 (λ b. s-deep if1 refuse s-end)
+    let X0 = c .before .before .before .before .before .before .before .before .args .text .now in
+    let T0 = c .before .before .before .before .before .before .before .before .args .toks .now in
+    let N0 = c .before .before .before .before .before .before .before .before .args .env .now in
+    let J0 = c .before .before .before .before .before .before .before .before .args .table .now in
+    let L0 = c .before .before .before .before .before .before .before .before .args .scratch .now in
+    let H0 = c .before .before .before .before .before .before .before .before .args .finds .now in
+    let S0 = c .before .before .before .before .before .before .before .before .args .s in
+    let S2 = c .refuse .result in
+    by-steps {m = (mem X0 T0 N0 J0 L0 H0 S0)} {m' = (mem X0 T0 N0 J0 L0 H0 S2)} (c .before .before .before .before .before .before .before .before .pre .1) (λ b. s-shut (c .before .if1 .taken) (c .refuse .ensures) (λ k l. refl))
 
 arg-item-mark-requires : (t : ℕ) → arg-item-lts.Need-mark-requires (arg-item-told t) (arg-item-at t) arg-item.Post
 arg-item-mark-requires t c κs =
@@ -550,15 +554,22 @@ arg-item-same-length-2 t c =
 arg-item-returns-2 : (t : ℕ) → arg-item-lts.Need-returns-2 (arg-item-told t) (arg-item-at t) arg-item.Post
 unfolding util.endItem plan choose chosen
 arg-item-returns-2 t c =
-    let pre0 = c .before .before .before .before .before .before .before .before .before .before .before .before .before .before .before .before .before .before .before .before .before .before .before .before .before .pre .1 in
-    let if1 = c .before .before .before .before .before .before .before .before .before .before .before .before .before .before .before .before .before .before .if1 .left in
-    let mark = c .before .before .before .before .before .before .before .before .before .before .before .before .before .before .before .before .before .mark .ensures in
-    let pat-must = c .before .before .before .before .before .before .before .before .before .before .before .before .before .before .pat-must .ensures in
-    let at = c .before .before .before .before .before .before .before .before .before .at .ensures in
-    let if2 = c .before .before .before .before .before .before .before .before .if2 .taken in
-    let bump = c .before .before .before .before .before .before .bump .ensures in
-    let close = c .before .before .close .ensures in
-    by-steps pre0 (λ b. s-mark if1 mark (s-by _ (runs-in pat-must) (s-kind (s-true _ _ (kind-at _ _ _ _ at if2) (s-bump bump (s-close close s-end))))))
+    let X0 = c .before .before .before .before .before .before .before .before .before .before .before .before .before .before .before .before .before .before .before .before .before .before .before .before .before .args .text .now in
+    let T0 = c .before .before .before .before .before .before .before .before .before .before .before .before .before .before .before .before .before .before .before .before .before .before .before .before .before .args .toks .now in
+    let N0 = c .before .before .before .before .before .before .before .before .before .before .before .before .before .before .before .before .before .before .before .before .before .before .before .before .before .args .env .now in
+    let J0 = c .before .before .before .before .before .before .before .before .before .before .before .before .before .before .before .before .before .before .before .before .before .before .before .before .before .args .table .now in
+    let L0 = c .before .before .before .before .before .before .before .before .before .before .before .before .before .before .before .before .before .before .before .before .before .before .before .before .before .args .scratch .now in
+    let H0 = c .before .before .before .before .before .before .before .before .before .before .before .before .before .before .before .before .before .before .before .before .before .before .before .before .before .args .finds .now in
+    let S0 = c .before .before .before .before .before .before .before .before .before .before .before .before .before .before .before .before .before .before .before .before .before .before .before .before .before .args .s in
+    let S2 = c .before .before .before .before .before .before .before .before .before .before .before .before .before .before .before .before .before .mark .result in
+    let L3 = c .before .before .before .before .before .before .before .before .before .before .before .before .before .before .pat-must .last .1 .1 .1 .1 .0 in
+    let H3 = c .before .before .before .before .before .before .before .before .before .before .before .before .before .before .pat-must .last .1 .1 .1 .1 .1 .0 in
+    let S3 = c .before .before .before .before .before .before .before .before .before .before .before .before .before .before .pat-must .result in
+    let L6 = c .before .before .before .before .before .before .bump .last .1 .0 in
+    let S6 = c .before .before .before .before .before .before .bump .result in
+    let L7 = c .before .before .close .last .0 in
+    let S7 = c .before .before .close .result in
+    by-steps {m = (mem X0 T0 N0 J0 L0 H0 S0)} {m' = (mem X0 T0 N0 J0 L7 H3 S7)} (c .before .before .before .before .before .before .before .before .before .before .before .before .before .before .before .before .before .before .before .before .before .before .before .before .before .pre .1) (λ b. s-mark {e = (mem X0 T0 N0 J0 L7 H3 S7)} {x = X0} {t = T0} {n = N0} {j = J0} {l = L0} {h = H0} {s = S0} {s' = S2} (c .before .before .before .before .before .before .before .before .before .before .before .before .before .before .before .before .before .before .if1 .left) (c .before .before .before .before .before .before .before .before .before .before .before .before .before .before .before .before .before .mark .ensures) (s-by {a = (mem X0 T0 N0 J0 L0 H0 S2)} {c = (mem X0 T0 N0 J0 L3 H3 S3)} {e = (mem X0 T0 N0 J0 L7 H3 S7)} _ (runs-in {a = (mem X0 T0 N0 J0 L0 H0 S2)} {c = (mem X0 T0 N0 J0 L3 H3 S3)} (c .before .before .before .before .before .before .before .before .before .before .before .before .before .before .pat-must .ensures)) (s-kind {a = (mem X0 T0 N0 J0 L3 H3 S3)} {e = (mem X0 T0 N0 J0 L7 H3 S7)} (s-true {a = (mem X0 T0 N0 J0 L3 H3 S3)} {e = (mem X0 T0 N0 J0 L7 H3 S7)} _ _ (kind-at _ _ (mem X0 T0 N0 J0 L3 H3 S3) _ (c .before .before .before .before .before .before .before .before .before .at .ensures) (c .before .before .before .before .before .before .before .before .if2 .taken)) (s-bump {e = (mem X0 T0 N0 J0 L7 H3 S7)} {x = X0} {t = T0} {n = N0} {j = J0} {l = L3} {h = H3} {s = S3} {s' = S6} {l' = L6} (c .before .before .before .before .before .before .bump .ensures) (s-close {e = (mem X0 T0 N0 J0 L7 H3 S7)} {x = X0} {t = T0} {n = N0} {j = J0} {l = L6} {h = H3} {s = S6} {s' = S7} {l' = L7} (c .before .before .close .ensures) s-end))))))
 
 arg-item-close-requires-2 : (t : ℕ) → arg-item-lts.Need-close-requires-2 (arg-item-told t) (arg-item-at t) arg-item.Post
 arg-item-close-requires-2 t c κs =
@@ -580,14 +591,20 @@ arg-item-same-length-4 t c =
 arg-item-returns-3 : (t : ℕ) → arg-item-lts.Need-returns-3 (arg-item-told t) (arg-item-at t) arg-item.Post
 unfolding util.endItem plan choose chosen
 arg-item-returns-3 t c =
-    let pre0 = c .before .before .before .before .before .before .before .before .before .before .before .before .before .before .before .before .before .before .before .before .before .pre .1 in
-    let if1 = c .before .before .before .before .before .before .before .before .before .before .before .before .before .before .if1 .left in
-    let mark = c .before .before .before .before .before .before .before .before .before .before .before .before .before .mark .ensures in
-    let pat-must = c .before .before .before .before .before .before .before .before .before .before .pat-must .ensures in
-    let at = c .before .before .before .before .before .at .ensures in
-    let if2 = c .before .before .before .before .if2 .left in
-    let close2 = c .before .before .close2 .ensures in
-    by-steps pre0 (λ b. s-mark if1 mark (s-by _ (runs-in pat-must) (s-kind (s-false _ _ (kind-off _ _ _ _ at if2) (s-close close2 s-end)))))
+    let X0 = c .before .before .before .before .before .before .before .before .before .before .before .before .before .before .before .before .before .before .before .before .before .args .text .now in
+    let T0 = c .before .before .before .before .before .before .before .before .before .before .before .before .before .before .before .before .before .before .before .before .before .args .toks .now in
+    let N0 = c .before .before .before .before .before .before .before .before .before .before .before .before .before .before .before .before .before .before .before .before .before .args .env .now in
+    let J0 = c .before .before .before .before .before .before .before .before .before .before .before .before .before .before .before .before .before .before .before .before .before .args .table .now in
+    let L0 = c .before .before .before .before .before .before .before .before .before .before .before .before .before .before .before .before .before .before .before .before .before .args .scratch .now in
+    let H0 = c .before .before .before .before .before .before .before .before .before .before .before .before .before .before .before .before .before .before .before .before .before .args .finds .now in
+    let S0 = c .before .before .before .before .before .before .before .before .before .before .before .before .before .before .before .before .before .before .before .before .before .args .s in
+    let S2 = c .before .before .before .before .before .before .before .before .before .before .before .before .before .mark .result in
+    let L3 = c .before .before .before .before .before .before .before .before .before .before .pat-must .last .1 .1 .1 .1 .0 in
+    let H3 = c .before .before .before .before .before .before .before .before .before .before .pat-must .last .1 .1 .1 .1 .1 .0 in
+    let S3 = c .before .before .before .before .before .before .before .before .before .before .pat-must .result in
+    let L6 = c .before .before .close2 .last .0 in
+    let S6 = c .before .before .close2 .result in
+    by-steps {m = (mem X0 T0 N0 J0 L0 H0 S0)} {m' = (mem X0 T0 N0 J0 L6 H3 S6)} (c .before .before .before .before .before .before .before .before .before .before .before .before .before .before .before .before .before .before .before .before .before .pre .1) (λ b. s-mark {e = (mem X0 T0 N0 J0 L6 H3 S6)} {x = X0} {t = T0} {n = N0} {j = J0} {l = L0} {h = H0} {s = S0} {s' = S2} (c .before .before .before .before .before .before .before .before .before .before .before .before .before .before .if1 .left) (c .before .before .before .before .before .before .before .before .before .before .before .before .before .mark .ensures) (s-by {a = (mem X0 T0 N0 J0 L0 H0 S2)} {c = (mem X0 T0 N0 J0 L3 H3 S3)} {e = (mem X0 T0 N0 J0 L6 H3 S6)} _ (runs-in {a = (mem X0 T0 N0 J0 L0 H0 S2)} {c = (mem X0 T0 N0 J0 L3 H3 S3)} (c .before .before .before .before .before .before .before .before .before .before .pat-must .ensures)) (s-kind {a = (mem X0 T0 N0 J0 L3 H3 S3)} {e = (mem X0 T0 N0 J0 L6 H3 S6)} (s-false {a = (mem X0 T0 N0 J0 L3 H3 S3)} {e = (mem X0 T0 N0 J0 L6 H3 S6)} _ _ (kind-off _ _ (mem X0 T0 N0 J0 L3 H3 S3) _ (c .before .before .before .before .before .at .ensures) (c .before .before .before .before .if2 .left)) (s-close {e = (mem X0 T0 N0 J0 L6 H3 S6)} {x = X0} {t = T0} {n = N0} {j = J0} {l = L3} {h = H3} {s = S3} {s' = S6} {l' = L6} (c .before .before .close2 .ensures) s-end)))))
 
 arg-turn-at-requires : (t : ℕ) → arg-turn-lts.Need-at-requires (arg-turn-told t) (arg-turn-at t) arg-turn.Post
 arg-turn-at-requires t c κs =
@@ -606,11 +623,16 @@ arg-turn-same-length t c =
 arg-turn-returns : (t : ℕ) → arg-turn-lts.Need-returns (arg-turn-told t) (arg-turn-at t) arg-turn.Post
 unfolding util.endTurn plan choose chosen
 arg-turn-returns t c =
-    let pre0 = c .before .before .before .before .before .before .before .before .before .before .before .before .pre .1 .0 in
-    let at = c .before .before .before .before .before .at .ensures in
-    let if1 = c .before .before .before .before .if1 .taken in
-    let bump = c .before .before .bump .ensures in
-    by-steps pre0 (λ b. s-kind (s-true _ _ (kind-at _ _ _ _ at if1) (s-bump bump s-end)))
+    let X0 = c .before .before .before .before .before .before .before .before .before .before .before .before .args .text .now in
+    let T0 = c .before .before .before .before .before .before .before .before .before .before .before .before .args .toks .now in
+    let N0 = c .before .before .before .before .before .before .before .before .before .before .before .before .args .env .now in
+    let J0 = c .before .before .before .before .before .before .before .before .before .before .before .before .args .table .now in
+    let L0 = c .before .before .before .before .before .before .before .before .before .before .before .before .args .scratch .now in
+    let H0 = c .before .before .before .before .before .before .before .before .before .before .before .before .args .finds .now in
+    let S0 = c .before .before .before .before .before .before .before .before .before .before .before .before .args .s in
+    let L3 = c .before .before .bump .last .1 .0 in
+    let S3 = c .before .before .bump .result in
+    by-steps {m = (mem X0 T0 N0 J0 L0 H0 S0)} {m' = (mem X0 T0 N0 J0 L3 H0 S3)} (c .before .before .before .before .before .before .before .before .before .before .before .before .pre .1 .0) (λ b. s-kind {a = (mem X0 T0 N0 J0 L0 H0 S0)} {e = (mem X0 T0 N0 J0 L3 H0 S3)} (s-true {a = (mem X0 T0 N0 J0 L0 H0 S0)} {e = (mem X0 T0 N0 J0 L3 H0 S3)} _ _ (kind-at _ _ (mem X0 T0 N0 J0 L0 H0 S0) _ (c .before .before .before .before .before .at .ensures) (c .before .before .before .before .if1 .taken)) (s-bump {e = (mem X0 T0 N0 J0 L3 H0 S3)} {x = X0} {t = T0} {n = N0} {j = J0} {l = L0} {h = H0} {s = S0} {s' = S3} {l' = L3} (c .before .before .bump .ensures) s-end)))
 
 arg-turn-arg-item-requires : (t : ℕ) → arg-turn-lts.Need-arg-item-requires (arg-turn-told t) (arg-turn-at t) arg-turn.Post
 arg-turn-arg-item-requires t c κs =
@@ -661,11 +683,17 @@ arg-turn-same-length-3 t c =
 arg-turn-returns-2 : (t : ℕ) → arg-turn-lts.Need-returns-2 (arg-turn-told t) (arg-turn-at t) arg-turn.Post
 unfolding util.endTurn plan choose chosen
 arg-turn-returns-2 t c =
-    let pre0 = c .before .before .before .before .before .before .before .before .before .before .before .before .before .before .before .before .before .before .pre .1 .0 in
-    let at = c .before .before .before .before .before .before .before .before .before .before .before .at .ensures in
-    let if1 = c .before .before .before .before .before .before .before .before .before .before .if1 .left in
-    let arg-item = rw (c .before .item .given .1) at (c .before .before .before .before .before .before .before .arg-item .ensures) in
-    by-steps pre0 (λ b. s-kind (s-false _ _ (kind-off _ _ _ _ at if1) (s-by _ (runs-in arg-item) s-end)))
+    let X0 = c .before .before .before .before .before .before .before .before .before .before .before .before .before .before .before .before .before .before .args .text .now in
+    let T0 = c .before .before .before .before .before .before .before .before .before .before .before .before .before .before .before .before .before .before .args .toks .now in
+    let N0 = c .before .before .before .before .before .before .before .before .before .before .before .before .before .before .before .before .before .before .args .env .now in
+    let J0 = c .before .before .before .before .before .before .before .before .before .before .before .before .before .before .before .before .before .before .args .table .now in
+    let L0 = c .before .before .before .before .before .before .before .before .before .before .before .before .before .before .before .before .before .before .args .scratch .now in
+    let H0 = c .before .before .before .before .before .before .before .before .before .before .before .before .before .before .before .before .before .before .args .finds .now in
+    let S0 = c .before .before .before .before .before .before .before .before .before .before .before .before .before .before .before .before .before .before .args .s in
+    let L3 = c .before .before .before .before .before .before .before .arg-item .last .1 .1 .1 .1 .0 in
+    let H3 = c .before .before .before .before .before .before .before .arg-item .last .1 .1 .1 .1 .1 .0 in
+    let S3 = c .before .item .given .0 .0 in
+    by-steps {m = (mem X0 T0 N0 J0 L0 H0 S0)} {m' = (mem X0 T0 N0 J0 L3 H3 S3)} (c .before .before .before .before .before .before .before .before .before .before .before .before .before .before .before .before .before .before .pre .1 .0) (λ b. s-kind {a = (mem X0 T0 N0 J0 L0 H0 S0)} {e = (mem X0 T0 N0 J0 L3 H3 S3)} (s-false {a = (mem X0 T0 N0 J0 L0 H0 S0)} {e = (mem X0 T0 N0 J0 L3 H3 S3)} _ _ (kind-off _ _ (mem X0 T0 N0 J0 L0 H0 S0) _ (c .before .before .before .before .before .before .before .before .before .before .before .at .ensures) (c .before .before .before .before .before .before .before .before .before .before .if1 .left)) (s-by {a = (mem X0 T0 N0 J0 L0 H0 S0)} {c = (mem X0 T0 N0 J0 L3 H3 S3)} {e = (mem X0 T0 N0 J0 L3 H3 S3)} _ (runs-in {a = (mem X0 T0 N0 J0 L0 H0 S0)} {c = (mem X0 T0 N0 J0 L3 H3 S3)} (rw (c .before .item .given .1) at (c .before .before .before .before .before .before .before .arg-item .ensures))) s-end)))
 
 arg-turn-same-length-4 : (t : ℕ) → arg-turn-lts.Need-same-length-4 (arg-turn-told t) (arg-turn-at t) arg-turn.Post
 arg-turn-same-length-4 t c =
@@ -678,13 +706,20 @@ arg-turn-same-length-5 t c =
 arg-turn-returns-3 : (t : ℕ) → arg-turn-lts.Need-returns-3 (arg-turn-told t) (arg-turn-at t) arg-turn.Post
 unfolding util.endTurn plan choose chosen
 arg-turn-returns-3 t c =
-    let pre0 = c .before .before .before .before .before .before .before .before .before .before .before .before .before .before .before .before .before .before .before .before .before .before .before .before .before .before .pre .1 .0 in
-    let at = c .before .before .before .before .before .before .before .before .before .before .before .before .before .before .before .before .before .before .before .at .ensures in
-    let if1 = c .before .before .before .before .before .before .before .before .before .before .before .before .before .before .before .before .before .before .if1 .left in
-    let arg-item = rw (c .before .before .before .before .before .before .before .before .before .item2 .given .1) at (c .before .before .before .before .before .before .before .before .before .before .before .before .before .before .before .arg-item .ensures) in
-    let eat = c .before .before .before .before .before .eat .ensures in
-    let state = c .state .ensures in
-    by-steps pre0 (λ b. s-kind (s-false _ _ (kind-off _ _ _ _ at if1) (s-by _ (runs-in arg-item) (s-eats _ _ _ (eats-settled state eat) s-end))))
+    let X0 = c .before .before .before .before .before .before .before .before .before .before .before .before .before .before .before .before .before .before .before .before .before .before .before .before .before .before .args .text .now in
+    let T0 = c .before .before .before .before .before .before .before .before .before .before .before .before .before .before .before .before .before .before .before .before .before .before .before .before .before .before .args .toks .now in
+    let N0 = c .before .before .before .before .before .before .before .before .before .before .before .before .before .before .before .before .before .before .before .before .before .before .before .before .before .before .args .env .now in
+    let J0 = c .before .before .before .before .before .before .before .before .before .before .before .before .before .before .before .before .before .before .before .before .before .before .before .before .before .before .args .table .now in
+    let L0 = c .before .before .before .before .before .before .before .before .before .before .before .before .before .before .before .before .before .before .before .before .before .before .before .before .before .before .args .scratch .now in
+    let H0 = c .before .before .before .before .before .before .before .before .before .before .before .before .before .before .before .before .before .before .before .before .before .before .before .before .before .before .args .finds .now in
+    let S0 = c .before .before .before .before .before .before .before .before .before .before .before .before .before .before .before .before .before .before .before .before .before .before .before .before .before .before .args .s in
+    let L3 = c .before .before .before .before .before .before .before .before .before .before .before .before .before .before .before .arg-item .last .1 .1 .1 .1 .0 in
+    let H3 = c .before .before .before .before .before .before .before .before .before .before .before .before .before .before .before .arg-item .last .1 .1 .1 .1 .1 .0 in
+    let S3 = c .before .before .before .before .before .before .before .before .before .item2 .given .0 .0 in
+    let L4 = c .before .before .before .before .before .eat .last .1 .0 in
+    let H4 = c .before .before .before .before .before .eat .last .1 .1 .0 in
+    let S5 = c .state .result in
+    by-steps {m = (mem X0 T0 N0 J0 L0 H0 S0)} {m' = (mem X0 T0 N0 J0 L4 H4 S5)} (c .before .before .before .before .before .before .before .before .before .before .before .before .before .before .before .before .before .before .before .before .before .before .before .before .before .before .pre .1 .0) (λ b. s-kind {a = (mem X0 T0 N0 J0 L0 H0 S0)} {e = (mem X0 T0 N0 J0 L4 H4 S5)} (s-false {a = (mem X0 T0 N0 J0 L0 H0 S0)} {e = (mem X0 T0 N0 J0 L4 H4 S5)} _ _ (kind-off _ _ (mem X0 T0 N0 J0 L0 H0 S0) _ (c .before .before .before .before .before .before .before .before .before .before .before .before .before .before .before .before .before .before .before .at .ensures) (c .before .before .before .before .before .before .before .before .before .before .before .before .before .before .before .before .before .before .if1 .left)) (s-by {a = (mem X0 T0 N0 J0 L0 H0 S0)} {c = (mem X0 T0 N0 J0 L3 H3 S3)} {e = (mem X0 T0 N0 J0 L4 H4 S5)} _ (runs-in {a = (mem X0 T0 N0 J0 L0 H0 S0)} {c = (mem X0 T0 N0 J0 L3 H3 S3)} (rw (c .before .before .before .before .before .before .before .before .before .item2 .given .1) at (c .before .before .before .before .before .before .before .before .before .before .before .before .before .before .before .arg-item .ensures))) (s-eats _ _ {x = X0} {t = T0} {n = N0} {j = J0} {l = L3} {h = H3} {l' = L4} {s = S3} {s' = S5} {e = (mem X0 T0 N0 J0 L4 H4 S5)} _ {h' = H4} (eats-settled (c .state .ensures) (c .before .before .before .before .before .eat .ensures)) s-end))))
 
 abbrev args-Inv-loop : args-lts.InvT-loop
 args-Inv-loop text toks env table scratch₀ finds₀ left end e b s1₀ scratch finds s1 =
@@ -784,14 +819,17 @@ as-pat-tl-refuse-requires t c κs =
     tt
 
 as-pat-tl-returns : (t : ℕ) → as-pat-tl-lts.Need-returns (as-pat-tl-told t) (as-pat-tl-at t) as-pat-tl.Post
-unfolding pat.asPatTl plan choose chosen
+unfolding pat.asPatTl plan choose chosen hushed
 as-pat-tl-returns t c =
-    let pre0 = c .before .before .before .before .before .before .before .before .before .before .pre .1 in
-    let at = c .before .before .before .at .ensures in
-    let if1 = c .before .before .if1 .taken in
-    let if2 = c .before .if2 .taken in
-    let refuse = c .refuse .ensures in
-    by-steps pre0 (λ b. s-kind (s-true _ _ (kind-at _ _ _ _ at if1) (s-deep if2 refuse s-end)))
+    let X0 = c .before .before .before .before .before .before .before .before .before .before .args .text .now in
+    let T0 = c .before .before .before .before .before .before .before .before .before .before .args .toks .now in
+    let N0 = c .before .before .before .before .before .before .before .before .before .before .args .env .now in
+    let J0 = c .before .before .before .before .before .before .before .before .before .before .args .table .now in
+    let L0 = c .before .before .before .before .before .before .before .before .before .before .args .scratch .now in
+    let H0 = c .before .before .before .before .before .before .before .before .before .before .args .finds .now in
+    let S0 = c .before .before .before .before .before .before .before .before .before .before .args .s in
+    let S4 = c .refuse .result in
+    by-steps {m = (mem X0 T0 N0 J0 L0 H0 S0)} {m' = (mem X0 T0 N0 J0 L0 H0 S4)} (c .before .before .before .before .before .before .before .before .before .before .pre .1) (λ b. s-kind {a = (mem X0 T0 N0 J0 L0 H0 S0)} {e = (mem X0 T0 N0 J0 L0 H0 S4)} (s-true {a = (mem X0 T0 N0 J0 L0 H0 S0)} {e = (mem X0 T0 N0 J0 L0 H0 S4)} _ _ (kind-at _ _ (mem X0 T0 N0 J0 L0 H0 S0) _ (c .before .before .before .at .ensures) (c .before .before .if1 .taken)) (s-shut (c .before .if2 .taken) (c .refuse .ensures) (λ k l. refl))))
 
 as-pat-tl-mark-requires : (t : ℕ) → as-pat-tl-lts.Need-mark-requires (as-pat-tl-told t) (as-pat-tl-at t) as-pat-tl.Post
 as-pat-tl-mark-requires t c κs =
@@ -844,23 +882,34 @@ as-pat-tl-same-length-2 t c =
 as-pat-tl-returns-2 : (t : ℕ) → as-pat-tl-lts.Need-returns-2 (as-pat-tl-told t) (as-pat-tl-at t) as-pat-tl.Post
 unfolding pat.asPatTl plan choose chosen
 as-pat-tl-returns-2 t c =
-    let pre0 = c .before .before .before .before .before .before .before .before .before .before .before .before .before .before .before .before .before .before .before .before .before .before .before .before .before .pre .1 in
-    let at = c .before .before .before .before .before .before .before .before .before .before .before .before .before .before .before .before .before .before .at .ensures in
-    let if1 = c .before .before .before .before .before .before .before .before .before .before .before .before .before .before .before .before .before .if1 .taken in
-    let if2 = c .before .before .before .before .before .before .before .before .before .before .before .before .before .before .before .before .if2 .left in
-    let mark = c .before .before .before .before .before .before .before .before .before .before .before .before .before .before .before .mark .ensures in
-    let bump = c .before .before .before .before .before .before .before .before .before .before .before .before .before .bump .ensures in
-    let pat-must = c .before .before .before .before .before .before .before .before .pat-must .ensures in
-    let close = c .before .before .close .ensures in
-    by-steps pre0 (λ b. s-kind (s-true _ _ (kind-at _ _ _ _ at if1) (s-mark if2 mark (s-bump bump (s-by _ (runs-in pat-must) (s-close close s-end))))))
+    let X0 = c .before .before .before .before .before .before .before .before .before .before .before .before .before .before .before .before .before .before .before .before .before .before .before .before .before .args .text .now in
+    let T0 = c .before .before .before .before .before .before .before .before .before .before .before .before .before .before .before .before .before .before .before .before .before .before .before .before .before .args .toks .now in
+    let N0 = c .before .before .before .before .before .before .before .before .before .before .before .before .before .before .before .before .before .before .before .before .before .before .before .before .before .args .env .now in
+    let J0 = c .before .before .before .before .before .before .before .before .before .before .before .before .before .before .before .before .before .before .before .before .before .before .before .before .before .args .table .now in
+    let L0 = c .before .before .before .before .before .before .before .before .before .before .before .before .before .before .before .before .before .before .before .before .before .before .before .before .before .args .scratch .now in
+    let H0 = c .before .before .before .before .before .before .before .before .before .before .before .before .before .before .before .before .before .before .before .before .before .before .before .before .before .args .finds .now in
+    let S0 = c .before .before .before .before .before .before .before .before .before .before .before .before .before .before .before .before .before .before .before .before .before .before .before .before .before .args .s in
+    let S4 = c .before .before .before .before .before .before .before .before .before .before .before .before .before .before .before .mark .result in
+    let L5 = c .before .before .before .before .before .before .before .before .before .before .before .before .before .bump .last .1 .0 in
+    let S5 = c .before .before .before .before .before .before .before .before .before .before .before .before .before .bump .result in
+    let L6 = c .before .before .before .before .before .before .before .before .pat-must .last .1 .1 .1 .1 .0 in
+    let H6 = c .before .before .before .before .before .before .before .before .pat-must .last .1 .1 .1 .1 .1 .0 in
+    let S6 = c .before .before .before .before .before .before .before .before .pat-must .result in
+    let L7 = c .before .before .close .last .0 in
+    let S7 = c .before .before .close .result in
+    by-steps {m = (mem X0 T0 N0 J0 L0 H0 S0)} {m' = (mem X0 T0 N0 J0 L7 H6 S7)} (c .before .before .before .before .before .before .before .before .before .before .before .before .before .before .before .before .before .before .before .before .before .before .before .before .before .pre .1) (λ b. s-kind {a = (mem X0 T0 N0 J0 L0 H0 S0)} {e = (mem X0 T0 N0 J0 L7 H6 S7)} (s-true {a = (mem X0 T0 N0 J0 L0 H0 S0)} {e = (mem X0 T0 N0 J0 L7 H6 S7)} _ _ (kind-at _ _ (mem X0 T0 N0 J0 L0 H0 S0) _ (c .before .before .before .before .before .before .before .before .before .before .before .before .before .before .before .before .before .before .at .ensures) (c .before .before .before .before .before .before .before .before .before .before .before .before .before .before .before .before .before .if1 .taken)) (s-mark {e = (mem X0 T0 N0 J0 L7 H6 S7)} {x = X0} {t = T0} {n = N0} {j = J0} {l = L0} {h = H0} {s = S0} {s' = S4} (c .before .before .before .before .before .before .before .before .before .before .before .before .before .before .before .before .if2 .left) (c .before .before .before .before .before .before .before .before .before .before .before .before .before .before .before .mark .ensures) (s-bump {e = (mem X0 T0 N0 J0 L7 H6 S7)} {x = X0} {t = T0} {n = N0} {j = J0} {l = L0} {h = H0} {s = S4} {s' = S5} {l' = L5} (c .before .before .before .before .before .before .before .before .before .before .before .before .before .bump .ensures) (s-by {a = (mem X0 T0 N0 J0 L5 H0 S5)} {c = (mem X0 T0 N0 J0 L6 H6 S6)} {e = (mem X0 T0 N0 J0 L7 H6 S7)} _ (runs-in {a = (mem X0 T0 N0 J0 L5 H0 S5)} {c = (mem X0 T0 N0 J0 L6 H6 S6)} (c .before .before .before .before .before .before .before .before .pat-must .ensures)) (s-close {e = (mem X0 T0 N0 J0 L7 H6 S7)} {x = X0} {t = T0} {n = N0} {j = J0} {l = L6} {h = H6} {s = S6} {s' = S7} {l' = L7} (c .before .before .close .ensures) s-end))))))
 
 as-pat-tl-returns-3 : (t : ℕ) → as-pat-tl-lts.Need-returns-3 (as-pat-tl-told t) (as-pat-tl-at t) as-pat-tl.Post
 unfolding pat.asPatTl plan choose chosen
 as-pat-tl-returns-3 t c =
-    let pre0 = c .before .before .before .before .before .before .before .before .pre .1 in
-    let at = c .before .at .ensures in
-    let if1 = c .if1 .left in
-    by-steps pre0 (λ b. s-kind (s-false _ _ (kind-off _ _ _ _ at if1) s-end))
+    let X0 = c .before .before .before .before .before .before .before .before .args .text .now in
+    let T0 = c .before .before .before .before .before .before .before .before .args .toks .now in
+    let N0 = c .before .before .before .before .before .before .before .before .args .env .now in
+    let J0 = c .before .before .before .before .before .before .before .before .args .table .now in
+    let L0 = c .before .before .before .before .before .before .before .before .args .scratch .now in
+    let H0 = c .before .before .before .before .before .before .before .before .args .finds .now in
+    let S0 = c .before .before .before .before .before .before .before .before .args .s in
+    by-steps {m = (mem X0 T0 N0 J0 L0 H0 S0)} {m' = (mem X0 T0 N0 J0 L0 H0 S0)} (c .before .before .before .before .before .before .before .before .pre .1) (λ b. s-kind {a = (mem X0 T0 N0 J0 L0 H0 S0)} {e = (mem X0 T0 N0 J0 L0 H0 S0)} (s-false {a = (mem X0 T0 N0 J0 L0 H0 S0)} {e = (mem X0 T0 N0 J0 L0 H0 S0)} _ _ (kind-off _ _ (mem X0 T0 N0 J0 L0 H0 S0) _ (c .before .at .ensures) (c .if1 .left)) s-end))
 
 as-step-is-infix-requires : (t : ℕ) → as-step-lts.Need-is-infix-requires (as-step-told t) (as-step-at t) as-step.Post
 as-step-is-infix-requires t c κs =
@@ -869,24 +918,31 @@ as-step-is-infix-requires t c κs =
 as-step-returns : (t : ℕ) → as-step-lts.Need-returns (as-step-told t) (as-step-at t) as-step.Post
 unfolding pat.asStep plan choose chosen
 as-step-returns t c =
-    let pre0 = c .before .before .before .before .before .before .before .before .pre .1 .0 in
-    let is-infix = c .before .is-infix .ensures in
-    let if1 = c .if1 .taken in
-    in-steps pre0 (s-true _ _ (test-true is-infix if1) s-end)
+    let X0 = c .before .before .before .before .before .before .before .before .args .text .now in
+    let T0 = c .before .before .before .before .before .before .before .before .args .toks .now in
+    let N0 = c .before .before .before .before .before .before .before .before .args .env .now in
+    let J0 = c .before .before .before .before .before .before .before .before .args .table .now in
+    let L0 = c .before .before .before .before .before .before .before .before .args .scratch .now in
+    let H0 = c .before .before .before .before .before .before .before .before .args .finds .now in
+    let S0 = c .before .before .before .before .before .before .before .before .args .s in
+    in-steps {m = (mem X0 T0 N0 J0 L0 H0 S0)} {m' = (mem X0 T0 N0 J0 L0 H0 S0)} (c .before .before .before .before .before .before .before .before .pre .1 .0) (s-true {a = (mem X0 T0 N0 J0 L0 H0 S0)} {e = (mem X0 T0 N0 J0 L0 H0 S0)} _ _ (test-true (c .before .is-infix .ensures) (c .if1 .taken)) s-end)
 
 as-step-refuse-requires : (t : ℕ) → as-step-lts.Need-refuse-requires (as-step-told t) (as-step-at t) as-step.Post
 as-step-refuse-requires t c κs =
     tt
 
 as-step-returns-2 : (t : ℕ) → as-step-lts.Need-returns-2 (as-step-told t) (as-step-at t) as-step.Post
-unfolding pat.asStep plan choose chosen
+unfolding pat.asStep plan choose chosen hushed
 as-step-returns-2 t c =
-    let pre0 = c .before .before .before .before .before .before .before .before .before .before .pre .1 .0 in
-    let is-infix = c .before .before .before .is-infix .ensures in
-    let if1 = c .before .before .if1 .left in
-    let if2 = c .before .if2 .taken in
-    let refuse = c .refuse .ensures in
-    in-steps pre0 (s-false _ _ (test-false is-infix if1) (s-deep if2 refuse s-end))
+    let X0 = c .before .before .before .before .before .before .before .before .before .before .args .text .now in
+    let T0 = c .before .before .before .before .before .before .before .before .before .before .args .toks .now in
+    let N0 = c .before .before .before .before .before .before .before .before .before .before .args .env .now in
+    let J0 = c .before .before .before .before .before .before .before .before .before .before .args .table .now in
+    let L0 = c .before .before .before .before .before .before .before .before .before .before .args .scratch .now in
+    let H0 = c .before .before .before .before .before .before .before .before .before .before .args .finds .now in
+    let S0 = c .before .before .before .before .before .before .before .before .before .before .args .s in
+    let S4 = c .refuse .result in
+    in-steps {m = (mem X0 T0 N0 J0 L0 H0 S0)} {m' = (mem X0 T0 N0 J0 L0 H0 S4)} (c .before .before .before .before .before .before .before .before .before .before .pre .1 .0) (s-false {a = (mem X0 T0 N0 J0 L0 H0 S0)} {e = (mem X0 T0 N0 J0 L0 H0 S4)} _ _ (test-false (c .before .before .before .is-infix .ensures) (c .before .before .if1 .left)) (s-shut (c .before .if2 .taken) (c .refuse .ensures) (λ k l. refl)))
 
 as-step-mark-requires : (t : ℕ) → as-step-lts.Need-mark-requires (as-step-told t) (as-step-at t) as-step.Post
 as-step-mark-requires t c κs =
@@ -967,14 +1023,20 @@ as-step-same-length-2 t c =
 as-step-returns-3 : (t : ℕ) → as-step-lts.Need-returns-3 (as-step-told t) (as-step-at t) as-step.Post
 unfolding pat.asStep plan choose chosen
 as-step-returns-3 t c =
-    let pre0 = c .before .before .before .before .before .before .before .before .before .before .before .before .before .before .before .before .before .before .before .before .before .before .before .before .pre .1 .0 in
-    let is-infix = c .before .before .before .before .before .before .before .before .before .before .before .before .before .before .before .before .before .is-infix .ensures in
-    let if1 = c .before .before .before .before .before .before .before .before .before .before .before .before .before .before .before .before .if1 .left in
-    let if2 = c .before .before .before .before .before .before .before .before .before .before .before .before .before .before .before .if2 .left in
-    let mark = c .before .before .before .before .before .before .before .before .before .before .before .before .before .before .mark .ensures in
-    let as-pat-tl = rw (c .before .before .before .before .before .got .given .1) at (c .before .before .before .before .before .before .before .before .before .before .before .as-pat-tl .ensures) in
-    let close = c .before .before .close .ensures in
-    in-steps pre0 (s-false _ _ (test-false is-infix if1) (s-mark if2 mark (s-by _ (runs-in as-pat-tl) (s-close close s-end))))
+    let X0 = c .before .before .before .before .before .before .before .before .before .before .before .before .before .before .before .before .before .before .before .before .before .before .before .before .args .text .now in
+    let T0 = c .before .before .before .before .before .before .before .before .before .before .before .before .before .before .before .before .before .before .before .before .before .before .before .before .args .toks .now in
+    let N0 = c .before .before .before .before .before .before .before .before .before .before .before .before .before .before .before .before .before .before .before .before .before .before .before .before .args .env .now in
+    let J0 = c .before .before .before .before .before .before .before .before .before .before .before .before .before .before .before .before .before .before .before .before .before .before .before .before .args .table .now in
+    let L0 = c .before .before .before .before .before .before .before .before .before .before .before .before .before .before .before .before .before .before .before .before .before .before .before .before .args .scratch .now in
+    let H0 = c .before .before .before .before .before .before .before .before .before .before .before .before .before .before .before .before .before .before .before .before .before .before .before .before .args .finds .now in
+    let S0 = c .before .before .before .before .before .before .before .before .before .before .before .before .before .before .before .before .before .before .before .before .before .before .before .before .args .s in
+    let S4 = c .before .before .before .before .before .before .before .before .before .before .before .before .before .before .mark .result in
+    let L5 = c .before .before .before .before .before .before .before .before .before .before .before .as-pat-tl .last .1 .1 .1 .1 .0 in
+    let H5 = c .before .before .before .before .before .before .before .before .before .before .before .as-pat-tl .last .1 .1 .1 .1 .1 .0 in
+    let S5 = c .before .before .before .before .before .got .given .0 .0 in
+    let L6 = c .before .before .close .last .0 in
+    let S6 = c .before .before .close .result in
+    in-steps {m = (mem X0 T0 N0 J0 L0 H0 S0)} {m' = (mem X0 T0 N0 J0 L6 H5 S6)} (c .before .before .before .before .before .before .before .before .before .before .before .before .before .before .before .before .before .before .before .before .before .before .before .before .pre .1 .0) (s-false {a = (mem X0 T0 N0 J0 L0 H0 S0)} {e = (mem X0 T0 N0 J0 L6 H5 S6)} _ _ (test-false (c .before .before .before .before .before .before .before .before .before .before .before .before .before .before .before .before .before .is-infix .ensures) (c .before .before .before .before .before .before .before .before .before .before .before .before .before .before .before .before .if1 .left)) (s-mark {e = (mem X0 T0 N0 J0 L6 H5 S6)} {x = X0} {t = T0} {n = N0} {j = J0} {l = L0} {h = H0} {s = S0} {s' = S4} (c .before .before .before .before .before .before .before .before .before .before .before .before .before .before .before .if2 .left) (c .before .before .before .before .before .before .before .before .before .before .before .before .before .before .mark .ensures) (s-by {a = (mem X0 T0 N0 J0 L0 H0 S4)} {c = (mem X0 T0 N0 J0 L5 H5 S5)} {e = (mem X0 T0 N0 J0 L6 H5 S6)} _ (runs-in {a = (mem X0 T0 N0 J0 L0 H0 S4)} {c = (mem X0 T0 N0 J0 L5 H5 S5)} (rw (c .before .before .before .before .before .got .given .1) at (c .before .before .before .before .before .before .before .before .before .before .before .as-pat-tl .ensures))) (s-close {e = (mem X0 T0 N0 J0 L6 H5 S6)} {x = X0} {t = T0} {n = N0} {j = J0} {l = L5} {h = H5} {s = S5} {s' = S6} {l' = L6} (c .before .before .close .ensures) s-end))))
 
 as-step-same-length-3 : (t : ℕ) → as-step-lts.Need-same-length-3 (as-step-told t) (as-step-at t) as-step.Post
 as-step-same-length-3 t c =
@@ -987,15 +1049,22 @@ as-step-same-length-4 t c =
 as-step-returns-4 : (t : ℕ) → as-step-lts.Need-returns-4 (as-step-told t) (as-step-at t) as-step.Post
 unfolding pat.asStep plan choose chosen
 as-step-returns-4 t c =
-    let pre0 = c .before .before .before .before .before .before .before .before .before .before .before .before .before .before .before .before .before .before .before .before .before .before .before .before .before .before .before .before .pre .1 .0 in
-    let is-infix = c .before .before .before .before .before .before .before .before .before .before .before .before .before .before .before .before .before .before .before .before .before .is-infix .ensures in
-    let if1 = c .before .before .before .before .before .before .before .before .before .before .before .before .before .before .before .before .before .before .before .before .if1 .left in
-    let if2 = c .before .before .before .before .before .before .before .before .before .before .before .before .before .before .before .before .before .before .before .if2 .left in
-    let mark = c .before .before .before .before .before .before .before .before .before .before .before .before .before .before .before .before .before .before .mark .ensures in
-    let as-pat-tl = rw (c .before .before .before .before .before .before .before .before .before .got2 .given .1) at (c .before .before .before .before .before .before .before .before .before .before .before .before .before .before .before .as-pat-tl .ensures) in
-    let report = c .before .before .before .before .before .before .report .ensures in
-    let close2 = c .before .before .close2 .ensures in
-    in-steps pre0 (s-false _ _ (test-false is-infix if1) (s-mark if2 mark (s-by _ (runs-in as-pat-tl) (s-report report (s-close close2 s-end)))))
+    let X0 = c .before .before .before .before .before .before .before .before .before .before .before .before .before .before .before .before .before .before .before .before .before .before .before .before .before .before .before .before .args .text .now in
+    let T0 = c .before .before .before .before .before .before .before .before .before .before .before .before .before .before .before .before .before .before .before .before .before .before .before .before .before .before .before .before .args .toks .now in
+    let N0 = c .before .before .before .before .before .before .before .before .before .before .before .before .before .before .before .before .before .before .before .before .before .before .before .before .before .before .before .before .args .env .now in
+    let J0 = c .before .before .before .before .before .before .before .before .before .before .before .before .before .before .before .before .before .before .before .before .before .before .before .before .before .before .before .before .args .table .now in
+    let L0 = c .before .before .before .before .before .before .before .before .before .before .before .before .before .before .before .before .before .before .before .before .before .before .before .before .before .before .before .before .args .scratch .now in
+    let H0 = c .before .before .before .before .before .before .before .before .before .before .before .before .before .before .before .before .before .before .before .before .before .before .before .before .before .before .before .before .args .finds .now in
+    let S0 = c .before .before .before .before .before .before .before .before .before .before .before .before .before .before .before .before .before .before .before .before .before .before .before .before .before .before .before .before .args .s in
+    let S4 = c .before .before .before .before .before .before .before .before .before .before .before .before .before .before .before .before .before .before .mark .result in
+    let L5 = c .before .before .before .before .before .before .before .before .before .before .before .before .before .before .before .as-pat-tl .last .1 .1 .1 .1 .0 in
+    let H5 = c .before .before .before .before .before .before .before .before .before .before .before .before .before .before .before .as-pat-tl .last .1 .1 .1 .1 .1 .0 in
+    let S5 = c .before .before .before .before .before .before .before .before .before .got2 .given .0 .0 in
+    let H6 = c .before .before .before .before .before .before .report .last .0 in
+    let S6 = c .before .before .before .before .before .before .report .result in
+    let L7 = c .before .before .close2 .last .0 in
+    let S7 = c .before .before .close2 .result in
+    in-steps {m = (mem X0 T0 N0 J0 L0 H0 S0)} {m' = (mem X0 T0 N0 J0 L7 H6 S7)} (c .before .before .before .before .before .before .before .before .before .before .before .before .before .before .before .before .before .before .before .before .before .before .before .before .before .before .before .before .pre .1 .0) (s-false {a = (mem X0 T0 N0 J0 L0 H0 S0)} {e = (mem X0 T0 N0 J0 L7 H6 S7)} _ _ (test-false (c .before .before .before .before .before .before .before .before .before .before .before .before .before .before .before .before .before .before .before .before .before .is-infix .ensures) (c .before .before .before .before .before .before .before .before .before .before .before .before .before .before .before .before .before .before .before .before .if1 .left)) (s-mark {e = (mem X0 T0 N0 J0 L7 H6 S7)} {x = X0} {t = T0} {n = N0} {j = J0} {l = L0} {h = H0} {s = S0} {s' = S4} (c .before .before .before .before .before .before .before .before .before .before .before .before .before .before .before .before .before .before .before .if2 .left) (c .before .before .before .before .before .before .before .before .before .before .before .before .before .before .before .before .before .before .mark .ensures) (s-by {a = (mem X0 T0 N0 J0 L0 H0 S4)} {c = (mem X0 T0 N0 J0 L5 H5 S5)} {e = (mem X0 T0 N0 J0 L7 H6 S7)} _ (runs-in {a = (mem X0 T0 N0 J0 L0 H0 S4)} {c = (mem X0 T0 N0 J0 L5 H5 S5)} (rw (c .before .before .before .before .before .before .before .before .before .got2 .given .1) at (c .before .before .before .before .before .before .before .before .before .before .before .before .before .before .before .as-pat-tl .ensures))) (s-report {e = (mem X0 T0 N0 J0 L7 H6 S7)} {x = X0} {t = T0} {n = N0} {j = J0} {l = L5} {h = H5} {s = S5} {s' = S6} {h' = H6} (c .before .before .before .before .before .before .report .ensures) (s-close {e = (mem X0 T0 N0 J0 L7 H6 S7)} {x = X0} {t = T0} {n = N0} {j = J0} {l = L5} {h = H6} {s = S6} {s' = S7} {l' = L7} (c .before .before .close2 .ensures) s-end)))))
 
 at-head-s-con-requires : (t : ℕ) → at-head-lts.Need-s-con-requires (at-head-told t) (at-head-at t) at-head.Post
 at-head-s-con-requires t c κs =
@@ -1021,12 +1090,18 @@ at-head-same-length t c =
 at-head-returns : (t : ℕ) → at-head-lts.Need-returns (at-head-told t) (at-head-at t) at-head.Post
 unfolding pat.atPatHead plan choose chosen
 at-head-returns t c =
-    let pre0 = c .before .before .before .before .before .before .before .before .before .before .before .before .before .before .before .before .pre .1 .0 in
-    let s-con = c .before .before .before .before .before .before .before .before .before .s-con .ensures in
-    let if1 = c .before .before .before .before .before .before .before .before .if1 .taken in
-    let bump = c .before .before .before .before .before .before .bump .ensures in
-    let close = c .before .before .close .ensures in
-    in-steps pre0 (s-true _ _ (test-true s-con if1) (s-bump bump (s-close close s-end)))
+    let X0 = c .before .before .before .before .before .before .before .before .before .before .before .before .before .before .before .before .args .text .now in
+    let T0 = c .before .before .before .before .before .before .before .before .before .before .before .before .before .before .before .before .args .toks .now in
+    let N0 = c .before .before .before .before .before .before .before .before .before .before .before .before .before .before .before .before .args .env .now in
+    let J0 = c .before .before .before .before .before .before .before .before .before .before .before .before .before .before .before .before .args .table .now in
+    let L0 = c .before .before .before .before .before .before .before .before .before .before .before .before .before .before .before .before .args .scratch .now in
+    let H0 = c .before .before .before .before .before .before .before .before .before .before .before .before .before .before .before .before .args .finds .now in
+    let S0 = c .before .before .before .before .before .before .before .before .before .before .before .before .before .before .before .before .args .s in
+    let L3 = c .before .before .before .before .before .before .bump .last .1 .0 in
+    let S3 = c .before .before .before .before .before .before .bump .result in
+    let L4 = c .before .before .close .last .0 in
+    let S4 = c .before .before .close .result in
+    in-steps {m = (mem X0 T0 N0 J0 L0 H0 S0)} {m' = (mem X0 T0 N0 J0 L4 H0 S4)} (c .before .before .before .before .before .before .before .before .before .before .before .before .before .before .before .before .pre .1 .0) (s-true {a = (mem X0 T0 N0 J0 L0 H0 S0)} {e = (mem X0 T0 N0 J0 L4 H0 S4)} _ _ (test-true (c .before .before .before .before .before .before .before .before .before .s-con .ensures) (c .before .before .before .before .before .before .before .before .if1 .taken)) (s-bump {e = (mem X0 T0 N0 J0 L4 H0 S4)} {x = X0} {t = T0} {n = N0} {j = J0} {l = L0} {h = H0} {s = S0} {s' = S3} {l' = L3} (c .before .before .before .before .before .before .bump .ensures) (s-close {e = (mem X0 T0 N0 J0 L4 H0 S4)} {x = X0} {t = T0} {n = N0} {j = J0} {l = L3} {h = H0} {s = S3} {s' = S4} {l' = L4} (c .before .before .close .ensures) s-end)))
 
 at-head-bump-requires-2 : (t : ℕ) → at-head-lts.Need-bump-requires-2 (at-head-told t) (at-head-at t) at-head.Post
 at-head-bump-requires-2 t c κs =
@@ -1048,13 +1123,18 @@ at-head-same-length-2 t c =
 at-head-returns-2 : (t : ℕ) → at-head-lts.Need-returns-2 (at-head-told t) (at-head-at t) at-head.Post
 unfolding pat.atPatHead plan choose chosen
 at-head-returns-2 t c =
-    let pre0 = c .before .before .before .before .before .before .before .before .before .before .before .before .before .before .before .before .before .pre .1 .0 in
-    let s-con = c .before .before .before .before .before .before .before .before .before .before .s-con .ensures in
-    let if1 = c .before .before .before .before .before .before .before .before .before .if1 .left in
-    let if2 = c .before .before .before .before .before .before .before .before .if2 .taken in
-    let bump2 = c .before .before .before .before .before .before .bump2 .ensures in
-    let close2 = c .before .before .close2 .ensures in
-    in-steps pre0 (s-false _ _ (test-false s-con if1) (s-true _ _ (kind-is if2) (s-bump bump2 (s-close close2 s-end))))
+    let X0 = c .before .before .before .before .before .before .before .before .before .before .before .before .before .before .before .before .before .args .text .now in
+    let T0 = c .before .before .before .before .before .before .before .before .before .before .before .before .before .before .before .before .before .args .toks .now in
+    let N0 = c .before .before .before .before .before .before .before .before .before .before .before .before .before .before .before .before .before .args .env .now in
+    let J0 = c .before .before .before .before .before .before .before .before .before .before .before .before .before .before .before .before .before .args .table .now in
+    let L0 = c .before .before .before .before .before .before .before .before .before .before .before .before .before .before .before .before .before .args .scratch .now in
+    let H0 = c .before .before .before .before .before .before .before .before .before .before .before .before .before .before .before .before .before .args .finds .now in
+    let S0 = c .before .before .before .before .before .before .before .before .before .before .before .before .before .before .before .before .before .args .s in
+    let L4 = c .before .before .before .before .before .before .bump2 .last .1 .0 in
+    let S4 = c .before .before .before .before .before .before .bump2 .result in
+    let L5 = c .before .before .close2 .last .0 in
+    let S5 = c .before .before .close2 .result in
+    in-steps {m = (mem X0 T0 N0 J0 L0 H0 S0)} {m' = (mem X0 T0 N0 J0 L5 H0 S5)} (c .before .before .before .before .before .before .before .before .before .before .before .before .before .before .before .before .before .pre .1 .0) (s-false {a = (mem X0 T0 N0 J0 L0 H0 S0)} {e = (mem X0 T0 N0 J0 L5 H0 S5)} _ _ (test-false (c .before .before .before .before .before .before .before .before .before .before .s-con .ensures) (c .before .before .before .before .before .before .before .before .before .if1 .left)) (s-true {a = (mem X0 T0 N0 J0 L0 H0 S0)} {e = (mem X0 T0 N0 J0 L5 H0 S5)} _ _ (kind-is (c .before .before .before .before .before .before .before .before .if2 .taken)) (s-bump {e = (mem X0 T0 N0 J0 L5 H0 S5)} {x = X0} {t = T0} {n = N0} {j = J0} {l = L0} {h = H0} {s = S0} {s' = S4} {l' = L4} (c .before .before .before .before .before .before .bump2 .ensures) (s-close {e = (mem X0 T0 N0 J0 L5 H0 S5)} {x = X0} {t = T0} {n = N0} {j = J0} {l = L4} {h = H0} {s = S4} {s' = S5} {l' = L5} (c .before .before .close2 .ensures) s-end))))
 
 at-head-path-infix-requires : (t : ℕ) → at-head-lts.Need-path-infix-requires (at-head-told t) (at-head-at t) at-head.Post
 at-head-path-infix-requires t c κs =
@@ -1085,15 +1165,20 @@ at-head-same-length-4 t c =
 at-head-returns-3 : (t : ℕ) → at-head-lts.Need-returns-3 (at-head-told t) (at-head-at t) at-head.Post
 unfolding pat.atPatHead plan choose chosen
 at-head-returns-3 t c =
-    let pre0 = c .before .before .before .before .before .before .before .before .before .before .before .before .before .before .before .before .before .before .before .before .before .before .pre .1 .0 in
-    let s-con = c .before .before .before .before .before .before .before .before .before .before .before .before .before .before .before .s-con .ensures in
-    let if1 = c .before .before .before .before .before .before .before .before .before .before .before .before .before .before .if1 .left in
-    let if2 = c .before .before .before .before .before .before .before .before .before .before .before .before .before .if2 .left in
-    let if3 = c .before .before .before .before .before .before .before .before .before .before .before .before .if3 .taken in
-    let path-infix = c .before .before .before .before .before .before .before .before .before .path-infix .ensures in
-    let state = c .before .before .before .before .state .ensures in
-    let close3 = c .before .before .close3 .ensures in
-    in-steps pre0 (s-false _ _ (test-false s-con if1) (s-false _ _ (kind-not if2) (s-true _ _ (kind-is if3) (s-by _ (settled state (runs-in path-infix)) (s-close close3 s-end)))))
+    let X0 = c .before .before .before .before .before .before .before .before .before .before .before .before .before .before .before .before .before .before .before .before .before .before .args .text .now in
+    let T0 = c .before .before .before .before .before .before .before .before .before .before .before .before .before .before .before .before .before .before .before .before .before .before .args .toks .now in
+    let N0 = c .before .before .before .before .before .before .before .before .before .before .before .before .before .before .before .before .before .before .before .before .before .before .args .env .now in
+    let J0 = c .before .before .before .before .before .before .before .before .before .before .before .before .before .before .before .before .before .before .before .before .before .before .args .table .now in
+    let L0 = c .before .before .before .before .before .before .before .before .before .before .before .before .before .before .before .before .before .before .before .before .before .before .args .scratch .now in
+    let H0 = c .before .before .before .before .before .before .before .before .before .before .before .before .before .before .before .before .before .before .before .before .before .before .args .finds .now in
+    let S0 = c .before .before .before .before .before .before .before .before .before .before .before .before .before .before .before .before .before .before .before .before .before .before .args .s in
+    let L5 = c .before .before .before .before .before .before .before .before .before .path-infix .last .1 .1 .1 .1 .0 in
+    let H5 = c .before .before .before .before .before .before .before .before .before .path-infix .last .1 .1 .1 .1 .1 .0 in
+    let S5 = outState (c .before .before .before .before .before .before .before .before .before .path-infix .result) in
+    let S6 = c .before .before .before .before .state .result in
+    let L7 = c .before .before .close3 .last .0 in
+    let S7 = c .before .before .close3 .result in
+    in-steps {m = (mem X0 T0 N0 J0 L0 H0 S0)} {m' = (mem X0 T0 N0 J0 L7 H5 S7)} (c .before .before .before .before .before .before .before .before .before .before .before .before .before .before .before .before .before .before .before .before .before .before .pre .1 .0) (s-false {a = (mem X0 T0 N0 J0 L0 H0 S0)} {e = (mem X0 T0 N0 J0 L7 H5 S7)} _ _ (test-false (c .before .before .before .before .before .before .before .before .before .before .before .before .before .before .before .s-con .ensures) (c .before .before .before .before .before .before .before .before .before .before .before .before .before .before .if1 .left)) (s-false {a = (mem X0 T0 N0 J0 L0 H0 S0)} {e = (mem X0 T0 N0 J0 L7 H5 S7)} _ _ (kind-not (c .before .before .before .before .before .before .before .before .before .before .before .before .before .if2 .left)) (s-true {a = (mem X0 T0 N0 J0 L0 H0 S0)} {e = (mem X0 T0 N0 J0 L7 H5 S7)} _ _ (kind-is (c .before .before .before .before .before .before .before .before .before .before .before .before .if3 .taken)) (s-by {a = (mem X0 T0 N0 J0 L0 H0 S0)} {c = (mem X0 T0 N0 J0 L5 H5 S6)} {e = (mem X0 T0 N0 J0 L7 H5 S7)} _ (settled (c .before .before .before .before .state .ensures) (runs-in {a = (mem X0 T0 N0 J0 L0 H0 S0)} {c = (mem X0 T0 N0 J0 L5 H5 S5)} (c .before .before .before .before .before .before .before .before .before .path-infix .ensures))) (s-close {e = (mem X0 T0 N0 J0 L7 H5 S7)} {x = X0} {t = T0} {n = N0} {j = J0} {l = L5} {h = H5} {s = S6} {s' = S7} {l' = L7} (c .before .before .close3 .ensures) s-end)))))
 
 at-head-name-star-requires : (t : ℕ) → at-head-lts.Need-name-star-requires (at-head-told t) (at-head-at t) at-head.Post
 at-head-name-star-requires t c κs =
@@ -1128,17 +1213,20 @@ at-head-same-length-6 t c =
 at-head-returns-4 : (t : ℕ) → at-head-lts.Need-returns-4 (at-head-told t) (at-head-at t) at-head.Post
 unfolding pat.atPatHead plan choose chosen
 at-head-returns-4 t c =
-    let pre0 = c .before .before .before .before .before .before .before .before .before .before .before .before .before .before .before .before .before .before .before .before .before .before .before .before .pre .1 .0 in
-    let s-con = c .before .before .before .before .before .before .before .before .before .before .before .before .before .before .before .before .before .s-con .ensures in
-    let if1 = c .before .before .before .before .before .before .before .before .before .before .before .before .before .before .before .before .if1 .left in
-    let if2 = c .before .before .before .before .before .before .before .before .before .before .before .before .before .before .before .if2 .left in
-    let if3 = c .before .before .before .before .before .before .before .before .before .before .before .before .before .before .if3 .left in
-    let name-star = c .before .before .before .before .before .before .before .before .before .before .before .before .before .name-star .ensures in
-    let if4 = c .before .before .before .before .before .before .before .before .before .before .before .before .if4 .taken in
-    let con-path = c .before .before .before .before .before .before .before .before .before .con-path .ensures in
-    let state2 = c .before .before .before .before .state2 .ensures in
-    let close4 = c .before .before .close4 .ensures in
-    in-steps pre0 (s-false _ _ (test-false s-con if1) (s-false _ _ (kind-not if2) (s-false _ _ (kind-not if3) (s-true _ _ (test-true name-star if4) (s-by _ (settled state2 (runs-in con-path)) (s-close close4 s-end))))))
+    let X0 = c .before .before .before .before .before .before .before .before .before .before .before .before .before .before .before .before .before .before .before .before .before .before .before .before .args .text .now in
+    let T0 = c .before .before .before .before .before .before .before .before .before .before .before .before .before .before .before .before .before .before .before .before .before .before .before .before .args .toks .now in
+    let N0 = c .before .before .before .before .before .before .before .before .before .before .before .before .before .before .before .before .before .before .before .before .before .before .before .before .args .env .now in
+    let J0 = c .before .before .before .before .before .before .before .before .before .before .before .before .before .before .before .before .before .before .before .before .before .before .before .before .args .table .now in
+    let L0 = c .before .before .before .before .before .before .before .before .before .before .before .before .before .before .before .before .before .before .before .before .before .before .before .before .args .scratch .now in
+    let H0 = c .before .before .before .before .before .before .before .before .before .before .before .before .before .before .before .before .before .before .before .before .before .before .before .before .args .finds .now in
+    let S0 = c .before .before .before .before .before .before .before .before .before .before .before .before .before .before .before .before .before .before .before .before .before .before .before .before .args .s in
+    let L7 = c .before .before .before .before .before .before .before .before .before .con-path .last .1 .1 .1 .1 .0 in
+    let H7 = c .before .before .before .before .before .before .before .before .before .con-path .last .1 .1 .1 .1 .1 .0 in
+    let S7 = outState (c .before .before .before .before .before .before .before .before .before .con-path .result) in
+    let S8 = c .before .before .before .before .state2 .result in
+    let L9 = c .before .before .close4 .last .0 in
+    let S9 = c .before .before .close4 .result in
+    in-steps {m = (mem X0 T0 N0 J0 L0 H0 S0)} {m' = (mem X0 T0 N0 J0 L9 H7 S9)} (c .before .before .before .before .before .before .before .before .before .before .before .before .before .before .before .before .before .before .before .before .before .before .before .before .pre .1 .0) (s-false {a = (mem X0 T0 N0 J0 L0 H0 S0)} {e = (mem X0 T0 N0 J0 L9 H7 S9)} _ _ (test-false (c .before .before .before .before .before .before .before .before .before .before .before .before .before .before .before .before .before .s-con .ensures) (c .before .before .before .before .before .before .before .before .before .before .before .before .before .before .before .before .if1 .left)) (s-false {a = (mem X0 T0 N0 J0 L0 H0 S0)} {e = (mem X0 T0 N0 J0 L9 H7 S9)} _ _ (kind-not (c .before .before .before .before .before .before .before .before .before .before .before .before .before .before .before .if2 .left)) (s-false {a = (mem X0 T0 N0 J0 L0 H0 S0)} {e = (mem X0 T0 N0 J0 L9 H7 S9)} _ _ (kind-not (c .before .before .before .before .before .before .before .before .before .before .before .before .before .before .if3 .left)) (s-true {a = (mem X0 T0 N0 J0 L0 H0 S0)} {e = (mem X0 T0 N0 J0 L9 H7 S9)} _ _ (test-true (c .before .before .before .before .before .before .before .before .before .before .before .before .before .name-star .ensures) (c .before .before .before .before .before .before .before .before .before .before .before .before .if4 .taken)) (s-by {a = (mem X0 T0 N0 J0 L0 H0 S0)} {c = (mem X0 T0 N0 J0 L7 H7 S8)} {e = (mem X0 T0 N0 J0 L9 H7 S9)} _ (settled (c .before .before .before .before .state2 .ensures) (runs-in {a = (mem X0 T0 N0 J0 L0 H0 S0)} {c = (mem X0 T0 N0 J0 L7 H7 S7)} (c .before .before .before .before .before .before .before .before .before .con-path .ensures))) (s-close {e = (mem X0 T0 N0 J0 L9 H7 S9)} {x = X0} {t = T0} {n = N0} {j = J0} {l = L7} {h = H7} {s = S8} {s' = S9} {l' = L9} (c .before .before .close4 .ensures) s-end))))))
 
 at-head-rest-requires : (t : ℕ) → at-head-lts.Need-rest-requires (at-head-told t) (at-head-at t) at-head.Post
 at-head-rest-requires t c κs =
@@ -1162,15 +1250,17 @@ at-head-same-length-8 t c =
 at-head-returns-5 : (t : ℕ) → at-head-lts.Need-returns-5 (at-head-told t) (at-head-at t) at-head.Post
 unfolding pat.atPatHead plan choose chosen
 at-head-returns-5 t c =
-    let pre0 = c .before .before .before .before .before .before .before .before .before .before .before .before .before .before .before .before .before .before .before .pre .1 .0 in
-    let s-con = c .before .before .before .before .before .before .before .before .before .before .before .before .s-con .ensures in
-    let if1 = c .before .before .before .before .before .before .before .before .before .before .before .if1 .left in
-    let if2 = c .before .before .before .before .before .before .before .before .before .before .if2 .left in
-    let if3 = c .before .before .before .before .before .before .before .before .before .if3 .left in
-    let name-star = c .before .before .before .before .before .before .before .before .name-star .ensures in
-    let if4 = c .before .before .before .before .before .before .before .if4 .left in
-    let rest = c .before .before .before .before .rest .ensures in
-    in-steps pre0 (s-false _ _ (test-false s-con if1) (s-false _ _ (kind-not if2) (s-false _ _ (kind-not if3) (s-false _ _ (test-false name-star if4) (s-by _ rest s-end)))))
+    let X0 = c .before .before .before .before .before .before .before .before .before .before .before .before .before .before .before .before .before .before .before .args .text .now in
+    let T0 = c .before .before .before .before .before .before .before .before .before .before .before .before .before .before .before .before .before .before .before .args .toks .now in
+    let N0 = c .before .before .before .before .before .before .before .before .before .before .before .before .before .before .before .before .before .before .before .args .env .now in
+    let J0 = c .before .before .before .before .before .before .before .before .before .before .before .before .before .before .before .before .before .before .before .args .table .now in
+    let L0 = c .before .before .before .before .before .before .before .before .before .before .before .before .before .before .before .before .before .before .before .args .scratch .now in
+    let H0 = c .before .before .before .before .before .before .before .before .before .before .before .before .before .before .before .before .before .before .before .args .finds .now in
+    let S0 = c .before .before .before .before .before .before .before .before .before .before .before .before .before .before .before .before .before .before .before .args .s in
+    let L7 = c .before .before .before .before .rest .last .1 .1 .1 .1 .0 in
+    let H7 = c .before .before .before .before .rest .last .1 .1 .1 .1 .1 .0 in
+    let S7 = outState (c .before .before .before .before .rest .result) in
+    in-steps {m = (mem X0 T0 N0 J0 L0 H0 S0)} {m' = (mem X0 T0 N0 J0 L7 H7 S7)} (c .before .before .before .before .before .before .before .before .before .before .before .before .before .before .before .before .before .before .before .pre .1 .0) (s-false {a = (mem X0 T0 N0 J0 L0 H0 S0)} {e = (mem X0 T0 N0 J0 L7 H7 S7)} _ _ (test-false (c .before .before .before .before .before .before .before .before .before .before .before .before .s-con .ensures) (c .before .before .before .before .before .before .before .before .before .before .before .if1 .left)) (s-false {a = (mem X0 T0 N0 J0 L0 H0 S0)} {e = (mem X0 T0 N0 J0 L7 H7 S7)} _ _ (kind-not (c .before .before .before .before .before .before .before .before .before .before .if2 .left)) (s-false {a = (mem X0 T0 N0 J0 L0 H0 S0)} {e = (mem X0 T0 N0 J0 L7 H7 S7)} _ _ (kind-not (c .before .before .before .before .before .before .before .before .before .if3 .left)) (s-false {a = (mem X0 T0 N0 J0 L0 H0 S0)} {e = (mem X0 T0 N0 J0 L7 H7 S7)} _ _ (test-false (c .before .before .before .before .before .before .before .before .name-star .ensures) (c .before .before .before .before .before .before .before .if4 .left)) (s-by {a = (mem X0 T0 N0 J0 L0 H0 S0)} {c = (mem X0 T0 N0 J0 L7 H7 S7)} {e = (mem X0 T0 N0 J0 L7 H7 S7)} _ (c .before .before .before .before .rest .ensures) s-end)))))
 
 at-must-at-pat-requires : (t : ℕ) → at-must-lts.Need-at-pat-requires (at-must-told t) (at-must-at t) at-must.Post
 at-must-at-pat-requires t c κs =
@@ -1208,9 +1298,17 @@ at-must-same-length-2 t c =
 at-must-returns : (t : ℕ) → at-must-lts.Need-returns (at-must-told t) (at-must-at t) at-must.Post
 unfolding pat.atPatMust plan choose chosen
 at-must-returns t c =
-    let pre0 = c .before .before .before .before .before .before .before .before .before .before .before .before .before .before .before .before .pre .1 in
-    let at-pat = rw (c .before .got .given .1) at (c .before .before .before .before .before .before .before .at-pat .ensures) in
-    by-steps pre0 (λ b. s-by _ (runs-in (at-pat _)) s-end)
+    let X0 = c .before .before .before .before .before .before .before .before .before .before .before .before .before .before .before .before .args .text .now in
+    let T0 = c .before .before .before .before .before .before .before .before .before .before .before .before .before .before .before .before .args .toks .now in
+    let N0 = c .before .before .before .before .before .before .before .before .before .before .before .before .before .before .before .before .args .env .now in
+    let J0 = c .before .before .before .before .before .before .before .before .before .before .before .before .before .before .before .before .args .table .now in
+    let L0 = c .before .before .before .before .before .before .before .before .before .before .before .before .before .before .before .before .args .scratch .now in
+    let H0 = c .before .before .before .before .before .before .before .before .before .before .before .before .before .before .before .before .args .finds .now in
+    let S0 = c .before .before .before .before .before .before .before .before .before .before .before .before .before .before .before .before .args .s in
+    let L1 = c .before .before .before .before .before .before .before .at-pat .last .1 .1 .1 .1 .0 in
+    let H1 = c .before .before .before .before .before .before .before .at-pat .last .1 .1 .1 .1 .1 .0 in
+    let S1 = c .before .got .given .0 .0 in
+    by-steps {m = (mem X0 T0 N0 J0 L0 H0 S0)} {m' = (mem X0 T0 N0 J0 L1 H1 S1)} (c .before .before .before .before .before .before .before .before .before .before .before .before .before .before .before .before .pre .1) (λ b. s-by {a = (mem X0 T0 N0 J0 L0 H0 S0)} {c = (mem X0 T0 N0 J0 L1 H1 S1)} {e = (mem X0 T0 N0 J0 L1 H1 S1)} _ (runs-in {a = (mem X0 T0 N0 J0 L0 H0 S0)} {c = (mem X0 T0 N0 J0 L1 H1 S1)} ((rw (c .before .got .given .1) at (c .before .before .before .before .before .before .before .at-pat .ensures)) _)) s-end)
 
 at-must-same-length-3 : (t : ℕ) → at-must-lts.Need-same-length-3 (at-must-told t) (at-must-at t) at-must.Post
 at-must-same-length-3 t c =
@@ -1223,10 +1321,19 @@ at-must-same-length-4 t c =
 at-must-returns-2 : (t : ℕ) → at-must-lts.Need-returns-2 (at-must-told t) (at-must-at t) at-must.Post
 unfolding pat.atPatMust plan choose chosen
 at-must-returns-2 t c =
-    let pre0 = c .before .before .before .before .before .before .before .before .before .before .before .before .before .before .before .before .before .before .before .before .pre .1 in
-    let at-pat = rw (c .before .before .before .before .before .got2 .given .1) at (c .before .before .before .before .before .before .before .before .before .before .before .at-pat .ensures) in
-    let report = c .before .before .report .ensures in
-    by-steps pre0 (λ b. s-by _ (runs-in (at-pat _)) (s-report report s-end))
+    let X0 = c .before .before .before .before .before .before .before .before .before .before .before .before .before .before .before .before .before .before .before .before .args .text .now in
+    let T0 = c .before .before .before .before .before .before .before .before .before .before .before .before .before .before .before .before .before .before .before .before .args .toks .now in
+    let N0 = c .before .before .before .before .before .before .before .before .before .before .before .before .before .before .before .before .before .before .before .before .args .env .now in
+    let J0 = c .before .before .before .before .before .before .before .before .before .before .before .before .before .before .before .before .before .before .before .before .args .table .now in
+    let L0 = c .before .before .before .before .before .before .before .before .before .before .before .before .before .before .before .before .before .before .before .before .args .scratch .now in
+    let H0 = c .before .before .before .before .before .before .before .before .before .before .before .before .before .before .before .before .before .before .before .before .args .finds .now in
+    let S0 = c .before .before .before .before .before .before .before .before .before .before .before .before .before .before .before .before .before .before .before .before .args .s in
+    let L1 = c .before .before .before .before .before .before .before .before .before .before .before .at-pat .last .1 .1 .1 .1 .0 in
+    let H1 = c .before .before .before .before .before .before .before .before .before .before .before .at-pat .last .1 .1 .1 .1 .1 .0 in
+    let S1 = c .before .before .before .before .before .got2 .given .0 .0 in
+    let H2 = c .before .before .report .last .0 in
+    let S2 = c .before .before .report .result in
+    by-steps {m = (mem X0 T0 N0 J0 L0 H0 S0)} {m' = (mem X0 T0 N0 J0 L1 H2 S2)} (c .before .before .before .before .before .before .before .before .before .before .before .before .before .before .before .before .before .before .before .before .pre .1) (λ b. s-by {a = (mem X0 T0 N0 J0 L0 H0 S0)} {c = (mem X0 T0 N0 J0 L1 H1 S1)} {e = (mem X0 T0 N0 J0 L1 H2 S2)} _ (runs-in {a = (mem X0 T0 N0 J0 L0 H0 S0)} {c = (mem X0 T0 N0 J0 L1 H1 S1)} ((rw (c .before .before .before .before .before .got2 .given .1) at (c .before .before .before .before .before .before .before .before .before .before .before .at-pat .ensures)) _)) (s-report {e = (mem X0 T0 N0 J0 L1 H2 S2)} {x = X0} {t = T0} {n = N0} {j = J0} {l = L1} {h = H1} {s = S1} {s' = S2} {h' = H2} (c .before .before .report .ensures) s-end))
 
 at-pat-peek-requires : (t : ℕ) → at-pat-lts.Need-peek-requires (at-pat-told t) (at-pat-at t) at-pat.Post
 at-pat-peek-requires t c κs =
@@ -1257,13 +1364,13 @@ at-pat-refuse-requires t c κs =
     tt
 
 at-pat-returns-2 : (t : ℕ) → at-pat-lts.Need-returns-2 (at-pat-told t) (at-pat-at t) at-pat.Post
-unfolding pat.atPat plan choose chosen
+unfolding pat.atPat plan choose chosen hushed
 at-pat-returns-2 t c =
     let pre0 = c .before .before .before .before .before .before .before .before .before .before .before .before .pre .1 in
     let peek = rw (c .before .before .before .k .given .1) at (c .before .before .before .before .before .peek .ensures) in
     let if1 = c .before .if1 .taken in
     let refuse = c .refuse .ensures in
-    λ g. by-steps pre0 (λ b. s-look peek (s-deep if1 refuse s-end))
+    λ g. by-steps pre0 (λ b. s-look peek (s-shut if1 refuse (λ k l. refl)))
 
 at-pat-mark-requires : (t : ℕ) → at-pat-lts.Need-mark-requires (at-pat-told t) (at-pat-at t) at-pat.Post
 at-pat-mark-requires t c κs =
@@ -1328,12 +1435,18 @@ at-round-same-length t c =
 at-round-returns : (t : ℕ) → at-round-lts.Need-returns (at-round-told t) (at-round-at t) at-round.Post
 unfolding pat.atPatLRound util.endSep plan choose chosen
 at-round-returns t c =
-    let pre0 = c .before .before .before .before .before .before .before .before .before .before .before .before .before .before .before .before .pre .1 .0 in
-    let at = c .before .before .before .before .before .before .before .before .before .at .ensures in
-    let if1 = c .before .before .before .before .before .before .before .before .if1 .taken in
-    let bump = c .before .before .before .before .before .before .bump .ensures in
-    let close = c .before .before .close .ensures in
-    in-steps pre0 (s-kind (s-true _ _ (kind-at _ _ _ _ at if1) (s-bump bump (s-close close s-end))))
+    let X0 = c .before .before .before .before .before .before .before .before .before .before .before .before .before .before .before .before .args .text .now in
+    let T0 = c .before .before .before .before .before .before .before .before .before .before .before .before .before .before .before .before .args .toks .now in
+    let N0 = c .before .before .before .before .before .before .before .before .before .before .before .before .before .before .before .before .args .env .now in
+    let J0 = c .before .before .before .before .before .before .before .before .before .before .before .before .before .before .before .before .args .table .now in
+    let L0 = c .before .before .before .before .before .before .before .before .before .before .before .before .before .before .before .before .args .scratch .now in
+    let H0 = c .before .before .before .before .before .before .before .before .before .before .before .before .before .before .before .before .args .finds .now in
+    let S0 = c .before .before .before .before .before .before .before .before .before .before .before .before .before .before .before .before .args .s in
+    let L3 = c .before .before .before .before .before .before .bump .last .1 .0 in
+    let S3 = c .before .before .before .before .before .before .bump .result in
+    let L4 = c .before .before .close .last .0 in
+    let S4 = c .before .before .close .result in
+    in-steps {m = (mem X0 T0 N0 J0 L0 H0 S0)} {m' = (mem X0 T0 N0 J0 L4 H0 S4)} (c .before .before .before .before .before .before .before .before .before .before .before .before .before .before .before .before .pre .1 .0) (s-kind {a = (mem X0 T0 N0 J0 L0 H0 S0)} {e = (mem X0 T0 N0 J0 L4 H0 S4)} (s-true {a = (mem X0 T0 N0 J0 L0 H0 S0)} {e = (mem X0 T0 N0 J0 L4 H0 S4)} _ _ (kind-at _ _ (mem X0 T0 N0 J0 L0 H0 S0) _ (c .before .before .before .before .before .before .before .before .before .at .ensures) (c .before .before .before .before .before .before .before .before .if1 .taken)) (s-bump {e = (mem X0 T0 N0 J0 L4 H0 S4)} {x = X0} {t = T0} {n = N0} {j = J0} {l = L0} {h = H0} {s = S0} {s' = S3} {l' = L3} (c .before .before .before .before .before .before .bump .ensures) (s-close {e = (mem X0 T0 N0 J0 L4 H0 S4)} {x = X0} {t = T0} {n = N0} {j = J0} {l = L3} {h = H0} {s = S3} {s' = S4} {l' = L4} (c .before .before .close .ensures) s-end))))
 
 at-round-pat-arg-requires : (t : ℕ) → at-round-lts.Need-pat-arg-requires (at-round-told t) (at-round-at t) at-round.Post
 at-round-pat-arg-requires t c κs =
@@ -1404,13 +1517,22 @@ at-round-same-length-3 t c =
 at-round-returns-2 : (t : ℕ) → at-round-lts.Need-returns-2 (at-round-told t) (at-round-at t) at-round.Post
 unfolding pat.atPatLRound util.endSep plan choose chosen
 at-round-returns-2 t c =
-    let pre0 = c .before .before .before .before .before .before .before .before .before .before .before .before .before .before .before .before .before .before .before .before .before .before .before .before .before .before .before .before .before .pre .1 .0 in
-    let at = c .before .before .before .before .before .before .before .before .before .before .before .before .before .before .before .before .before .before .before .before .before .before .at .ensures in
-    let if1 = c .before .before .before .before .before .before .before .before .before .before .before .before .before .before .before .before .before .before .before .before .before .if1 .left in
-    let pat-arg = rw (c .before .before .before .before .before .before .before .before .before .before .before .before .first .given .1) at (c .before .before .before .before .before .before .before .before .before .before .before .before .before .before .before .before .before .before .pat-arg .ensures) in
-    let args2 = c .before .before .before .before .before .before .before .before .args2 .ensures in
-    let close2 = c .before .before .close2 .ensures in
-    in-steps pre0 (s-kind (s-false _ _ (kind-off _ _ _ _ at if1) (s-by _ (runs-in pat-arg) (s-run args2 (s-close close2 s-end)))))
+    let X0 = c .before .before .before .before .before .before .before .before .before .before .before .before .before .before .before .before .before .before .before .before .before .before .before .before .before .before .before .before .before .args .text .now in
+    let T0 = c .before .before .before .before .before .before .before .before .before .before .before .before .before .before .before .before .before .before .before .before .before .before .before .before .before .before .before .before .before .args .toks .now in
+    let N0 = c .before .before .before .before .before .before .before .before .before .before .before .before .before .before .before .before .before .before .before .before .before .before .before .before .before .before .before .before .before .args .env .now in
+    let J0 = c .before .before .before .before .before .before .before .before .before .before .before .before .before .before .before .before .before .before .before .before .before .before .before .before .before .before .before .before .before .args .table .now in
+    let L0 = c .before .before .before .before .before .before .before .before .before .before .before .before .before .before .before .before .before .before .before .before .before .before .before .before .before .before .before .before .before .args .scratch .now in
+    let H0 = c .before .before .before .before .before .before .before .before .before .before .before .before .before .before .before .before .before .before .before .before .before .before .before .before .before .before .before .before .before .args .finds .now in
+    let S0 = c .before .before .before .before .before .before .before .before .before .before .before .before .before .before .before .before .before .before .before .before .before .before .before .before .before .before .before .before .before .args .s in
+    let L3 = c .before .before .before .before .before .before .before .before .before .before .before .before .before .before .before .before .before .before .pat-arg .last .1 .1 .1 .1 .0 in
+    let H3 = c .before .before .before .before .before .before .before .before .before .before .before .before .before .before .before .before .before .before .pat-arg .last .1 .1 .1 .1 .1 .0 in
+    let S3 = c .before .before .before .before .before .before .before .before .before .before .before .before .first .given .0 .0 in
+    let L4 = c .before .before .before .before .before .before .before .before .args2 .last .1 .1 .1 .1 .0 in
+    let H4 = c .before .before .before .before .before .before .before .before .args2 .last .1 .1 .1 .1 .1 .0 in
+    let S4 = c .before .before .before .before .before .before .before .before .args2 .result in
+    let L5 = c .before .before .close2 .last .0 in
+    let S5 = c .before .before .close2 .result in
+    in-steps {m = (mem X0 T0 N0 J0 L0 H0 S0)} {m' = (mem X0 T0 N0 J0 L5 H4 S5)} (c .before .before .before .before .before .before .before .before .before .before .before .before .before .before .before .before .before .before .before .before .before .before .before .before .before .before .before .before .before .pre .1 .0) (s-kind {a = (mem X0 T0 N0 J0 L0 H0 S0)} {e = (mem X0 T0 N0 J0 L5 H4 S5)} (s-false {a = (mem X0 T0 N0 J0 L0 H0 S0)} {e = (mem X0 T0 N0 J0 L5 H4 S5)} _ _ (kind-off _ _ (mem X0 T0 N0 J0 L0 H0 S0) _ (c .before .before .before .before .before .before .before .before .before .before .before .before .before .before .before .before .before .before .before .before .before .before .at .ensures) (c .before .before .before .before .before .before .before .before .before .before .before .before .before .before .before .before .before .before .before .before .before .if1 .left)) (s-by {a = (mem X0 T0 N0 J0 L0 H0 S0)} {c = (mem X0 T0 N0 J0 L3 H3 S3)} {e = (mem X0 T0 N0 J0 L5 H4 S5)} _ (runs-in {a = (mem X0 T0 N0 J0 L0 H0 S0)} {c = (mem X0 T0 N0 J0 L3 H3 S3)} (rw (c .before .before .before .before .before .before .before .before .before .before .before .before .first .given .1) at (c .before .before .before .before .before .before .before .before .before .before .before .before .before .before .before .before .before .before .pat-arg .ensures))) (s-run {a = (mem X0 T0 N0 J0 L3 H3 S3)} {c = (mem X0 T0 N0 J0 L4 H4 S4)} {e = (mem X0 T0 N0 J0 L5 H4 S5)} (c .before .before .before .before .before .before .before .before .args2 .ensures) (s-close {e = (mem X0 T0 N0 J0 L5 H4 S5)} {x = X0} {t = T0} {n = N0} {j = J0} {l = L4} {h = H4} {s = S4} {s' = S5} {l' = L5} (c .before .before .close2 .ensures) s-end)))))
 
 at-round-same-length-4 : (t : ℕ) → at-round-lts.Need-same-length-4 (at-round-told t) (at-round-at t) at-round.Post
 at-round-same-length-4 t c =
@@ -1423,13 +1545,21 @@ at-round-same-length-5 t c =
 at-round-returns-3 : (t : ℕ) → at-round-lts.Need-returns-3 (at-round-told t) (at-round-at t) at-round.Post
 unfolding pat.atPatLRound util.endSep plan choose chosen
 at-round-returns-3 t c =
-    let pre0 = c .before .before .before .before .before .before .before .before .before .before .before .before .before .before .before .before .before .before .before .before .before .before .before .before .before .before .pre .1 .0 in
-    let at = c .before .before .before .before .before .before .before .before .before .before .before .before .before .before .before .before .before .before .before .at .ensures in
-    let if1 = c .before .before .before .before .before .before .before .before .before .before .before .before .before .before .before .before .before .before .if1 .left in
-    let pat-arg = rw (c .before .before .before .before .before .before .before .before .before .first2 .given .1) at (c .before .before .before .before .before .before .before .before .before .before .before .before .before .before .before .pat-arg .ensures) in
-    let bump2 = c .before .before .before .before .before .before .bump2 .ensures in
-    let close3 = c .before .before .close3 .ensures in
-    in-steps pre0 (s-kind (s-false _ _ (kind-off _ _ _ _ at if1) (s-by _ (runs-in pat-arg) (s-bump bump2 (s-close close3 s-end)))))
+    let X0 = c .before .before .before .before .before .before .before .before .before .before .before .before .before .before .before .before .before .before .before .before .before .before .before .before .before .before .args .text .now in
+    let T0 = c .before .before .before .before .before .before .before .before .before .before .before .before .before .before .before .before .before .before .before .before .before .before .before .before .before .before .args .toks .now in
+    let N0 = c .before .before .before .before .before .before .before .before .before .before .before .before .before .before .before .before .before .before .before .before .before .before .before .before .before .before .args .env .now in
+    let J0 = c .before .before .before .before .before .before .before .before .before .before .before .before .before .before .before .before .before .before .before .before .before .before .before .before .before .before .args .table .now in
+    let L0 = c .before .before .before .before .before .before .before .before .before .before .before .before .before .before .before .before .before .before .before .before .before .before .before .before .before .before .args .scratch .now in
+    let H0 = c .before .before .before .before .before .before .before .before .before .before .before .before .before .before .before .before .before .before .before .before .before .before .before .before .before .before .args .finds .now in
+    let S0 = c .before .before .before .before .before .before .before .before .before .before .before .before .before .before .before .before .before .before .before .before .before .before .before .before .before .before .args .s in
+    let L3 = c .before .before .before .before .before .before .before .before .before .before .before .before .before .before .before .pat-arg .last .1 .1 .1 .1 .0 in
+    let H3 = c .before .before .before .before .before .before .before .before .before .before .before .before .before .before .before .pat-arg .last .1 .1 .1 .1 .1 .0 in
+    let S3 = c .before .before .before .before .before .before .before .before .before .first2 .given .0 .0 in
+    let L4 = c .before .before .before .before .before .before .bump2 .last .1 .0 in
+    let S4 = c .before .before .before .before .before .before .bump2 .result in
+    let L5 = c .before .before .close3 .last .0 in
+    let S5 = c .before .before .close3 .result in
+    in-steps {m = (mem X0 T0 N0 J0 L0 H0 S0)} {m' = (mem X0 T0 N0 J0 L5 H3 S5)} (c .before .before .before .before .before .before .before .before .before .before .before .before .before .before .before .before .before .before .before .before .before .before .before .before .before .before .pre .1 .0) (s-kind {a = (mem X0 T0 N0 J0 L0 H0 S0)} {e = (mem X0 T0 N0 J0 L5 H3 S5)} (s-false {a = (mem X0 T0 N0 J0 L0 H0 S0)} {e = (mem X0 T0 N0 J0 L5 H3 S5)} _ _ (kind-off _ _ (mem X0 T0 N0 J0 L0 H0 S0) _ (c .before .before .before .before .before .before .before .before .before .before .before .before .before .before .before .before .before .before .before .at .ensures) (c .before .before .before .before .before .before .before .before .before .before .before .before .before .before .before .before .before .before .if1 .left)) (s-by {a = (mem X0 T0 N0 J0 L0 H0 S0)} {c = (mem X0 T0 N0 J0 L3 H3 S3)} {e = (mem X0 T0 N0 J0 L5 H3 S5)} _ (runs-in {a = (mem X0 T0 N0 J0 L0 H0 S0)} {c = (mem X0 T0 N0 J0 L3 H3 S3)} (rw (c .before .before .before .before .before .before .before .before .before .first2 .given .1) at (c .before .before .before .before .before .before .before .before .before .before .before .before .before .before .before .pat-arg .ensures))) (s-bump {e = (mem X0 T0 N0 J0 L5 H3 S5)} {x = X0} {t = T0} {n = N0} {j = J0} {l = L3} {h = H3} {s = S3} {s' = S4} {l' = L4} (c .before .before .before .before .before .before .bump2 .ensures) (s-close {e = (mem X0 T0 N0 J0 L5 H3 S5)} {x = X0} {t = T0} {n = N0} {j = J0} {l = L4} {h = H3} {s = S4} {s' = S5} {l' = L5} (c .before .before .close3 .ensures) s-end)))))
 
 atom-at-pat-requires : (t : ℕ) → atom-lts.Need-at-pat-requires (atom-told t) (atom-at t) atom.Post
 atom-at-pat-requires t c κs =
@@ -1471,9 +1601,17 @@ atom-same-length-2 t c =
 atom-returns : (t : ℕ) → atom-lts.Need-returns (atom-told t) (atom-at t) atom.Post
 unfolding pat.atomPat plan choose chosen
 atom-returns t c =
-    let pre0 = c .before .before .before .before .before .before .before .before .before .before .before .before .before .before .before .before .pre .1 .0 in
-    let at-pat = rw (c .before .got .given .1) at (c .before .before .before .before .before .before .before .at-pat .ensures) in
-    in-steps pre0 (s-by _ (runs-in (at-pat _)) s-end)
+    let X0 = c .before .before .before .before .before .before .before .before .before .before .before .before .before .before .before .before .args .text .now in
+    let T0 = c .before .before .before .before .before .before .before .before .before .before .before .before .before .before .before .before .args .toks .now in
+    let N0 = c .before .before .before .before .before .before .before .before .before .before .before .before .before .before .before .before .args .env .now in
+    let J0 = c .before .before .before .before .before .before .before .before .before .before .before .before .before .before .before .before .args .table .now in
+    let L0 = c .before .before .before .before .before .before .before .before .before .before .before .before .before .before .before .before .args .scratch .now in
+    let H0 = c .before .before .before .before .before .before .before .before .before .before .before .before .before .before .before .before .args .finds .now in
+    let S0 = c .before .before .before .before .before .before .before .before .before .before .before .before .before .before .before .before .args .s in
+    let L1 = c .before .before .before .before .before .before .before .at-pat .last .1 .1 .1 .1 .0 in
+    let H1 = c .before .before .before .before .before .before .before .at-pat .last .1 .1 .1 .1 .1 .0 in
+    let S1 = c .before .got .given .0 .0 in
+    in-steps {m = (mem X0 T0 N0 J0 L0 H0 S0)} {m' = (mem X0 T0 N0 J0 L1 H1 S1)} (c .before .before .before .before .before .before .before .before .before .before .before .before .before .before .before .before .pre .1 .0) (s-by {a = (mem X0 T0 N0 J0 L0 H0 S0)} {c = (mem X0 T0 N0 J0 L1 H1 S1)} {e = (mem X0 T0 N0 J0 L1 H1 S1)} _ (runs-in {a = (mem X0 T0 N0 J0 L0 H0 S0)} {c = (mem X0 T0 N0 J0 L1 H1 S1)} ((rw (c .before .got .given .1) at (c .before .before .before .before .before .before .before .at-pat .ensures)) _)) s-end)
 
 atom-same-length-3 : (t : ℕ) → atom-lts.Need-same-length-3 (atom-told t) (atom-at t) atom.Post
 atom-same-length-3 t c =
@@ -1486,10 +1624,20 @@ atom-same-length-4 t c =
 atom-returns-2 : (t : ℕ) → atom-lts.Need-returns-2 (atom-told t) (atom-at t) atom.Post
 unfolding pat.atomPat plan choose chosen
 atom-returns-2 t c =
-    let pre0 = c .before .before .before .before .before .before .before .before .before .before .before .before .before .before .before .before .before .before .before .before .before .before .before .pre .1 .0 in
-    let at-pat = rw (c .before .before .before .before .before .before .before .before .got2 .given .1) at (c .before .before .before .before .before .before .before .before .before .before .before .before .before .before .at-pat .ensures) in
-    let tail = c .before .before .before .before .tail .ensures in
-    in-steps pre0 (s-by _ (runs-in (at-pat _)) (s-run tail s-end))
+    let X0 = c .before .before .before .before .before .before .before .before .before .before .before .before .before .before .before .before .before .before .before .before .before .before .before .args .text .now in
+    let T0 = c .before .before .before .before .before .before .before .before .before .before .before .before .before .before .before .before .before .before .before .before .before .before .before .args .toks .now in
+    let N0 = c .before .before .before .before .before .before .before .before .before .before .before .before .before .before .before .before .before .before .before .before .before .before .before .args .env .now in
+    let J0 = c .before .before .before .before .before .before .before .before .before .before .before .before .before .before .before .before .before .before .before .before .before .before .before .args .table .now in
+    let L0 = c .before .before .before .before .before .before .before .before .before .before .before .before .before .before .before .before .before .before .before .before .before .before .before .args .scratch .now in
+    let H0 = c .before .before .before .before .before .before .before .before .before .before .before .before .before .before .before .before .before .before .before .before .before .before .before .args .finds .now in
+    let S0 = c .before .before .before .before .before .before .before .before .before .before .before .before .before .before .before .before .before .before .before .before .before .before .before .args .s in
+    let L1 = c .before .before .before .before .before .before .before .before .before .before .before .before .before .before .at-pat .last .1 .1 .1 .1 .0 in
+    let H1 = c .before .before .before .before .before .before .before .before .before .before .before .before .before .before .at-pat .last .1 .1 .1 .1 .1 .0 in
+    let S1 = c .before .before .before .before .before .before .before .before .got2 .given .0 .0 in
+    let L2 = c .before .before .before .before .tail .last .1 .1 .1 .1 .0 in
+    let H2 = c .before .before .before .before .tail .last .1 .1 .1 .1 .1 .0 in
+    let S2 = c .before .before .before .before .tail .result in
+    in-steps {m = (mem X0 T0 N0 J0 L0 H0 S0)} {m' = (mem X0 T0 N0 J0 L2 H2 S2)} (c .before .before .before .before .before .before .before .before .before .before .before .before .before .before .before .before .before .before .before .before .before .before .before .pre .1 .0) (s-by {a = (mem X0 T0 N0 J0 L0 H0 S0)} {c = (mem X0 T0 N0 J0 L1 H1 S1)} {e = (mem X0 T0 N0 J0 L2 H2 S2)} _ (runs-in {a = (mem X0 T0 N0 J0 L0 H0 S0)} {c = (mem X0 T0 N0 J0 L1 H1 S1)} ((rw (c .before .before .before .before .before .before .before .before .got2 .given .1) at (c .before .before .before .before .before .before .before .before .before .before .before .before .before .before .at-pat .ensures)) _)) (s-run {a = (mem X0 T0 N0 J0 L1 H1 S1)} {c = (mem X0 T0 N0 J0 L2 H2 S2)} {e = (mem X0 T0 N0 J0 L2 H2 S2)} (c .before .before .before .before .tail .ensures) s-end))
 
 con-con-head-requires : (t : ℕ) → con-lts.Need-con-head-requires (con-told t) (con-at t) con.Post
 con-con-head-requires t c κs =
@@ -1618,12 +1766,17 @@ con-head-refuse-requires t c κs =
     tt
 
 con-head-returns : (t : ℕ) → con-head-lts.Need-returns (con-head-told t) (con-head-at t) con-head.Post
-unfolding pat.conHead plan choose chosen
+unfolding pat.conHead plan choose chosen hushed
 con-head-returns t c =
-    let pre0 = c .before .before .before .before .before .before .before .before .pre .1 .0 in
-    let if1 = c .before .if1 .taken in
-    let refuse = c .refuse .ensures in
-    in-steps pre0 (s-deep if1 refuse s-end)
+    let X0 = c .before .before .before .before .before .before .before .before .args .text .now in
+    let T0 = c .before .before .before .before .before .before .before .before .args .toks .now in
+    let N0 = c .before .before .before .before .before .before .before .before .args .env .now in
+    let J0 = c .before .before .before .before .before .before .before .before .args .table .now in
+    let L0 = c .before .before .before .before .before .before .before .before .args .scratch .now in
+    let H0 = c .before .before .before .before .before .before .before .before .args .finds .now in
+    let S0 = c .before .before .before .before .before .before .before .before .args .s in
+    let S2 = c .refuse .result in
+    in-steps {m = (mem X0 T0 N0 J0 L0 H0 S0)} {m' = (mem X0 T0 N0 J0 L0 H0 S2)} (c .before .before .before .before .before .before .before .before .pre .1 .0) (s-shut (c .before .if1 .taken) (c .refuse .ensures) (λ k l. refl))
 
 con-head-mark-requires : (t : ℕ) → con-head-lts.Need-mark-requires (con-head-told t) (con-head-at t) con-head.Post
 con-head-mark-requires t c κs =
@@ -1718,10 +1871,16 @@ con-turn-same-length t c =
 con-turn-returns : (t : ℕ) → con-turn-lts.Need-returns (con-turn-told t) (con-turn-at t) con-turn.Post
 unfolding pat.conTurn plan choose chosen
 con-turn-returns t c =
-    let pre0 = c .before .before .before .before .before .before .before .before .before .before .before .before .before .pre .1 .0 in
-    let peek = rw (c .before .before .before .before .enum-told .given .1) at (c .before .before .before .before .before .before .peek .ensures) in
-    let close = c .before .before .close .ensures in
-    in-steps pre0 (s-look peek (s-close close s-end))
+    let X0 = c .before .before .before .before .before .before .before .before .before .before .before .before .before .args .text .now in
+    let T0 = c .before .before .before .before .before .before .before .before .before .before .before .before .before .args .toks .now in
+    let N0 = c .before .before .before .before .before .before .before .before .before .before .before .before .before .args .env .now in
+    let J0 = c .before .before .before .before .before .before .before .before .before .before .before .before .before .args .table .now in
+    let L0 = c .before .before .before .before .before .before .before .before .before .before .before .before .before .args .scratch .now in
+    let H0 = c .before .before .before .before .before .before .before .before .before .before .before .before .before .args .finds .now in
+    let S0 = c .before .before .before .before .before .before .before .before .before .before .before .before .before .args .s in
+    let L2 = c .before .before .close .last .0 in
+    let S2 = c .before .before .close .result in
+    in-steps {m = (mem X0 T0 N0 J0 L0 H0 S0)} {m' = (mem X0 T0 N0 J0 L2 H0 S2)} (c .before .before .before .before .before .before .before .before .before .before .before .before .before .pre .1 .0) (s-look {a = (mem X0 T0 N0 J0 L0 H0 S0)} {e = (mem X0 T0 N0 J0 L2 H0 S2)} (rw (c .before .before .before .before .enum-told .given .1) at (c .before .before .before .before .before .before .peek .ensures)) (s-close {e = (mem X0 T0 N0 J0 L2 H0 S2)} {x = X0} {t = T0} {n = N0} {j = J0} {l = L0} {h = H0} {s = S0} {s' = S2} {l' = L2} (c .before .before .close .ensures) s-end))
 
 con-turn-name-star-requires : (t : ℕ) → con-turn-lts.Need-name-star-requires (con-turn-told t) (con-turn-at t) con-turn.Post
 con-turn-name-star-requires t c κs =
@@ -1766,14 +1925,19 @@ con-turn-same-length-3 t c =
 con-turn-returns-2 : (t : ℕ) → con-turn-lts.Need-returns-2 (con-turn-told t) (con-turn-at t) con-turn.Post
 unfolding pat.conTurn plan choose chosen
 con-turn-returns-2 t c =
-    let pre0 = c .before .before .before .before .before .before .before .before .before .before .before .before .before .before .before .before .before .before .before .before .before .before .before .before .before .before .pre .1 .0 in
-    let peek = rw (c .before .before .before .before .before .before .before .before .before .before .before .before .before .before .before .before .before .k .given .1) at (c .before .before .before .before .before .before .before .before .before .before .before .before .before .before .before .before .before .before .before .peek .ensures) in
-    let name-star = c .before .before .before .before .before .before .before .before .before .before .before .before .before .before .before .name-star .ensures in
-    let if1 = c .before .before .before .before .before .before .before .before .before .before .before .before .before .before .if1 .taken in
-    let fixity-at = rw (c .before .before .before .before .before .before .before .before .before .before .before .enum-told2 .given .1) at (c .before .before .before .before .before .before .before .before .before .before .before .before .before .fixity-at .ensures) in
-    let at-must = c .before .before .before .before .before .before .before .before .at-must .ensures in
-    let close2 = c .before .before .close2 .ensures in
-    in-steps pre0 (s-look peek (s-true _ _ (test-true name-star if1) (s-fixed fixity-at (s-by _ (runs-in at-must) (s-close close2 s-end)))))
+    let X0 = c .before .before .before .before .before .before .before .before .before .before .before .before .before .before .before .before .before .before .before .before .before .before .before .before .before .before .args .text .now in
+    let T0 = c .before .before .before .before .before .before .before .before .before .before .before .before .before .before .before .before .before .before .before .before .before .before .before .before .before .before .args .toks .now in
+    let N0 = c .before .before .before .before .before .before .before .before .before .before .before .before .before .before .before .before .before .before .before .before .before .before .before .before .before .before .args .env .now in
+    let J0 = c .before .before .before .before .before .before .before .before .before .before .before .before .before .before .before .before .before .before .before .before .before .before .before .before .before .before .args .table .now in
+    let L0 = c .before .before .before .before .before .before .before .before .before .before .before .before .before .before .before .before .before .before .before .before .before .before .before .before .before .before .args .scratch .now in
+    let H0 = c .before .before .before .before .before .before .before .before .before .before .before .before .before .before .before .before .before .before .before .before .before .before .before .before .before .before .args .finds .now in
+    let S0 = c .before .before .before .before .before .before .before .before .before .before .before .before .before .before .before .before .before .before .before .before .before .before .before .before .before .before .args .s in
+    let L5 = c .before .before .before .before .before .before .before .before .at-must .last .1 .1 .1 .1 .0 in
+    let H5 = c .before .before .before .before .before .before .before .before .at-must .last .1 .1 .1 .1 .1 .0 in
+    let S5 = c .before .before .before .before .before .before .before .before .at-must .result in
+    let L6 = c .before .before .close2 .last .0 in
+    let S6 = c .before .before .close2 .result in
+    in-steps {m = (mem X0 T0 N0 J0 L0 H0 S0)} {m' = (mem X0 T0 N0 J0 L6 H5 S6)} (c .before .before .before .before .before .before .before .before .before .before .before .before .before .before .before .before .before .before .before .before .before .before .before .before .before .before .pre .1 .0) (s-look {a = (mem X0 T0 N0 J0 L0 H0 S0)} {e = (mem X0 T0 N0 J0 L6 H5 S6)} (rw (c .before .before .before .before .before .before .before .before .before .before .before .before .before .before .before .before .before .k .given .1) at (c .before .before .before .before .before .before .before .before .before .before .before .before .before .before .before .before .before .before .before .peek .ensures)) (s-true {a = (mem X0 T0 N0 J0 L0 H0 S0)} {e = (mem X0 T0 N0 J0 L6 H5 S6)} _ _ (test-true (c .before .before .before .before .before .before .before .before .before .before .before .before .before .before .before .name-star .ensures) (c .before .before .before .before .before .before .before .before .before .before .before .before .before .before .if1 .taken)) (s-fixed {a = (mem X0 T0 N0 J0 L0 H0 S0)} {e = (mem X0 T0 N0 J0 L6 H5 S6)} (rw (c .before .before .before .before .before .before .before .before .before .before .before .enum-told2 .given .1) at (c .before .before .before .before .before .before .before .before .before .before .before .before .before .fixity-at .ensures)) (s-by {a = (mem X0 T0 N0 J0 L0 H0 S0)} {c = (mem X0 T0 N0 J0 L5 H5 S5)} {e = (mem X0 T0 N0 J0 L6 H5 S6)} _ (runs-in {a = (mem X0 T0 N0 J0 L0 H0 S0)} {c = (mem X0 T0 N0 J0 L5 H5 S5)} (c .before .before .before .before .before .before .before .before .at-must .ensures)) (s-close {e = (mem X0 T0 N0 J0 L6 H5 S6)} {x = X0} {t = T0} {n = N0} {j = J0} {l = L5} {h = H5} {s = S5} {s' = S6} {l' = L6} (c .before .before .close2 .ensures) s-end)))))
 
 con-turn-enum-known-fix : (t : ℕ) → con-turn-lts.Need-enum-known-fix (con-turn-told t) (con-turn-at t) con-turn.Post
 con-turn-enum-known-fix t c =
@@ -1839,15 +2003,19 @@ con-turn-same-length-7 t c =
 con-turn-returns-4 : (t : ℕ) → con-turn-lts.Need-returns-4 (con-turn-told t) (con-turn-at t) con-turn.Post
 unfolding pat.conTurn plan choose chosen
 con-turn-returns-4 t c =
-    let pre0 = c .before .before .before .before .before .before .before .before .before .before .before .before .before .before .before .before .before .before .before .before .before .before .before .before .before .pre .1 .0 in
-    let peek = rw (c .before .before .before .before .before .before .before .before .before .before .before .before .before .before .before .before .k .given .1) at (c .before .before .before .before .before .before .before .before .before .before .before .before .before .before .before .before .before .before .peek .ensures) in
-    let name-star = c .before .before .before .before .before .before .before .before .before .before .before .before .before .before .name-star .ensures in
-    let if1 = c .before .before .before .before .before .before .before .before .before .before .before .before .before .if1 .left in
-    let arg = c .before .before .before .before .before .before .before .before .before .before .before .before .arg .ensures in
-    let if2 = c .before .before .before .before .before .before .before .before .before .before .before .if2 .taken in
-    let at-must2 = c .before .before .before .before .before .before .before .before .at-must2 .ensures in
-    let close3 = c .before .before .close3 .ensures in
-    in-steps pre0 (s-look peek (s-false _ _ (test-false name-star if1) (s-true _ _ (test-true arg if2) (s-by _ (runs-in at-must2) (s-close close3 s-end)))))
+    let X0 = c .before .before .before .before .before .before .before .before .before .before .before .before .before .before .before .before .before .before .before .before .before .before .before .before .before .args .text .now in
+    let T0 = c .before .before .before .before .before .before .before .before .before .before .before .before .before .before .before .before .before .before .before .before .before .before .before .before .before .args .toks .now in
+    let N0 = c .before .before .before .before .before .before .before .before .before .before .before .before .before .before .before .before .before .before .before .before .before .before .before .before .before .args .env .now in
+    let J0 = c .before .before .before .before .before .before .before .before .before .before .before .before .before .before .before .before .before .before .before .before .before .before .before .before .before .args .table .now in
+    let L0 = c .before .before .before .before .before .before .before .before .before .before .before .before .before .before .before .before .before .before .before .before .before .before .before .before .before .args .scratch .now in
+    let H0 = c .before .before .before .before .before .before .before .before .before .before .before .before .before .before .before .before .before .before .before .before .before .before .before .before .before .args .finds .now in
+    let S0 = c .before .before .before .before .before .before .before .before .before .before .before .before .before .before .before .before .before .before .before .before .before .before .before .before .before .args .s in
+    let L6 = c .before .before .before .before .before .before .before .before .at-must2 .last .1 .1 .1 .1 .0 in
+    let H6 = c .before .before .before .before .before .before .before .before .at-must2 .last .1 .1 .1 .1 .1 .0 in
+    let S6 = c .before .before .before .before .before .before .before .before .at-must2 .result in
+    let L7 = c .before .before .close3 .last .0 in
+    let S7 = c .before .before .close3 .result in
+    in-steps {m = (mem X0 T0 N0 J0 L0 H0 S0)} {m' = (mem X0 T0 N0 J0 L7 H6 S7)} (c .before .before .before .before .before .before .before .before .before .before .before .before .before .before .before .before .before .before .before .before .before .before .before .before .before .pre .1 .0) (s-look {a = (mem X0 T0 N0 J0 L0 H0 S0)} {e = (mem X0 T0 N0 J0 L7 H6 S7)} (rw (c .before .before .before .before .before .before .before .before .before .before .before .before .before .before .before .before .k .given .1) at (c .before .before .before .before .before .before .before .before .before .before .before .before .before .before .before .before .before .before .peek .ensures)) (s-false {a = (mem X0 T0 N0 J0 L0 H0 S0)} {e = (mem X0 T0 N0 J0 L7 H6 S7)} _ _ (test-false (c .before .before .before .before .before .before .before .before .before .before .before .before .before .before .name-star .ensures) (c .before .before .before .before .before .before .before .before .before .before .before .before .before .if1 .left)) (s-true {a = (mem X0 T0 N0 J0 L0 H0 S0)} {e = (mem X0 T0 N0 J0 L7 H6 S7)} _ _ (test-true (c .before .before .before .before .before .before .before .before .before .before .before .before .arg .ensures) (c .before .before .before .before .before .before .before .before .before .before .before .if2 .taken)) (s-by {a = (mem X0 T0 N0 J0 L0 H0 S0)} {c = (mem X0 T0 N0 J0 L6 H6 S6)} {e = (mem X0 T0 N0 J0 L7 H6 S7)} _ (runs-in {a = (mem X0 T0 N0 J0 L0 H0 S0)} {c = (mem X0 T0 N0 J0 L6 H6 S6)} (c .before .before .before .before .before .before .before .before .at-must2 .ensures)) (s-close {e = (mem X0 T0 N0 J0 L7 H6 S7)} {x = X0} {t = T0} {n = N0} {j = J0} {l = L6} {h = H6} {s = S6} {s' = S7} {l' = L7} (c .before .before .close3 .ensures) s-end)))))
 
 con-turn-close-requires-4 : (t : ℕ) → con-turn-lts.Need-close-requires-4 (con-turn-told t) (con-turn-at t) con-turn.Post
 con-turn-close-requires-4 t c κs =
@@ -1862,26 +2030,33 @@ con-turn-same-length-8 t c =
 con-turn-returns-5 : (t : ℕ) → con-turn-lts.Need-returns-5 (con-turn-told t) (con-turn-at t) con-turn.Post
 unfolding pat.conTurn plan choose chosen
 con-turn-returns-5 t c =
-    let pre0 = c .before .before .before .before .before .before .before .before .before .before .before .before .before .before .before .before .before .before .pre .1 .0 in
-    let peek = rw (c .before .before .before .before .before .before .before .before .before .k .given .1) at (c .before .before .before .before .before .before .before .before .before .before .before .peek .ensures) in
-    let name-star = c .before .before .before .before .before .before .before .name-star .ensures in
-    let if1 = c .before .before .before .before .before .before .if1 .left in
-    let arg = c .before .before .before .before .before .arg .ensures in
-    let if2 = c .before .before .before .before .if2 .left in
-    let close4 = c .before .before .close4 .ensures in
-    in-steps pre0 (s-look peek (s-false _ _ (test-false name-star if1) (s-false _ _ (test-false arg if2) (s-close close4 s-end))))
+    let X0 = c .before .before .before .before .before .before .before .before .before .before .before .before .before .before .before .before .before .before .args .text .now in
+    let T0 = c .before .before .before .before .before .before .before .before .before .before .before .before .before .before .before .before .before .before .args .toks .now in
+    let N0 = c .before .before .before .before .before .before .before .before .before .before .before .before .before .before .before .before .before .before .args .env .now in
+    let J0 = c .before .before .before .before .before .before .before .before .before .before .before .before .before .before .before .before .before .before .args .table .now in
+    let L0 = c .before .before .before .before .before .before .before .before .before .before .before .before .before .before .before .before .before .before .args .scratch .now in
+    let H0 = c .before .before .before .before .before .before .before .before .before .before .before .before .before .before .before .before .before .before .args .finds .now in
+    let S0 = c .before .before .before .before .before .before .before .before .before .before .before .before .before .before .before .before .before .before .args .s in
+    let L6 = c .before .before .close4 .last .0 in
+    let S6 = c .before .before .close4 .result in
+    in-steps {m = (mem X0 T0 N0 J0 L0 H0 S0)} {m' = (mem X0 T0 N0 J0 L6 H0 S6)} (c .before .before .before .before .before .before .before .before .before .before .before .before .before .before .before .before .before .before .pre .1 .0) (s-look {a = (mem X0 T0 N0 J0 L0 H0 S0)} {e = (mem X0 T0 N0 J0 L6 H0 S6)} (rw (c .before .before .before .before .before .before .before .before .before .k .given .1) at (c .before .before .before .before .before .before .before .before .before .before .before .peek .ensures)) (s-false {a = (mem X0 T0 N0 J0 L0 H0 S0)} {e = (mem X0 T0 N0 J0 L6 H0 S6)} _ _ (test-false (c .before .before .before .before .before .before .before .name-star .ensures) (c .before .before .before .before .before .before .if1 .left)) (s-false {a = (mem X0 T0 N0 J0 L0 H0 S0)} {e = (mem X0 T0 N0 J0 L6 H0 S6)} _ _ (test-false (c .before .before .before .before .before .arg .ensures) (c .before .before .before .before .if2 .left)) (s-close {e = (mem X0 T0 N0 J0 L6 H0 S6)} {x = X0} {t = T0} {n = N0} {j = J0} {l = L0} {h = H0} {s = S0} {s' = S6} {l' = L6} (c .before .before .close4 .ensures) s-end))))
 
 inf-pat-refuse-requires : (t : ℕ) → inf-pat-lts.Need-refuse-requires (inf-pat-told t) (inf-pat-at t) inf-pat.Post
 inf-pat-refuse-requires t c κs =
     tt
 
 inf-pat-returns : (t : ℕ) → inf-pat-lts.Need-returns (inf-pat-told t) (inf-pat-at t) inf-pat.Post
-unfolding pat.infixPat plan choose chosen
+unfolding pat.infixPat plan choose chosen hushed
 inf-pat-returns t c =
-    let pre0 = c .before .before .before .before .before .before .before .before .pre .1 .0 in
-    let if1 = c .before .if1 .taken in
-    let refuse = c .refuse .ensures in
-    in-steps pre0 (s-deep if1 refuse s-end)
+    let X0 = c .before .before .before .before .before .before .before .before .args .text .now in
+    let T0 = c .before .before .before .before .before .before .before .before .args .toks .now in
+    let N0 = c .before .before .before .before .before .before .before .before .args .env .now in
+    let J0 = c .before .before .before .before .before .before .before .before .args .table .now in
+    let L0 = c .before .before .before .before .before .before .before .before .args .scratch .now in
+    let H0 = c .before .before .before .before .before .before .before .before .args .finds .now in
+    let S0 = c .before .before .before .before .before .before .before .before .args .s in
+    let S2 = c .refuse .result in
+    in-steps {m = (mem X0 T0 N0 J0 L0 H0 S0)} {m' = (mem X0 T0 N0 J0 L0 H0 S2)} (c .before .before .before .before .before .before .before .before .pre .1 .0) (s-shut (c .before .if1 .taken) (c .refuse .ensures) (λ k l. refl))
 
 inf-pat-mark-requires : (t : ℕ) → inf-pat-lts.Need-mark-requires (inf-pat-told t) (inf-pat-at t) inf-pat.Post
 inf-pat-mark-requires t c κs =
@@ -1932,13 +2107,22 @@ inf-pat-same-length-2 t c =
 inf-pat-returns-2 : (t : ℕ) → inf-pat-lts.Need-returns-2 (inf-pat-told t) (inf-pat-at t) inf-pat.Post
 unfolding pat.infixPat plan choose chosen
 inf-pat-returns-2 t c =
-    let pre0 = c .before .before .before .before .before .before .before .before .before .before .before .before .before .before .before .before .before .before .before .before .before .before .before .pre .1 .0 in
-    let if1 = c .before .before .before .before .before .before .before .before .before .before .before .before .before .before .before .before .if1 .left in
-    let mark = c .before .before .before .before .before .before .before .before .before .before .before .before .before .before .mark .ensures in
-    let bump = c .before .before .before .before .before .before .before .before .before .before .before .before .before .bump .ensures in
-    let pat-must = c .before .before .before .before .before .before .before .before .pat-must .ensures in
-    let close = c .before .before .close .ensures in
-    in-steps pre0 (s-mark if1 mark (s-bump bump (s-by _ (runs-in pat-must) (s-close close s-end))))
+    let X0 = c .before .before .before .before .before .before .before .before .before .before .before .before .before .before .before .before .before .before .before .before .before .before .before .args .text .now in
+    let T0 = c .before .before .before .before .before .before .before .before .before .before .before .before .before .before .before .before .before .before .before .before .before .before .before .args .toks .now in
+    let N0 = c .before .before .before .before .before .before .before .before .before .before .before .before .before .before .before .before .before .before .before .before .before .before .before .args .env .now in
+    let J0 = c .before .before .before .before .before .before .before .before .before .before .before .before .before .before .before .before .before .before .before .before .before .before .before .args .table .now in
+    let L0 = c .before .before .before .before .before .before .before .before .before .before .before .before .before .before .before .before .before .before .before .before .before .before .before .args .scratch .now in
+    let H0 = c .before .before .before .before .before .before .before .before .before .before .before .before .before .before .before .before .before .before .before .before .before .before .before .args .finds .now in
+    let S0 = c .before .before .before .before .before .before .before .before .before .before .before .before .before .before .before .before .before .before .before .before .before .before .before .args .s in
+    let S2 = c .before .before .before .before .before .before .before .before .before .before .before .before .before .before .mark .result in
+    let L3 = c .before .before .before .before .before .before .before .before .before .before .before .before .before .bump .last .1 .0 in
+    let S3 = c .before .before .before .before .before .before .before .before .before .before .before .before .before .bump .result in
+    let L4 = c .before .before .before .before .before .before .before .before .pat-must .last .1 .1 .1 .1 .0 in
+    let H4 = c .before .before .before .before .before .before .before .before .pat-must .last .1 .1 .1 .1 .1 .0 in
+    let S4 = c .before .before .before .before .before .before .before .before .pat-must .result in
+    let L5 = c .before .before .close .last .0 in
+    let S5 = c .before .before .close .result in
+    in-steps {m = (mem X0 T0 N0 J0 L0 H0 S0)} {m' = (mem X0 T0 N0 J0 L5 H4 S5)} (c .before .before .before .before .before .before .before .before .before .before .before .before .before .before .before .before .before .before .before .before .before .before .before .pre .1 .0) (s-mark {e = (mem X0 T0 N0 J0 L5 H4 S5)} {x = X0} {t = T0} {n = N0} {j = J0} {l = L0} {h = H0} {s = S0} {s' = S2} (c .before .before .before .before .before .before .before .before .before .before .before .before .before .before .before .before .if1 .left) (c .before .before .before .before .before .before .before .before .before .before .before .before .before .before .mark .ensures) (s-bump {e = (mem X0 T0 N0 J0 L5 H4 S5)} {x = X0} {t = T0} {n = N0} {j = J0} {l = L0} {h = H0} {s = S2} {s' = S3} {l' = L3} (c .before .before .before .before .before .before .before .before .before .before .before .before .before .bump .ensures) (s-by {a = (mem X0 T0 N0 J0 L3 H0 S3)} {c = (mem X0 T0 N0 J0 L4 H4 S4)} {e = (mem X0 T0 N0 J0 L5 H4 S5)} _ (runs-in {a = (mem X0 T0 N0 J0 L3 H0 S3)} {c = (mem X0 T0 N0 J0 L4 H4 S4)} (c .before .before .before .before .before .before .before .before .pat-must .ensures)) (s-close {e = (mem X0 T0 N0 J0 L5 H4 S5)} {x = X0} {t = T0} {n = N0} {j = J0} {l = L4} {h = H4} {s = S4} {s' = S5} {l' = L5} (c .before .before .close .ensures) s-end))))
 
 op-step-fixity-at-requires : (t : ℕ) → op-step-lts.Need-fixity-at-requires (op-step-told t) (op-step-at t) op-step.Post
 op-step-fixity-at-requires t c κs =
@@ -2006,11 +2190,16 @@ op-step-same-length t c =
 op-step-returns : (t : ℕ) → op-step-lts.Need-returns (op-step-told t) (op-step-at t) op-step.Post
 unfolding pat.opStep plan choose chosen
 op-step-returns t c =
-    let pre0 = c .before .before .before .before .before .before .before .before .before .before .before .before .before .before .pre .1 .0 in
-    let fixity-at = rw (c .before .before .before .before .before .enum-told .given .1) at (c .before .before .before .before .before .before .before .fixity-at .ensures) in
-    let index = c .before .before .before .before .index .ensures in
-    let report = c .before .before .report .ensures in
-    in-steps pre0 (s-fixed fixity-at (s-index index (s-report report s-end)))
+    let X0 = c .before .before .before .before .before .before .before .before .before .before .before .before .before .before .args .text .now in
+    let T0 = c .before .before .before .before .before .before .before .before .before .before .before .before .before .before .args .toks .now in
+    let N0 = c .before .before .before .before .before .before .before .before .before .before .before .before .before .before .args .env .now in
+    let J0 = c .before .before .before .before .before .before .before .before .before .before .before .before .before .before .args .table .now in
+    let L0 = c .before .before .before .before .before .before .before .before .before .before .before .before .before .before .args .scratch .now in
+    let H0 = c .before .before .before .before .before .before .before .before .before .before .before .before .before .before .args .finds .now in
+    let S0 = c .before .before .before .before .before .before .before .before .before .before .before .before .before .before .args .s in
+    let H3 = c .before .before .report .last .0 in
+    let S3 = c .before .before .report .result in
+    in-steps {m = (mem X0 T0 N0 J0 L0 H0 S0)} {m' = (mem X0 T0 N0 J0 L0 H3 S3)} (c .before .before .before .before .before .before .before .before .before .before .before .before .before .before .pre .1 .0) (s-fixed {a = (mem X0 T0 N0 J0 L0 H0 S0)} {e = (mem X0 T0 N0 J0 L0 H3 S3)} (rw (c .before .before .before .before .before .enum-told .given .1) at (c .before .before .before .before .before .before .before .fixity-at .ensures)) (s-index (c .before .before .before .before .index .ensures) (s-report {e = (mem X0 T0 N0 J0 L0 H3 S3)} {x = X0} {t = T0} {n = N0} {j = J0} {l = L0} {h = H0} {s = S0} {s' = S3} {h' = H3} (c .before .before .report .ensures) s-end)))
 
 op-step-same-length-2 : (t : ℕ) → op-step-lts.Need-same-length-2 (op-step-told t) (op-step-at t) op-step.Post
 op-step-same-length-2 t c =
@@ -2023,10 +2212,17 @@ op-step-same-length-3 t c =
 op-step-returns-2 : (t : ℕ) → op-step-lts.Need-returns-2 (op-step-told t) (op-step-at t) op-step.Post
 unfolding pat.opStep plan choose chosen
 op-step-returns-2 t c =
-    let pre0 = c .before .before .before .before .before .before .before .before .before .before .before .before .before .before .before .before .before .before .before .before .pre .1 .0 in
-    let fixity-at = rw (c .before .before .before .before .before .before .before .before .before .before .before .fix .given .1) at (c .before .before .before .before .before .before .before .before .before .before .before .before .before .fixity-at .ensures) in
-    let should-break-pat = rw (c .before .ends .given .1) at (c .before .before .before .before .before .before .before .should-break-pat .ensures) in
-    in-steps pre0 (s-fixed fixity-at (s-by _ (runs-always (should-break-pat _)) s-end))
+    let X0 = c .before .before .before .before .before .before .before .before .before .before .before .before .before .before .before .before .before .before .before .before .args .text .now in
+    let T0 = c .before .before .before .before .before .before .before .before .before .before .before .before .before .before .before .before .before .before .before .before .args .toks .now in
+    let N0 = c .before .before .before .before .before .before .before .before .before .before .before .before .before .before .before .before .before .before .before .before .args .env .now in
+    let J0 = c .before .before .before .before .before .before .before .before .before .before .before .before .before .before .before .before .before .before .before .before .args .table .now in
+    let L0 = c .before .before .before .before .before .before .before .before .before .before .before .before .before .before .before .before .before .before .before .before .args .scratch .now in
+    let H0 = c .before .before .before .before .before .before .before .before .before .before .before .before .before .before .before .before .before .before .before .before .args .finds .now in
+    let S0 = c .before .before .before .before .before .before .before .before .before .before .before .before .before .before .before .before .before .before .before .before .args .s in
+    let L2 = c .before .before .before .before .before .before .before .should-break-pat .last .1 .1 .1 .1 .0 in
+    let H2 = c .before .before .before .before .before .before .before .should-break-pat .last .1 .1 .1 .1 .1 .0 in
+    let S2 = c .before .ends .given .0 .0 in
+    in-steps {m = (mem X0 T0 N0 J0 L0 H0 S0)} {m' = (mem X0 T0 N0 J0 L2 H2 S2)} (c .before .before .before .before .before .before .before .before .before .before .before .before .before .before .before .before .before .before .before .before .pre .1 .0) (s-fixed {a = (mem X0 T0 N0 J0 L0 H0 S0)} {e = (mem X0 T0 N0 J0 L2 H2 S2)} (rw (c .before .before .before .before .before .before .before .before .before .before .before .fix .given .1) at (c .before .before .before .before .before .before .before .before .before .before .before .before .before .fixity-at .ensures)) (s-by {a = (mem X0 T0 N0 J0 L0 H0 S0)} {c = (mem X0 T0 N0 J0 L2 H2 S2)} {e = (mem X0 T0 N0 J0 L2 H2 S2)} _ (runs-always {a = (mem X0 T0 N0 J0 L0 H0 S0)} {c = (mem X0 T0 N0 J0 L2 H2 S2)} ((rw (c .before .ends .given .1) at (c .before .before .before .before .before .before .before .should-break-pat .ensures)) _)) s-end))
 
 op-step-same-length-4 : (t : ℕ) → op-step-lts.Need-same-length-4 (op-step-told t) (op-step-at t) op-step.Post
 op-step-same-length-4 t c =
@@ -2039,11 +2235,20 @@ op-step-same-length-5 t c =
 op-step-returns-3 : (t : ℕ) → op-step-lts.Need-returns-3 (op-step-told t) (op-step-at t) op-step.Post
 unfolding pat.opStep plan choose chosen
 op-step-returns-3 t c =
-    let pre0 = c .before .before .before .before .before .before .before .before .before .before .before .before .before .before .before .before .before .before .before .before .before .before .before .before .before .before .before .pre .1 .0 in
-    let fixity-at = rw (c .before .before .before .before .before .before .before .before .before .before .before .before .before .before .before .before .before .before .fix .given .1) at (c .before .before .before .before .before .before .before .before .before .before .before .before .before .before .before .before .before .before .before .before .fixity-at .ensures) in
-    let should-break-pat = rw (c .before .before .before .before .before .before .before .before .ends2 .given .1) at (c .before .before .before .before .before .before .before .before .before .before .before .before .before .before .should-break-pat .ensures) in
-    let inf-pat = c .before .before .before .before .inf-pat .ensures in
-    in-steps pre0 (s-fixed fixity-at (s-by _ (runs-always (should-break-pat _)) (s-by _ inf-pat s-end)))
+    let X0 = c .before .before .before .before .before .before .before .before .before .before .before .before .before .before .before .before .before .before .before .before .before .before .before .before .before .before .before .args .text .now in
+    let T0 = c .before .before .before .before .before .before .before .before .before .before .before .before .before .before .before .before .before .before .before .before .before .before .before .before .before .before .before .args .toks .now in
+    let N0 = c .before .before .before .before .before .before .before .before .before .before .before .before .before .before .before .before .before .before .before .before .before .before .before .before .before .before .before .args .env .now in
+    let J0 = c .before .before .before .before .before .before .before .before .before .before .before .before .before .before .before .before .before .before .before .before .before .before .before .before .before .before .before .args .table .now in
+    let L0 = c .before .before .before .before .before .before .before .before .before .before .before .before .before .before .before .before .before .before .before .before .before .before .before .before .before .before .before .args .scratch .now in
+    let H0 = c .before .before .before .before .before .before .before .before .before .before .before .before .before .before .before .before .before .before .before .before .before .before .before .before .before .before .before .args .finds .now in
+    let S0 = c .before .before .before .before .before .before .before .before .before .before .before .before .before .before .before .before .before .before .before .before .before .before .before .before .before .before .before .args .s in
+    let L2 = c .before .before .before .before .before .before .before .before .before .before .before .before .before .before .should-break-pat .last .1 .1 .1 .1 .0 in
+    let H2 = c .before .before .before .before .before .before .before .before .before .before .before .before .before .before .should-break-pat .last .1 .1 .1 .1 .1 .0 in
+    let S2 = c .before .before .before .before .before .before .before .before .ends2 .given .0 .0 in
+    let L3 = c .before .before .before .before .inf-pat .last .1 .1 .1 .1 .0 in
+    let H3 = c .before .before .before .before .inf-pat .last .1 .1 .1 .1 .1 .0 in
+    let S3 = c .before .before .before .before .inf-pat .result in
+    in-steps {m = (mem X0 T0 N0 J0 L0 H0 S0)} {m' = (mem X0 T0 N0 J0 L3 H3 S3)} (c .before .before .before .before .before .before .before .before .before .before .before .before .before .before .before .before .before .before .before .before .before .before .before .before .before .before .before .pre .1 .0) (s-fixed {a = (mem X0 T0 N0 J0 L0 H0 S0)} {e = (mem X0 T0 N0 J0 L3 H3 S3)} (rw (c .before .before .before .before .before .before .before .before .before .before .before .before .before .before .before .before .before .before .fix .given .1) at (c .before .before .before .before .before .before .before .before .before .before .before .before .before .before .before .before .before .before .before .before .fixity-at .ensures)) (s-by {a = (mem X0 T0 N0 J0 L0 H0 S0)} {c = (mem X0 T0 N0 J0 L2 H2 S2)} {e = (mem X0 T0 N0 J0 L3 H3 S3)} _ (runs-always {a = (mem X0 T0 N0 J0 L0 H0 S0)} {c = (mem X0 T0 N0 J0 L2 H2 S2)} ((rw (c .before .before .before .before .before .before .before .before .ends2 .given .1) at (c .before .before .before .before .before .before .before .before .before .before .before .before .before .before .should-break-pat .ensures)) _)) (s-by {a = (mem X0 T0 N0 J0 L2 H2 S2)} {c = (mem X0 T0 N0 J0 L3 H3 S3)} {e = (mem X0 T0 N0 J0 L3 H3 S3)} _ (c .before .before .before .before .inf-pat .ensures) s-end)))
 
 op-tail-fixity-at-requires : (t : ℕ) → op-tail-lts.Need-fixity-at-requires (op-tail-told t) (op-tail-at t) op-tail.Post
 op-tail-fixity-at-requires t c κs =
@@ -2074,9 +2279,14 @@ op-tail-inf-pat-requires t c κs =
 op-tail-returns : (t : ℕ) → op-tail-lts.Need-returns (op-tail-told t) (op-tail-at t) op-tail.Post
 unfolding pat.opTail plan choose chosen
 op-tail-returns t c =
-    let pre0 = c .before .before .before .before .before .before .before .before .before .pre .1 .0 in
-    let fixity-at = rw (c .enum-told .given .1) at (c .before .before .fixity-at .ensures) in
-    in-steps pre0 (s-fixed fixity-at s-end)
+    let X0 = c .before .before .before .before .before .before .before .before .before .args .text .now in
+    let T0 = c .before .before .before .before .before .before .before .before .before .args .toks .now in
+    let N0 = c .before .before .before .before .before .before .before .before .before .args .env .now in
+    let J0 = c .before .before .before .before .before .before .before .before .before .args .table .now in
+    let L0 = c .before .before .before .before .before .before .before .before .before .args .scratch .now in
+    let H0 = c .before .before .before .before .before .before .before .before .before .args .finds .now in
+    let S0 = c .before .before .before .before .before .before .before .before .before .args .s in
+    in-steps {m = (mem X0 T0 N0 J0 L0 H0 S0)} {m' = (mem X0 T0 N0 J0 L0 H0 S0)} (c .before .before .before .before .before .before .before .before .before .pre .1 .0) (s-fixed {a = (mem X0 T0 N0 J0 L0 H0 S0)} {e = (mem X0 T0 N0 J0 L0 H0 S0)} (rw (c .enum-told .given .1) at (c .before .before .fixity-at .ensures)) s-end)
 
 op-tail-same-length : (t : ℕ) → op-tail-lts.Need-same-length (op-tail-told t) (op-tail-at t) op-tail.Post
 op-tail-same-length t c =
@@ -2089,10 +2299,17 @@ op-tail-same-length-2 t c =
 op-tail-returns-2 : (t : ℕ) → op-tail-lts.Need-returns-2 (op-tail-told t) (op-tail-at t) op-tail.Post
 unfolding pat.opTail plan choose chosen
 op-tail-returns-2 t c =
-    let pre0 = c .before .before .before .before .before .before .before .before .before .before .before .before .before .before .before .before .before .pre .1 .0 in
-    let fixity-at = rw (c .before .before .before .before .before .before .before .before .fix .given .1) at (c .before .before .before .before .before .before .before .before .before .before .fixity-at .ensures) in
-    let inf-pat = c .before .before .before .before .inf-pat .ensures in
-    in-steps pre0 (s-fixed fixity-at (s-by _ inf-pat s-end))
+    let X0 = c .before .before .before .before .before .before .before .before .before .before .before .before .before .before .before .before .before .args .text .now in
+    let T0 = c .before .before .before .before .before .before .before .before .before .before .before .before .before .before .before .before .before .args .toks .now in
+    let N0 = c .before .before .before .before .before .before .before .before .before .before .before .before .before .before .before .before .before .args .env .now in
+    let J0 = c .before .before .before .before .before .before .before .before .before .before .before .before .before .before .before .before .before .args .table .now in
+    let L0 = c .before .before .before .before .before .before .before .before .before .before .before .before .before .before .before .before .before .args .scratch .now in
+    let H0 = c .before .before .before .before .before .before .before .before .before .before .before .before .before .before .before .before .before .args .finds .now in
+    let S0 = c .before .before .before .before .before .before .before .before .before .before .before .before .before .before .before .before .before .args .s in
+    let L2 = c .before .before .before .before .inf-pat .last .1 .1 .1 .1 .0 in
+    let H2 = c .before .before .before .before .inf-pat .last .1 .1 .1 .1 .1 .0 in
+    let S2 = c .before .before .before .before .inf-pat .result in
+    in-steps {m = (mem X0 T0 N0 J0 L0 H0 S0)} {m' = (mem X0 T0 N0 J0 L2 H2 S2)} (c .before .before .before .before .before .before .before .before .before .before .before .before .before .before .before .before .before .pre .1 .0) (s-fixed {a = (mem X0 T0 N0 J0 L0 H0 S0)} {e = (mem X0 T0 N0 J0 L2 H2 S2)} (rw (c .before .before .before .before .before .before .before .before .fix .given .1) at (c .before .before .before .before .before .before .before .before .before .before .fixity-at .ensures)) (s-by {a = (mem X0 T0 N0 J0 L0 H0 S0)} {c = (mem X0 T0 N0 J0 L2 H2 S2)} {e = (mem X0 T0 N0 J0 L2 H2 S2)} _ (c .before .before .before .before .inf-pat .ensures) s-end))
 
 or-step-is-min-requires : (t : ℕ) → or-step-lts.Need-is-min-requires (or-step-told t) (or-step-at t) or-step.Post
 or-step-is-min-requires t c κs =
@@ -2103,14 +2320,17 @@ or-step-refuse-requires t c κs =
     tt
 
 or-step-returns : (t : ℕ) → or-step-lts.Need-returns (or-step-told t) (or-step-at t) or-step.Post
-unfolding pat.orStep plan choose chosen
+unfolding pat.orStep plan choose chosen hushed
 or-step-returns t c =
-    let pre0 = c .before .before .before .before .before .before .before .before .before .before .pre .1 .0 in
-    let is-min = c .before .before .before .is-min .ensures in
-    let if1 = c .before .before .if1 .taken in
-    let if2 = c .before .if2 .taken in
-    let refuse = c .refuse .ensures in
-    in-steps pre0 (s-true _ _ (test-true is-min if1) (s-deep if2 refuse s-end))
+    let X0 = c .before .before .before .before .before .before .before .before .before .before .args .text .now in
+    let T0 = c .before .before .before .before .before .before .before .before .before .before .args .toks .now in
+    let N0 = c .before .before .before .before .before .before .before .before .before .before .args .env .now in
+    let J0 = c .before .before .before .before .before .before .before .before .before .before .args .table .now in
+    let L0 = c .before .before .before .before .before .before .before .before .before .before .args .scratch .now in
+    let H0 = c .before .before .before .before .before .before .before .before .before .before .args .finds .now in
+    let S0 = c .before .before .before .before .before .before .before .before .before .before .args .s in
+    let S4 = c .refuse .result in
+    in-steps {m = (mem X0 T0 N0 J0 L0 H0 S0)} {m' = (mem X0 T0 N0 J0 L0 H0 S4)} (c .before .before .before .before .before .before .before .before .before .before .pre .1 .0) (s-true {a = (mem X0 T0 N0 J0 L0 H0 S0)} {e = (mem X0 T0 N0 J0 L0 H0 S4)} _ _ (test-true (c .before .before .before .is-min .ensures) (c .before .before .if1 .taken)) (s-shut (c .before .if2 .taken) (c .refuse .ensures) (λ k l. refl)))
 
 or-step-mark-requires : (t : ℕ) → or-step-lts.Need-mark-requires (or-step-told t) (or-step-at t) or-step.Post
 or-step-mark-requires t c κs =
@@ -2163,35 +2383,51 @@ or-step-same-length-2 t c =
 or-step-returns-2 : (t : ℕ) → or-step-lts.Need-returns-2 (or-step-told t) (or-step-at t) or-step.Post
 unfolding pat.orStep plan choose chosen
 or-step-returns-2 t c =
-    let pre0 = c .before .before .before .before .before .before .before .before .before .before .before .before .before .before .before .before .before .before .before .before .before .before .before .before .before .pre .1 .0 in
-    let is-min = c .before .before .before .before .before .before .before .before .before .before .before .before .before .before .before .before .before .before .is-min .ensures in
-    let if1 = c .before .before .before .before .before .before .before .before .before .before .before .before .before .before .before .before .before .if1 .taken in
-    let if2 = c .before .before .before .before .before .before .before .before .before .before .before .before .before .before .before .before .if2 .left in
-    let mark = c .before .before .before .before .before .before .before .before .before .before .before .before .before .before .mark .ensures in
-    let bump = c .before .before .before .before .before .before .before .before .before .before .before .before .before .bump .ensures in
-    let pat-must = c .before .before .before .before .before .before .before .before .pat-must .ensures in
-    let close = c .before .before .close .ensures in
-    in-steps pre0 (s-true _ _ (test-true is-min if1) (s-mark if2 mark (s-bump bump (s-by _ (runs-in pat-must) (s-close close s-end)))))
+    let X0 = c .before .before .before .before .before .before .before .before .before .before .before .before .before .before .before .before .before .before .before .before .before .before .before .before .before .args .text .now in
+    let T0 = c .before .before .before .before .before .before .before .before .before .before .before .before .before .before .before .before .before .before .before .before .before .before .before .before .before .args .toks .now in
+    let N0 = c .before .before .before .before .before .before .before .before .before .before .before .before .before .before .before .before .before .before .before .before .before .before .before .before .before .args .env .now in
+    let J0 = c .before .before .before .before .before .before .before .before .before .before .before .before .before .before .before .before .before .before .before .before .before .before .before .before .before .args .table .now in
+    let L0 = c .before .before .before .before .before .before .before .before .before .before .before .before .before .before .before .before .before .before .before .before .before .before .before .before .before .args .scratch .now in
+    let H0 = c .before .before .before .before .before .before .before .before .before .before .before .before .before .before .before .before .before .before .before .before .before .before .before .before .before .args .finds .now in
+    let S0 = c .before .before .before .before .before .before .before .before .before .before .before .before .before .before .before .before .before .before .before .before .before .before .before .before .before .args .s in
+    let S4 = c .before .before .before .before .before .before .before .before .before .before .before .before .before .before .mark .result in
+    let L5 = c .before .before .before .before .before .before .before .before .before .before .before .before .before .bump .last .1 .0 in
+    let S5 = c .before .before .before .before .before .before .before .before .before .before .before .before .before .bump .result in
+    let L6 = c .before .before .before .before .before .before .before .before .pat-must .last .1 .1 .1 .1 .0 in
+    let H6 = c .before .before .before .before .before .before .before .before .pat-must .last .1 .1 .1 .1 .1 .0 in
+    let S6 = c .before .before .before .before .before .before .before .before .pat-must .result in
+    let L7 = c .before .before .close .last .0 in
+    let S7 = c .before .before .close .result in
+    in-steps {m = (mem X0 T0 N0 J0 L0 H0 S0)} {m' = (mem X0 T0 N0 J0 L7 H6 S7)} (c .before .before .before .before .before .before .before .before .before .before .before .before .before .before .before .before .before .before .before .before .before .before .before .before .before .pre .1 .0) (s-true {a = (mem X0 T0 N0 J0 L0 H0 S0)} {e = (mem X0 T0 N0 J0 L7 H6 S7)} _ _ (test-true (c .before .before .before .before .before .before .before .before .before .before .before .before .before .before .before .before .before .before .is-min .ensures) (c .before .before .before .before .before .before .before .before .before .before .before .before .before .before .before .before .before .if1 .taken)) (s-mark {e = (mem X0 T0 N0 J0 L7 H6 S7)} {x = X0} {t = T0} {n = N0} {j = J0} {l = L0} {h = H0} {s = S0} {s' = S4} (c .before .before .before .before .before .before .before .before .before .before .before .before .before .before .before .before .if2 .left) (c .before .before .before .before .before .before .before .before .before .before .before .before .before .before .mark .ensures) (s-bump {e = (mem X0 T0 N0 J0 L7 H6 S7)} {x = X0} {t = T0} {n = N0} {j = J0} {l = L0} {h = H0} {s = S4} {s' = S5} {l' = L5} (c .before .before .before .before .before .before .before .before .before .before .before .before .before .bump .ensures) (s-by {a = (mem X0 T0 N0 J0 L5 H0 S5)} {c = (mem X0 T0 N0 J0 L6 H6 S6)} {e = (mem X0 T0 N0 J0 L7 H6 S7)} _ (runs-in {a = (mem X0 T0 N0 J0 L5 H0 S5)} {c = (mem X0 T0 N0 J0 L6 H6 S6)} (c .before .before .before .before .before .before .before .before .pat-must .ensures)) (s-close {e = (mem X0 T0 N0 J0 L7 H6 S7)} {x = X0} {t = T0} {n = N0} {j = J0} {l = L6} {h = H6} {s = S6} {s' = S7} {l' = L7} (c .before .before .close .ensures) s-end)))))
 
 or-step-returns-3 : (t : ℕ) → or-step-lts.Need-returns-3 (or-step-told t) (or-step-at t) or-step.Post
 unfolding pat.orStep plan choose chosen
 or-step-returns-3 t c =
-    let pre0 = c .before .before .before .before .before .before .before .before .pre .1 .0 in
-    let is-min = c .before .is-min .ensures in
-    let if1 = c .if1 .left in
-    in-steps pre0 (s-false _ _ (test-false is-min if1) s-end)
+    let X0 = c .before .before .before .before .before .before .before .before .args .text .now in
+    let T0 = c .before .before .before .before .before .before .before .before .args .toks .now in
+    let N0 = c .before .before .before .before .before .before .before .before .args .env .now in
+    let J0 = c .before .before .before .before .before .before .before .before .args .table .now in
+    let L0 = c .before .before .before .before .before .before .before .before .args .scratch .now in
+    let H0 = c .before .before .before .before .before .before .before .before .args .finds .now in
+    let S0 = c .before .before .before .before .before .before .before .before .args .s in
+    in-steps {m = (mem X0 T0 N0 J0 L0 H0 S0)} {m' = (mem X0 T0 N0 J0 L0 H0 S0)} (c .before .before .before .before .before .before .before .before .pre .1 .0) (s-false {a = (mem X0 T0 N0 J0 L0 H0 S0)} {e = (mem X0 T0 N0 J0 L0 H0 S0)} _ _ (test-false (c .before .is-min .ensures) (c .if1 .left)) s-end)
 
 pat-arg-refuse-requires : (t : ℕ) → pat-arg-lts.Need-refuse-requires (pat-arg-told t) (pat-arg-at t) pat-arg.Post
 pat-arg-refuse-requires t c κs =
     tt
 
 pat-arg-returns : (t : ℕ) → pat-arg-lts.Need-returns (pat-arg-told t) (pat-arg-at t) pat-arg.Post
-unfolding pat.patArg plan choose chosen
+unfolding pat.patArg plan choose chosen hushed
 pat-arg-returns t c =
-    let pre0 = c .before .before .before .before .before .before .before .before .pre .1 in
-    let if1 = c .before .if1 .taken in
-    let refuse = c .refuse .ensures in
-    by-steps pre0 (λ b. s-deep if1 refuse s-end)
+    let X0 = c .before .before .before .before .before .before .before .before .args .text .now in
+    let T0 = c .before .before .before .before .before .before .before .before .args .toks .now in
+    let N0 = c .before .before .before .before .before .before .before .before .args .env .now in
+    let J0 = c .before .before .before .before .before .before .before .before .args .table .now in
+    let L0 = c .before .before .before .before .before .before .before .before .args .scratch .now in
+    let H0 = c .before .before .before .before .before .before .before .before .args .finds .now in
+    let S0 = c .before .before .before .before .before .before .before .before .args .s in
+    let S2 = c .refuse .result in
+    by-steps {m = (mem X0 T0 N0 J0 L0 H0 S0)} {m' = (mem X0 T0 N0 J0 L0 H0 S2)} (c .before .before .before .before .before .before .before .before .pre .1) (λ b. s-shut (c .before .if1 .taken) (c .refuse .ensures) (λ k l. refl))
 
 pat-arg-mark-requires : (t : ℕ) → pat-arg-lts.Need-mark-requires (pat-arg-told t) (pat-arg-at t) pat-arg.Post
 pat-arg-mark-requires t c κs =
@@ -2230,13 +2466,18 @@ pat-arg-same-length-2 t c =
 pat-arg-returns-2 : (t : ℕ) → pat-arg-lts.Need-returns-2 (pat-arg-told t) (pat-arg-at t) pat-arg.Post
 unfolding pat.patArg plan choose chosen
 pat-arg-returns-2 t c =
-    let pre0 = c .before .before .before .before .before .before .before .before .before .before .before .before .before .before .before .before .before .pre .1 in
-    let if1 = c .before .before .before .before .before .before .before .before .before .before .if1 .left in
-    let mark = c .before .before .before .before .before .before .before .before .before .mark .ensures in
-    let pat-must = c .before .before .before .before .before .before .pat-must .ensures in
-    let at = c .before .at .ensures in
-    let if2 = c .if2 .taken in
-    by-steps pre0 (λ b. s-mark if1 mark (s-by _ (runs-in pat-must) (s-kind (s-true _ _ (kind-at _ _ _ _ at if2) s-end))))
+    let X0 = c .before .before .before .before .before .before .before .before .before .before .before .before .before .before .before .before .before .args .text .now in
+    let T0 = c .before .before .before .before .before .before .before .before .before .before .before .before .before .before .before .before .before .args .toks .now in
+    let N0 = c .before .before .before .before .before .before .before .before .before .before .before .before .before .before .before .before .before .args .env .now in
+    let J0 = c .before .before .before .before .before .before .before .before .before .before .before .before .before .before .before .before .before .args .table .now in
+    let L0 = c .before .before .before .before .before .before .before .before .before .before .before .before .before .before .before .before .before .args .scratch .now in
+    let H0 = c .before .before .before .before .before .before .before .before .before .before .before .before .before .before .before .before .before .args .finds .now in
+    let S0 = c .before .before .before .before .before .before .before .before .before .before .before .before .before .before .before .before .before .args .s in
+    let S2 = c .before .before .before .before .before .before .before .before .before .mark .result in
+    let L3 = c .before .before .before .before .before .before .pat-must .last .1 .1 .1 .1 .0 in
+    let H3 = c .before .before .before .before .before .before .pat-must .last .1 .1 .1 .1 .1 .0 in
+    let S3 = c .before .before .before .before .before .before .pat-must .result in
+    by-steps {m = (mem X0 T0 N0 J0 L0 H0 S0)} {m' = (mem X0 T0 N0 J0 L3 H3 S3)} (c .before .before .before .before .before .before .before .before .before .before .before .before .before .before .before .before .before .pre .1) (λ b. s-mark {e = (mem X0 T0 N0 J0 L3 H3 S3)} {x = X0} {t = T0} {n = N0} {j = J0} {l = L0} {h = H0} {s = S0} {s' = S2} (c .before .before .before .before .before .before .before .before .before .before .if1 .left) (c .before .before .before .before .before .before .before .before .before .mark .ensures) (s-by {a = (mem X0 T0 N0 J0 L0 H0 S2)} {c = (mem X0 T0 N0 J0 L3 H3 S3)} {e = (mem X0 T0 N0 J0 L3 H3 S3)} _ (runs-in {a = (mem X0 T0 N0 J0 L0 H0 S2)} {c = (mem X0 T0 N0 J0 L3 H3 S3)} (c .before .before .before .before .before .before .pat-must .ensures)) (s-kind {a = (mem X0 T0 N0 J0 L3 H3 S3)} {e = (mem X0 T0 N0 J0 L3 H3 S3)} (s-true {a = (mem X0 T0 N0 J0 L3 H3 S3)} {e = (mem X0 T0 N0 J0 L3 H3 S3)} _ _ (kind-at _ _ (mem X0 T0 N0 J0 L3 H3 S3) _ (c .before .at .ensures) (c .if2 .taken)) s-end))))
 
 pat-arg-eat-requires : (t : ℕ) → pat-arg-lts.Need-eat-requires (pat-arg-told t) (pat-arg-at t) pat-arg.Post
 pat-arg-eat-requires t c κs =
@@ -2275,16 +2516,23 @@ pat-arg-same-length-4 t c =
 pat-arg-returns-3 : (t : ℕ) → pat-arg-lts.Need-returns-3 (pat-arg-told t) (pat-arg-at t) pat-arg.Post
 unfolding pat.patArg plan choose chosen
 pat-arg-returns-3 t c =
-    let pre0 = c .before .before .before .before .before .before .before .before .before .before .before .before .before .before .before .before .before .before .before .before .before .before .before .before .before .before .before .before .before .pre .1 in
-    let if1 = c .before .before .before .before .before .before .before .before .before .before .before .before .before .before .before .before .before .before .before .before .before .before .if1 .left in
-    let mark = c .before .before .before .before .before .before .before .before .before .before .before .before .before .before .before .before .before .before .before .before .before .mark .ensures in
-    let pat-must = c .before .before .before .before .before .before .before .before .before .before .before .before .before .before .before .before .before .before .pat-must .ensures in
-    let at = c .before .before .before .before .before .before .before .before .before .before .before .before .before .at .ensures in
-    let if2 = c .before .before .before .before .before .before .before .before .before .before .before .before .if2 .left in
-    let eat = c .before .before .before .before .before .before .before .before .before .eat .ensures in
-    let state = c .before .before .before .before .state .ensures in
-    let close = c .before .before .close .ensures in
-    by-steps pre0 (λ b. s-mark if1 mark (s-by _ (runs-in pat-must) (s-kind (s-false _ _ (kind-off _ _ _ _ at if2) (s-eats _ _ _ (eats-settled state eat) (s-close close s-end))))))
+    let X0 = c .before .before .before .before .before .before .before .before .before .before .before .before .before .before .before .before .before .before .before .before .before .before .before .before .before .before .before .before .before .args .text .now in
+    let T0 = c .before .before .before .before .before .before .before .before .before .before .before .before .before .before .before .before .before .before .before .before .before .before .before .before .before .before .before .before .before .args .toks .now in
+    let N0 = c .before .before .before .before .before .before .before .before .before .before .before .before .before .before .before .before .before .before .before .before .before .before .before .before .before .before .before .before .before .args .env .now in
+    let J0 = c .before .before .before .before .before .before .before .before .before .before .before .before .before .before .before .before .before .before .before .before .before .before .before .before .before .before .before .before .before .args .table .now in
+    let L0 = c .before .before .before .before .before .before .before .before .before .before .before .before .before .before .before .before .before .before .before .before .before .before .before .before .before .before .before .before .before .args .scratch .now in
+    let H0 = c .before .before .before .before .before .before .before .before .before .before .before .before .before .before .before .before .before .before .before .before .before .before .before .before .before .before .before .before .before .args .finds .now in
+    let S0 = c .before .before .before .before .before .before .before .before .before .before .before .before .before .before .before .before .before .before .before .before .before .before .before .before .before .before .before .before .before .args .s in
+    let S2 = c .before .before .before .before .before .before .before .before .before .before .before .before .before .before .before .before .before .before .before .before .before .mark .result in
+    let L3 = c .before .before .before .before .before .before .before .before .before .before .before .before .before .before .before .before .before .before .pat-must .last .1 .1 .1 .1 .0 in
+    let H3 = c .before .before .before .before .before .before .before .before .before .before .before .before .before .before .before .before .before .before .pat-must .last .1 .1 .1 .1 .1 .0 in
+    let S3 = c .before .before .before .before .before .before .before .before .before .before .before .before .before .before .before .before .before .before .pat-must .result in
+    let L6 = c .before .before .before .before .before .before .before .before .before .eat .last .1 .0 in
+    let H6 = c .before .before .before .before .before .before .before .before .before .eat .last .1 .1 .0 in
+    let S7 = c .before .before .before .before .state .result in
+    let L8 = c .before .before .close .last .0 in
+    let S8 = c .before .before .close .result in
+    by-steps {m = (mem X0 T0 N0 J0 L0 H0 S0)} {m' = (mem X0 T0 N0 J0 L8 H6 S8)} (c .before .before .before .before .before .before .before .before .before .before .before .before .before .before .before .before .before .before .before .before .before .before .before .before .before .before .before .before .before .pre .1) (λ b. s-mark {e = (mem X0 T0 N0 J0 L8 H6 S8)} {x = X0} {t = T0} {n = N0} {j = J0} {l = L0} {h = H0} {s = S0} {s' = S2} (c .before .before .before .before .before .before .before .before .before .before .before .before .before .before .before .before .before .before .before .before .before .before .if1 .left) (c .before .before .before .before .before .before .before .before .before .before .before .before .before .before .before .before .before .before .before .before .before .mark .ensures) (s-by {a = (mem X0 T0 N0 J0 L0 H0 S2)} {c = (mem X0 T0 N0 J0 L3 H3 S3)} {e = (mem X0 T0 N0 J0 L8 H6 S8)} _ (runs-in {a = (mem X0 T0 N0 J0 L0 H0 S2)} {c = (mem X0 T0 N0 J0 L3 H3 S3)} (c .before .before .before .before .before .before .before .before .before .before .before .before .before .before .before .before .before .before .pat-must .ensures)) (s-kind {a = (mem X0 T0 N0 J0 L3 H3 S3)} {e = (mem X0 T0 N0 J0 L8 H6 S8)} (s-false {a = (mem X0 T0 N0 J0 L3 H3 S3)} {e = (mem X0 T0 N0 J0 L8 H6 S8)} _ _ (kind-off _ _ (mem X0 T0 N0 J0 L3 H3 S3) _ (c .before .before .before .before .before .before .before .before .before .before .before .before .before .at .ensures) (c .before .before .before .before .before .before .before .before .before .before .before .before .if2 .left)) (s-eats _ _ {x = X0} {t = T0} {n = N0} {j = J0} {l = L3} {h = H3} {l' = L6} {s = S3} {s' = S7} {e = (mem X0 T0 N0 J0 L8 H6 S8)} _ {h' = H6} (eats-settled (c .before .before .before .before .state .ensures) (c .before .before .before .before .before .before .before .before .before .eat .ensures)) (s-close {e = (mem X0 T0 N0 J0 L8 H6 S8)} {x = X0} {t = T0} {n = N0} {j = J0} {l = L6} {h = H6} {s = S7} {s' = S8} {l' = L8} (c .before .before .close .ensures) s-end))))))
 
 pat-must-pat-prec-requires : (t : ℕ) → pat-must-lts.Need-pat-prec-requires (pat-must-told t) (pat-must-at t) pat-must.Post
 pat-must-pat-prec-requires t c κs =
@@ -2322,9 +2570,17 @@ pat-must-same-length-2 t c =
 pat-must-returns : (t : ℕ) → pat-must-lts.Need-returns (pat-must-told t) (pat-must-at t) pat-must.Post
 unfolding pat.patMust plan choose chosen
 pat-must-returns t c =
-    let pre0 = c .before .before .before .before .before .before .before .before .before .before .before .before .before .before .before .before .pre .1 in
-    let pat-prec = rw (c .before .got .given .1) at (c .before .before .before .before .before .before .before .pat-prec .ensures) in
-    by-steps pre0 (λ b. s-run (runs-in pat-prec) s-end)
+    let X0 = c .before .before .before .before .before .before .before .before .before .before .before .before .before .before .before .before .args .text .now in
+    let T0 = c .before .before .before .before .before .before .before .before .before .before .before .before .before .before .before .before .args .toks .now in
+    let N0 = c .before .before .before .before .before .before .before .before .before .before .before .before .before .before .before .before .args .env .now in
+    let J0 = c .before .before .before .before .before .before .before .before .before .before .before .before .before .before .before .before .args .table .now in
+    let L0 = c .before .before .before .before .before .before .before .before .before .before .before .before .before .before .before .before .args .scratch .now in
+    let H0 = c .before .before .before .before .before .before .before .before .before .before .before .before .before .before .before .before .args .finds .now in
+    let S0 = c .before .before .before .before .before .before .before .before .before .before .before .before .before .before .before .before .args .s in
+    let L1 = c .before .before .before .before .before .before .before .pat-prec .last .1 .1 .1 .1 .0 in
+    let H1 = c .before .before .before .before .before .before .before .pat-prec .last .1 .1 .1 .1 .1 .0 in
+    let S1 = c .before .got .given .0 .0 in
+    by-steps {m = (mem X0 T0 N0 J0 L0 H0 S0)} {m' = (mem X0 T0 N0 J0 L1 H1 S1)} (c .before .before .before .before .before .before .before .before .before .before .before .before .before .before .before .before .pre .1) (λ b. s-run {a = (mem X0 T0 N0 J0 L0 H0 S0)} {c = (mem X0 T0 N0 J0 L1 H1 S1)} {e = (mem X0 T0 N0 J0 L1 H1 S1)} (runs-in {a = (mem X0 T0 N0 J0 L0 H0 S0)} {c = (mem X0 T0 N0 J0 L1 H1 S1)} (rw (c .before .got .given .1) at (c .before .before .before .before .before .before .before .pat-prec .ensures))) s-end)
 
 pat-must-same-length-3 : (t : ℕ) → pat-must-lts.Need-same-length-3 (pat-must-told t) (pat-must-at t) pat-must.Post
 pat-must-same-length-3 t c =
@@ -2337,10 +2593,19 @@ pat-must-same-length-4 t c =
 pat-must-returns-2 : (t : ℕ) → pat-must-lts.Need-returns-2 (pat-must-told t) (pat-must-at t) pat-must.Post
 unfolding pat.patMust plan choose chosen
 pat-must-returns-2 t c =
-    let pre0 = c .before .before .before .before .before .before .before .before .before .before .before .before .before .before .before .before .before .before .before .before .pre .1 in
-    let pat-prec = rw (c .before .before .before .before .before .got2 .given .1) at (c .before .before .before .before .before .before .before .before .before .before .before .pat-prec .ensures) in
-    let report = c .before .before .report .ensures in
-    by-steps pre0 (λ b. s-run (runs-in pat-prec) (s-report report s-end))
+    let X0 = c .before .before .before .before .before .before .before .before .before .before .before .before .before .before .before .before .before .before .before .before .args .text .now in
+    let T0 = c .before .before .before .before .before .before .before .before .before .before .before .before .before .before .before .before .before .before .before .before .args .toks .now in
+    let N0 = c .before .before .before .before .before .before .before .before .before .before .before .before .before .before .before .before .before .before .before .before .args .env .now in
+    let J0 = c .before .before .before .before .before .before .before .before .before .before .before .before .before .before .before .before .before .before .before .before .args .table .now in
+    let L0 = c .before .before .before .before .before .before .before .before .before .before .before .before .before .before .before .before .before .before .before .before .args .scratch .now in
+    let H0 = c .before .before .before .before .before .before .before .before .before .before .before .before .before .before .before .before .before .before .before .before .args .finds .now in
+    let S0 = c .before .before .before .before .before .before .before .before .before .before .before .before .before .before .before .before .before .before .before .before .args .s in
+    let L1 = c .before .before .before .before .before .before .before .before .before .before .before .pat-prec .last .1 .1 .1 .1 .0 in
+    let H1 = c .before .before .before .before .before .before .before .before .before .before .before .pat-prec .last .1 .1 .1 .1 .1 .0 in
+    let S1 = c .before .before .before .before .before .got2 .given .0 .0 in
+    let H2 = c .before .before .report .last .0 in
+    let S2 = c .before .before .report .result in
+    by-steps {m = (mem X0 T0 N0 J0 L0 H0 S0)} {m' = (mem X0 T0 N0 J0 L1 H2 S2)} (c .before .before .before .before .before .before .before .before .before .before .before .before .before .before .before .before .before .before .before .before .pre .1) (λ b. s-run {a = (mem X0 T0 N0 J0 L0 H0 S0)} {c = (mem X0 T0 N0 J0 L1 H1 S1)} {e = (mem X0 T0 N0 J0 L1 H2 S2)} (runs-in {a = (mem X0 T0 N0 J0 L0 H0 S0)} {c = (mem X0 T0 N0 J0 L1 H1 S1)} (rw (c .before .before .before .before .before .got2 .given .1) at (c .before .before .before .before .before .before .before .before .before .before .before .pat-prec .ensures))) (s-report {e = (mem X0 T0 N0 J0 L1 H2 S2)} {x = X0} {t = T0} {n = N0} {j = J0} {l = L1} {h = H1} {s = S1} {s' = S2} {h' = H2} (c .before .before .report .ensures) s-end))
 
 pat-prec-peek-requires : (t : ℕ) → pat-prec-lts.Need-peek-requires (pat-prec-told t) (pat-prec-at t) pat-prec.Post
 pat-prec-peek-requires t c κs =
@@ -2376,10 +2641,17 @@ pat-prec-same-length-2 t c =
 pat-prec-returns : (t : ℕ) → pat-prec-lts.Need-returns (pat-prec-told t) (pat-prec-at t) pat-prec.Post
 unfolding root.body pat.patScope plan choose chosen
 pat-prec-returns t c =
-    let pre0 = c .before .before .before .before .before .before .before .before .before .before .before .before .before .before .before .before .pre .1 in
-    let peek = rw (c .before .before .before .before .before .before .before .enum-told .given .1) at (c .before .before .before .before .before .before .before .before .before .peek .ensures) in
-    let atom = c .before .before .before .before .atom .ensures in
-    by-steps pre0 (λ b. s-rule (s-look peek (s-by _ atom s-end)))
+    let X0 = c .before .before .before .before .before .before .before .before .before .before .before .before .before .before .before .before .args .text .now in
+    let T0 = c .before .before .before .before .before .before .before .before .before .before .before .before .before .before .before .before .args .toks .now in
+    let N0 = c .before .before .before .before .before .before .before .before .before .before .before .before .before .before .before .before .args .env .now in
+    let J0 = c .before .before .before .before .before .before .before .before .before .before .before .before .before .before .before .before .args .table .now in
+    let L0 = c .before .before .before .before .before .before .before .before .before .before .before .before .before .before .before .before .args .scratch .now in
+    let H0 = c .before .before .before .before .before .before .before .before .before .before .before .before .before .before .before .before .args .finds .now in
+    let S0 = c .before .before .before .before .before .before .before .before .before .before .before .before .before .before .before .before .args .s in
+    let L2 = c .before .before .before .before .atom .last .1 .1 .1 .1 .0 in
+    let H2 = c .before .before .before .before .atom .last .1 .1 .1 .1 .1 .0 in
+    let S2 = outState (c .before .before .before .before .atom .result) in
+    by-steps {m = (mem X0 T0 N0 J0 L0 H0 S0)} {m' = (mem X0 T0 N0 J0 L2 H2 S2)} (c .before .before .before .before .before .before .before .before .before .before .before .before .before .before .before .before .pre .1) (λ b. s-rule {a = (mem X0 T0 N0 J0 L0 H0 S0)} {e = (mem X0 T0 N0 J0 L2 H2 S2)} (s-look {a = (mem X0 T0 N0 J0 L0 H0 S0)} {e = (mem X0 T0 N0 J0 L2 H2 S2)} (rw (c .before .before .before .before .before .before .before .enum-told .given .1) at (c .before .before .before .before .before .before .before .before .before .peek .ensures)) (s-by {a = (mem X0 T0 N0 J0 L0 H0 S0)} {c = (mem X0 T0 N0 J0 L2 H2 S2)} {e = (mem X0 T0 N0 J0 L2 H2 S2)} _ (c .before .before .before .before .atom .ensures) s-end)))
 
 pat-prec-name-star-requires : (t : ℕ) → pat-prec-lts.Need-name-star-requires (pat-prec-told t) (pat-prec-at t) pat-prec.Post
 pat-prec-name-star-requires t c κs =
@@ -2403,12 +2675,17 @@ pat-prec-same-length-4 t c =
 pat-prec-returns-2 : (t : ℕ) → pat-prec-lts.Need-returns-2 (pat-prec-told t) (pat-prec-at t) pat-prec.Post
 unfolding root.body pat.patScope plan choose chosen
 pat-prec-returns-2 t c =
-    let pre0 = c .before .before .before .before .before .before .before .before .before .before .before .before .before .before .before .before .before .before .before .pre .1 in
-    let peek = rw (c .before .before .before .before .before .before .before .before .before .before .k .given .1) at (c .before .before .before .before .before .before .before .before .before .before .before .before .peek .ensures) in
-    let name-star = c .before .before .before .before .before .before .before .before .name-star .ensures in
-    let if1 = c .before .before .before .before .before .before .before .if1 .taken in
-    let con = c .before .before .before .before .con .ensures in
-    by-steps pre0 (λ b. s-rule (s-look peek (s-true _ _ (test-true name-star if1) (s-by _ con s-end))))
+    let X0 = c .before .before .before .before .before .before .before .before .before .before .before .before .before .before .before .before .before .before .before .args .text .now in
+    let T0 = c .before .before .before .before .before .before .before .before .before .before .before .before .before .before .before .before .before .before .before .args .toks .now in
+    let N0 = c .before .before .before .before .before .before .before .before .before .before .before .before .before .before .before .before .before .before .before .args .env .now in
+    let J0 = c .before .before .before .before .before .before .before .before .before .before .before .before .before .before .before .before .before .before .before .args .table .now in
+    let L0 = c .before .before .before .before .before .before .before .before .before .before .before .before .before .before .before .before .before .before .before .args .scratch .now in
+    let H0 = c .before .before .before .before .before .before .before .before .before .before .before .before .before .before .before .before .before .before .before .args .finds .now in
+    let S0 = c .before .before .before .before .before .before .before .before .before .before .before .before .before .before .before .before .before .before .before .args .s in
+    let L4 = c .before .before .before .before .con .last .1 .1 .1 .1 .0 in
+    let H4 = c .before .before .before .before .con .last .1 .1 .1 .1 .1 .0 in
+    let S4 = outState (c .before .before .before .before .con .result) in
+    by-steps {m = (mem X0 T0 N0 J0 L0 H0 S0)} {m' = (mem X0 T0 N0 J0 L4 H4 S4)} (c .before .before .before .before .before .before .before .before .before .before .before .before .before .before .before .before .before .before .before .pre .1) (λ b. s-rule {a = (mem X0 T0 N0 J0 L0 H0 S0)} {e = (mem X0 T0 N0 J0 L4 H4 S4)} (s-look {a = (mem X0 T0 N0 J0 L0 H0 S0)} {e = (mem X0 T0 N0 J0 L4 H4 S4)} (rw (c .before .before .before .before .before .before .before .before .before .before .k .given .1) at (c .before .before .before .before .before .before .before .before .before .before .before .before .peek .ensures)) (s-true {a = (mem X0 T0 N0 J0 L0 H0 S0)} {e = (mem X0 T0 N0 J0 L4 H4 S4)} _ _ (test-true (c .before .before .before .before .before .before .before .before .name-star .ensures) (c .before .before .before .before .before .before .before .if1 .taken)) (s-by {a = (mem X0 T0 N0 J0 L0 H0 S0)} {c = (mem X0 T0 N0 J0 L4 H4 S4)} {e = (mem X0 T0 N0 J0 L4 H4 S4)} _ (c .before .before .before .before .con .ensures) s-end))))
 
 pat-prec-peek-n-requires : (t : ℕ) → pat-prec-lts.Need-peek-n-requires (pat-prec-told t) (pat-prec-at t) pat-prec.Post
 pat-prec-peek-n-requires t c κs =
@@ -2450,14 +2727,17 @@ pat-prec-same-length-6 t c =
 pat-prec-returns-3 : (t : ℕ) → pat-prec-lts.Need-returns-3 (pat-prec-told t) (pat-prec-at t) pat-prec.Post
 unfolding root.body pat.patScope plan choose chosen
 pat-prec-returns-3 t c =
-    let pre0 = c .before .before .before .before .before .before .before .before .before .before .before .before .before .before .before .before .before .before .before .before .before .before .before .pre .1 in
-    let peek = rw (c .before .before .before .before .before .before .before .before .before .before .before .before .before .before .k .given .1) at (c .before .before .before .before .before .before .before .before .before .before .before .before .before .before .before .before .peek .ensures) in
-    let name-star = c .before .before .before .before .before .before .before .before .before .before .before .before .name-star .ensures in
-    let if1 = c .before .before .before .before .before .before .before .before .before .before .before .if1 .left in
-    let if2 = c .before .before .before .before .before .before .before .before .before .before .if2 .taken in
-    let peek-n = rw (c .before .before .before .before .before .before .before .enum-told2 .given .1) at (c .before .before .before .before .before .before .before .before .before .peek-n .ensures) in
-    let atom2 = c .before .before .before .before .atom2 .ensures in
-    by-steps pre0 (λ b. s-rule (s-look peek (s-false _ _ (test-false name-star if1) (s-true _ _ (kind-is if2) (s-look peek-n (s-by _ atom2 s-end))))))
+    let X0 = c .before .before .before .before .before .before .before .before .before .before .before .before .before .before .before .before .before .before .before .before .before .before .before .args .text .now in
+    let T0 = c .before .before .before .before .before .before .before .before .before .before .before .before .before .before .before .before .before .before .before .before .before .before .before .args .toks .now in
+    let N0 = c .before .before .before .before .before .before .before .before .before .before .before .before .before .before .before .before .before .before .before .before .before .before .before .args .env .now in
+    let J0 = c .before .before .before .before .before .before .before .before .before .before .before .before .before .before .before .before .before .before .before .before .before .before .before .args .table .now in
+    let L0 = c .before .before .before .before .before .before .before .before .before .before .before .before .before .before .before .before .before .before .before .before .before .before .before .args .scratch .now in
+    let H0 = c .before .before .before .before .before .before .before .before .before .before .before .before .before .before .before .before .before .before .before .before .before .before .before .args .finds .now in
+    let S0 = c .before .before .before .before .before .before .before .before .before .before .before .before .before .before .before .before .before .before .before .before .before .before .before .args .s in
+    let L6 = c .before .before .before .before .atom2 .last .1 .1 .1 .1 .0 in
+    let H6 = c .before .before .before .before .atom2 .last .1 .1 .1 .1 .1 .0 in
+    let S6 = outState (c .before .before .before .before .atom2 .result) in
+    by-steps {m = (mem X0 T0 N0 J0 L0 H0 S0)} {m' = (mem X0 T0 N0 J0 L6 H6 S6)} (c .before .before .before .before .before .before .before .before .before .before .before .before .before .before .before .before .before .before .before .before .before .before .before .pre .1) (λ b. s-rule {a = (mem X0 T0 N0 J0 L0 H0 S0)} {e = (mem X0 T0 N0 J0 L6 H6 S6)} (s-look {a = (mem X0 T0 N0 J0 L0 H0 S0)} {e = (mem X0 T0 N0 J0 L6 H6 S6)} (rw (c .before .before .before .before .before .before .before .before .before .before .before .before .before .before .k .given .1) at (c .before .before .before .before .before .before .before .before .before .before .before .before .before .before .before .before .peek .ensures)) (s-false {a = (mem X0 T0 N0 J0 L0 H0 S0)} {e = (mem X0 T0 N0 J0 L6 H6 S6)} _ _ (test-false (c .before .before .before .before .before .before .before .before .before .before .before .before .name-star .ensures) (c .before .before .before .before .before .before .before .before .before .before .before .if1 .left)) (s-true {a = (mem X0 T0 N0 J0 L0 H0 S0)} {e = (mem X0 T0 N0 J0 L6 H6 S6)} _ _ (kind-is (c .before .before .before .before .before .before .before .before .before .before .if2 .taken)) (s-look {a = (mem X0 T0 N0 J0 L0 H0 S0)} {e = (mem X0 T0 N0 J0 L6 H6 S6)} (rw (c .before .before .before .before .before .before .before .enum-told2 .given .1) at (c .before .before .before .before .before .before .before .before .before .peek-n .ensures)) (s-by {a = (mem X0 T0 N0 J0 L0 H0 S0)} {c = (mem X0 T0 N0 J0 L6 H6 S6)} {e = (mem X0 T0 N0 J0 L6 H6 S6)} _ (c .before .before .before .before .atom2 .ensures) s-end))))))
 
 pat-prec-name-star-requires-2 : (t : ℕ) → pat-prec-lts.Need-name-star-requires-2 (pat-prec-told t) (pat-prec-at t) pat-prec.Post
 pat-prec-name-star-requires-2 t c κs =
@@ -2483,16 +2763,17 @@ pat-prec-same-length-8 t c =
 pat-prec-returns-4 : (t : ℕ) → pat-prec-lts.Need-returns-4 (pat-prec-told t) (pat-prec-at t) pat-prec.Post
 unfolding root.body pat.patScope plan choose chosen
 pat-prec-returns-4 t c =
-    let pre0 = c .before .before .before .before .before .before .before .before .before .before .before .before .before .before .before .before .before .before .before .before .before .before .before .before .before .before .pre .1 in
-    let peek = rw (c .before .before .before .before .before .before .before .before .before .before .before .before .before .before .before .before .before .k .given .1) at (c .before .before .before .before .before .before .before .before .before .before .before .before .before .before .before .before .before .before .before .peek .ensures) in
-    let name-star = c .before .before .before .before .before .before .before .before .before .before .before .before .before .before .before .name-star .ensures in
-    let if1 = c .before .before .before .before .before .before .before .before .before .before .before .before .before .before .if1 .left in
-    let if2 = c .before .before .before .before .before .before .before .before .before .before .before .before .before .if2 .taken in
-    let peek-n = rw (c .before .before .before .before .before .before .before .before .before .before .k1 .given .1) at (c .before .before .before .before .before .before .before .before .before .before .before .before .peek-n .ensures) in
-    let name-star2 = c .before .before .before .before .before .before .before .before .name-star2 .ensures in
-    let if3 = c .before .before .before .before .before .before .before .if3 .taken in
-    let con2 = c .before .before .before .before .con2 .ensures in
-    by-steps pre0 (λ b. s-rule (s-look peek (s-false _ _ (test-false name-star if1) (s-true _ _ (kind-is if2) (s-look peek-n (s-true _ _ (test-true name-star2 if3) (s-by _ con2 s-end)))))))
+    let X0 = c .before .before .before .before .before .before .before .before .before .before .before .before .before .before .before .before .before .before .before .before .before .before .before .before .before .before .args .text .now in
+    let T0 = c .before .before .before .before .before .before .before .before .before .before .before .before .before .before .before .before .before .before .before .before .before .before .before .before .before .before .args .toks .now in
+    let N0 = c .before .before .before .before .before .before .before .before .before .before .before .before .before .before .before .before .before .before .before .before .before .before .before .before .before .before .args .env .now in
+    let J0 = c .before .before .before .before .before .before .before .before .before .before .before .before .before .before .before .before .before .before .before .before .before .before .before .before .before .before .args .table .now in
+    let L0 = c .before .before .before .before .before .before .before .before .before .before .before .before .before .before .before .before .before .before .before .before .before .before .before .before .before .before .args .scratch .now in
+    let H0 = c .before .before .before .before .before .before .before .before .before .before .before .before .before .before .before .before .before .before .before .before .before .before .before .before .before .before .args .finds .now in
+    let S0 = c .before .before .before .before .before .before .before .before .before .before .before .before .before .before .before .before .before .before .before .before .before .before .before .before .before .before .args .s in
+    let L8 = c .before .before .before .before .con2 .last .1 .1 .1 .1 .0 in
+    let H8 = c .before .before .before .before .con2 .last .1 .1 .1 .1 .1 .0 in
+    let S8 = outState (c .before .before .before .before .con2 .result) in
+    by-steps {m = (mem X0 T0 N0 J0 L0 H0 S0)} {m' = (mem X0 T0 N0 J0 L8 H8 S8)} (c .before .before .before .before .before .before .before .before .before .before .before .before .before .before .before .before .before .before .before .before .before .before .before .before .before .before .pre .1) (λ b. s-rule {a = (mem X0 T0 N0 J0 L0 H0 S0)} {e = (mem X0 T0 N0 J0 L8 H8 S8)} (s-look {a = (mem X0 T0 N0 J0 L0 H0 S0)} {e = (mem X0 T0 N0 J0 L8 H8 S8)} (rw (c .before .before .before .before .before .before .before .before .before .before .before .before .before .before .before .before .before .k .given .1) at (c .before .before .before .before .before .before .before .before .before .before .before .before .before .before .before .before .before .before .before .peek .ensures)) (s-false {a = (mem X0 T0 N0 J0 L0 H0 S0)} {e = (mem X0 T0 N0 J0 L8 H8 S8)} _ _ (test-false (c .before .before .before .before .before .before .before .before .before .before .before .before .before .before .before .name-star .ensures) (c .before .before .before .before .before .before .before .before .before .before .before .before .before .before .if1 .left)) (s-true {a = (mem X0 T0 N0 J0 L0 H0 S0)} {e = (mem X0 T0 N0 J0 L8 H8 S8)} _ _ (kind-is (c .before .before .before .before .before .before .before .before .before .before .before .before .before .if2 .taken)) (s-look {a = (mem X0 T0 N0 J0 L0 H0 S0)} {e = (mem X0 T0 N0 J0 L8 H8 S8)} (rw (c .before .before .before .before .before .before .before .before .before .before .k1 .given .1) at (c .before .before .before .before .before .before .before .before .before .before .before .before .peek-n .ensures)) (s-true {a = (mem X0 T0 N0 J0 L0 H0 S0)} {e = (mem X0 T0 N0 J0 L8 H8 S8)} _ _ (test-true (c .before .before .before .before .before .before .before .before .name-star2 .ensures) (c .before .before .before .before .before .before .before .if3 .taken)) (s-by {a = (mem X0 T0 N0 J0 L0 H0 S0)} {c = (mem X0 T0 N0 J0 L8 H8 S8)} {e = (mem X0 T0 N0 J0 L8 H8 S8)} _ (c .before .before .before .before .con2 .ensures) s-end)))))))
 
 pat-prec-atom-requires-3 : (t : ℕ) → pat-prec-lts.Need-atom-requires-3 (pat-prec-told t) (pat-prec-at t) pat-prec.Post
 pat-prec-atom-requires-3 t c κs =
@@ -2514,16 +2795,17 @@ pat-prec-same-length-10 t c =
 pat-prec-returns-5 : (t : ℕ) → pat-prec-lts.Need-returns-5 (pat-prec-told t) (pat-prec-at t) pat-prec.Post
 unfolding root.body pat.patScope plan choose chosen
 pat-prec-returns-5 t c =
-    let pre0 = c .before .before .before .before .before .before .before .before .before .before .before .before .before .before .before .before .before .before .before .before .before .before .before .before .before .before .pre .1 in
-    let peek = rw (c .before .before .before .before .before .before .before .before .before .before .before .before .before .before .before .before .before .k .given .1) at (c .before .before .before .before .before .before .before .before .before .before .before .before .before .before .before .before .before .before .before .peek .ensures) in
-    let name-star = c .before .before .before .before .before .before .before .before .before .before .before .before .before .before .before .name-star .ensures in
-    let if1 = c .before .before .before .before .before .before .before .before .before .before .before .before .before .before .if1 .left in
-    let if2 = c .before .before .before .before .before .before .before .before .before .before .before .before .before .if2 .taken in
-    let peek-n = rw (c .before .before .before .before .before .before .before .before .before .before .k1 .given .1) at (c .before .before .before .before .before .before .before .before .before .before .before .before .peek-n .ensures) in
-    let name-star2 = c .before .before .before .before .before .before .before .before .name-star2 .ensures in
-    let if3 = c .before .before .before .before .before .before .before .if3 .left in
-    let atom3 = c .before .before .before .before .atom3 .ensures in
-    by-steps pre0 (λ b. s-rule (s-look peek (s-false _ _ (test-false name-star if1) (s-true _ _ (kind-is if2) (s-look peek-n (s-false _ _ (test-false name-star2 if3) (s-by _ atom3 s-end)))))))
+    let X0 = c .before .before .before .before .before .before .before .before .before .before .before .before .before .before .before .before .before .before .before .before .before .before .before .before .before .before .args .text .now in
+    let T0 = c .before .before .before .before .before .before .before .before .before .before .before .before .before .before .before .before .before .before .before .before .before .before .before .before .before .before .args .toks .now in
+    let N0 = c .before .before .before .before .before .before .before .before .before .before .before .before .before .before .before .before .before .before .before .before .before .before .before .before .before .before .args .env .now in
+    let J0 = c .before .before .before .before .before .before .before .before .before .before .before .before .before .before .before .before .before .before .before .before .before .before .before .before .before .before .args .table .now in
+    let L0 = c .before .before .before .before .before .before .before .before .before .before .before .before .before .before .before .before .before .before .before .before .before .before .before .before .before .before .args .scratch .now in
+    let H0 = c .before .before .before .before .before .before .before .before .before .before .before .before .before .before .before .before .before .before .before .before .before .before .before .before .before .before .args .finds .now in
+    let S0 = c .before .before .before .before .before .before .before .before .before .before .before .before .before .before .before .before .before .before .before .before .before .before .before .before .before .before .args .s in
+    let L8 = c .before .before .before .before .atom3 .last .1 .1 .1 .1 .0 in
+    let H8 = c .before .before .before .before .atom3 .last .1 .1 .1 .1 .1 .0 in
+    let S8 = outState (c .before .before .before .before .atom3 .result) in
+    by-steps {m = (mem X0 T0 N0 J0 L0 H0 S0)} {m' = (mem X0 T0 N0 J0 L8 H8 S8)} (c .before .before .before .before .before .before .before .before .before .before .before .before .before .before .before .before .before .before .before .before .before .before .before .before .before .before .pre .1) (λ b. s-rule {a = (mem X0 T0 N0 J0 L0 H0 S0)} {e = (mem X0 T0 N0 J0 L8 H8 S8)} (s-look {a = (mem X0 T0 N0 J0 L0 H0 S0)} {e = (mem X0 T0 N0 J0 L8 H8 S8)} (rw (c .before .before .before .before .before .before .before .before .before .before .before .before .before .before .before .before .before .k .given .1) at (c .before .before .before .before .before .before .before .before .before .before .before .before .before .before .before .before .before .before .before .peek .ensures)) (s-false {a = (mem X0 T0 N0 J0 L0 H0 S0)} {e = (mem X0 T0 N0 J0 L8 H8 S8)} _ _ (test-false (c .before .before .before .before .before .before .before .before .before .before .before .before .before .before .before .name-star .ensures) (c .before .before .before .before .before .before .before .before .before .before .before .before .before .before .if1 .left)) (s-true {a = (mem X0 T0 N0 J0 L0 H0 S0)} {e = (mem X0 T0 N0 J0 L8 H8 S8)} _ _ (kind-is (c .before .before .before .before .before .before .before .before .before .before .before .before .before .if2 .taken)) (s-look {a = (mem X0 T0 N0 J0 L0 H0 S0)} {e = (mem X0 T0 N0 J0 L8 H8 S8)} (rw (c .before .before .before .before .before .before .before .before .before .before .k1 .given .1) at (c .before .before .before .before .before .before .before .before .before .before .before .before .peek-n .ensures)) (s-false {a = (mem X0 T0 N0 J0 L0 H0 S0)} {e = (mem X0 T0 N0 J0 L8 H8 S8)} _ _ (test-false (c .before .before .before .before .before .before .before .before .name-star2 .ensures) (c .before .before .before .before .before .before .before .if3 .left)) (s-by {a = (mem X0 T0 N0 J0 L0 H0 S0)} {c = (mem X0 T0 N0 J0 L8 H8 S8)} {e = (mem X0 T0 N0 J0 L8 H8 S8)} _ (c .before .before .before .before .atom3 .ensures) s-end)))))))
 
 pat-prec-atom-requires-4 : (t : ℕ) → pat-prec-lts.Need-atom-requires-4 (pat-prec-told t) (pat-prec-at t) pat-prec.Post
 pat-prec-atom-requires-4 t c κs =
@@ -2544,13 +2826,17 @@ pat-prec-same-length-12 t c =
 pat-prec-returns-6 : (t : ℕ) → pat-prec-lts.Need-returns-6 (pat-prec-told t) (pat-prec-at t) pat-prec.Post
 unfolding root.body pat.patScope plan choose chosen
 pat-prec-returns-6 t c =
-    let pre0 = c .before .before .before .before .before .before .before .before .before .before .before .before .before .before .before .before .before .before .before .before .pre .1 in
-    let peek = rw (c .before .before .before .before .before .before .before .before .before .before .before .k .given .1) at (c .before .before .before .before .before .before .before .before .before .before .before .before .before .peek .ensures) in
-    let name-star = c .before .before .before .before .before .before .before .before .before .name-star .ensures in
-    let if1 = c .before .before .before .before .before .before .before .before .if1 .left in
-    let if2 = c .before .before .before .before .before .before .before .if2 .left in
-    let atom4 = c .before .before .before .before .atom4 .ensures in
-    by-steps pre0 (λ b. s-rule (s-look peek (s-false _ _ (test-false name-star if1) (s-false _ _ (kind-not if2) (s-by _ atom4 s-end)))))
+    let X0 = c .before .before .before .before .before .before .before .before .before .before .before .before .before .before .before .before .before .before .before .before .args .text .now in
+    let T0 = c .before .before .before .before .before .before .before .before .before .before .before .before .before .before .before .before .before .before .before .before .args .toks .now in
+    let N0 = c .before .before .before .before .before .before .before .before .before .before .before .before .before .before .before .before .before .before .before .before .args .env .now in
+    let J0 = c .before .before .before .before .before .before .before .before .before .before .before .before .before .before .before .before .before .before .before .before .args .table .now in
+    let L0 = c .before .before .before .before .before .before .before .before .before .before .before .before .before .before .before .before .before .before .before .before .args .scratch .now in
+    let H0 = c .before .before .before .before .before .before .before .before .before .before .before .before .before .before .before .before .before .before .before .before .args .finds .now in
+    let S0 = c .before .before .before .before .before .before .before .before .before .before .before .before .before .before .before .before .before .before .before .before .args .s in
+    let L5 = c .before .before .before .before .atom4 .last .1 .1 .1 .1 .0 in
+    let H5 = c .before .before .before .before .atom4 .last .1 .1 .1 .1 .1 .0 in
+    let S5 = outState (c .before .before .before .before .atom4 .result) in
+    by-steps {m = (mem X0 T0 N0 J0 L0 H0 S0)} {m' = (mem X0 T0 N0 J0 L5 H5 S5)} (c .before .before .before .before .before .before .before .before .before .before .before .before .before .before .before .before .before .before .before .before .pre .1) (λ b. s-rule {a = (mem X0 T0 N0 J0 L0 H0 S0)} {e = (mem X0 T0 N0 J0 L5 H5 S5)} (s-look {a = (mem X0 T0 N0 J0 L0 H0 S0)} {e = (mem X0 T0 N0 J0 L5 H5 S5)} (rw (c .before .before .before .before .before .before .before .before .before .before .before .k .given .1) at (c .before .before .before .before .before .before .before .before .before .before .before .before .before .peek .ensures)) (s-false {a = (mem X0 T0 N0 J0 L0 H0 S0)} {e = (mem X0 T0 N0 J0 L5 H5 S5)} _ _ (test-false (c .before .before .before .before .before .before .before .before .before .name-star .ensures) (c .before .before .before .before .before .before .before .before .if1 .left)) (s-false {a = (mem X0 T0 N0 J0 L0 H0 S0)} {e = (mem X0 T0 N0 J0 L5 H5 S5)} _ _ (kind-not (c .before .before .before .before .before .before .before .if2 .left)) (s-by {a = (mem X0 T0 N0 J0 L0 H0 S0)} {c = (mem X0 T0 N0 J0 L5 H5 S5)} {e = (mem X0 T0 N0 J0 L5 H5 S5)} _ (c .before .before .before .before .atom4 .ensures) s-end)))))
 
 rest-bump-requires : (t : ℕ) → rest-lts.Need-bump-requires (rest-told t) (rest-at t) rest.Post
 rest-bump-requires t c κs =
@@ -2585,12 +2871,21 @@ rest-same-length-2 t c =
 rest-returns : (t : ℕ) → rest-lts.Need-returns (rest-told t) (rest-at t) rest.Post
 unfolding pat.atPatRest util.endSep plan choose chosen
 rest-returns t c =
-    let pre0 = c .before .before .before .before .before .before .before .before .before .before .before .before .before .before .before .before .before .before .before .before .before .before .pre .1 .0 in
-    let if1 = c .before .before .before .before .before .before .before .before .before .before .before .before .before .before .before .if1 .taken in
-    let bump = c .before .before .before .before .before .before .before .before .before .before .before .before .before .bump .ensures in
-    let rows = c .before .before .before .before .before .before .before .before .rows .ensures in
-    let close = c .before .before .close .ensures in
-    in-steps pre0 (s-true _ _ (kind-is if1) (s-bump bump (s-run rows (s-close close s-end))))
+    let X0 = c .before .before .before .before .before .before .before .before .before .before .before .before .before .before .before .before .before .before .before .before .before .before .args .text .now in
+    let T0 = c .before .before .before .before .before .before .before .before .before .before .before .before .before .before .before .before .before .before .before .before .before .before .args .toks .now in
+    let N0 = c .before .before .before .before .before .before .before .before .before .before .before .before .before .before .before .before .before .before .before .before .before .before .args .env .now in
+    let J0 = c .before .before .before .before .before .before .before .before .before .before .before .before .before .before .before .before .before .before .before .before .before .before .args .table .now in
+    let L0 = c .before .before .before .before .before .before .before .before .before .before .before .before .before .before .before .before .before .before .before .before .before .before .args .scratch .now in
+    let H0 = c .before .before .before .before .before .before .before .before .before .before .before .before .before .before .before .before .before .before .before .before .before .before .args .finds .now in
+    let S0 = c .before .before .before .before .before .before .before .before .before .before .before .before .before .before .before .before .before .before .before .before .before .before .args .s in
+    let L2 = c .before .before .before .before .before .before .before .before .before .before .before .before .before .bump .last .1 .0 in
+    let S2 = c .before .before .before .before .before .before .before .before .before .before .before .before .before .bump .result in
+    let L3 = c .before .before .before .before .before .before .before .before .rows .last .1 .1 .1 .1 .0 in
+    let H3 = c .before .before .before .before .before .before .before .before .rows .last .1 .1 .1 .1 .1 .0 in
+    let S3 = c .before .before .before .before .before .before .before .before .rows .result in
+    let L4 = c .before .before .close .last .0 in
+    let S4 = c .before .before .close .result in
+    in-steps {m = (mem X0 T0 N0 J0 L0 H0 S0)} {m' = (mem X0 T0 N0 J0 L4 H3 S4)} (c .before .before .before .before .before .before .before .before .before .before .before .before .before .before .before .before .before .before .before .before .before .before .pre .1 .0) (s-true {a = (mem X0 T0 N0 J0 L0 H0 S0)} {e = (mem X0 T0 N0 J0 L4 H3 S4)} _ _ (kind-is (c .before .before .before .before .before .before .before .before .before .before .before .before .before .before .before .if1 .taken)) (s-bump {e = (mem X0 T0 N0 J0 L4 H3 S4)} {x = X0} {t = T0} {n = N0} {j = J0} {l = L0} {h = H0} {s = S0} {s' = S2} {l' = L2} (c .before .before .before .before .before .before .before .before .before .before .before .before .before .bump .ensures) (s-run {a = (mem X0 T0 N0 J0 L2 H0 S2)} {c = (mem X0 T0 N0 J0 L3 H3 S3)} {e = (mem X0 T0 N0 J0 L4 H3 S4)} (c .before .before .before .before .before .before .before .before .rows .ensures) (s-close {e = (mem X0 T0 N0 J0 L4 H3 S4)} {x = X0} {t = T0} {n = N0} {j = J0} {l = L3} {h = H3} {s = S3} {s' = S4} {l' = L4} (c .before .before .close .ensures) s-end))))
 
 rest-bump-requires-2 : (t : ℕ) → rest-lts.Need-bump-requires-2 (rest-told t) (rest-at t) rest.Post
 rest-bump-requires-2 t c κs =
@@ -2619,12 +2914,19 @@ rest-same-length-4 t c =
 rest-returns-2 : (t : ℕ) → rest-lts.Need-returns-2 (rest-told t) (rest-at t) rest.Post
 unfolding pat.atPatRest util.endSep plan choose chosen
 rest-returns-2 t c =
-    let pre0 = c .before .before .before .before .before .before .before .before .before .before .before .before .before .before .before .before .before .before .before .pre .1 .0 in
-    let if1 = c .before .before .before .before .before .before .before .before .before .before .before .before .if1 .left in
-    let if2 = c .before .before .before .before .before .before .before .before .before .before .before .if2 .taken in
-    let bump2 = c .before .before .before .before .before .before .before .before .before .bump2 .ensures in
-    let at-round = c .before .before .before .before .at-round .ensures in
-    in-steps pre0 (s-false _ _ (kind-not if1) (s-true _ _ (kind-is if2) (s-bump bump2 (s-by _ at-round s-end))))
+    let X0 = c .before .before .before .before .before .before .before .before .before .before .before .before .before .before .before .before .before .before .before .args .text .now in
+    let T0 = c .before .before .before .before .before .before .before .before .before .before .before .before .before .before .before .before .before .before .before .args .toks .now in
+    let N0 = c .before .before .before .before .before .before .before .before .before .before .before .before .before .before .before .before .before .before .before .args .env .now in
+    let J0 = c .before .before .before .before .before .before .before .before .before .before .before .before .before .before .before .before .before .before .before .args .table .now in
+    let L0 = c .before .before .before .before .before .before .before .before .before .before .before .before .before .before .before .before .before .before .before .args .scratch .now in
+    let H0 = c .before .before .before .before .before .before .before .before .before .before .before .before .before .before .before .before .before .before .before .args .finds .now in
+    let S0 = c .before .before .before .before .before .before .before .before .before .before .before .before .before .before .before .before .before .before .before .args .s in
+    let L3 = c .before .before .before .before .before .before .before .before .before .bump2 .last .1 .0 in
+    let S3 = c .before .before .before .before .before .before .before .before .before .bump2 .result in
+    let L4 = c .before .before .before .before .at-round .last .1 .1 .1 .1 .0 in
+    let H4 = c .before .before .before .before .at-round .last .1 .1 .1 .1 .1 .0 in
+    let S4 = outState (c .before .before .before .before .at-round .result) in
+    in-steps {m = (mem X0 T0 N0 J0 L0 H0 S0)} {m' = (mem X0 T0 N0 J0 L4 H4 S4)} (c .before .before .before .before .before .before .before .before .before .before .before .before .before .before .before .before .before .before .before .pre .1 .0) (s-false {a = (mem X0 T0 N0 J0 L0 H0 S0)} {e = (mem X0 T0 N0 J0 L4 H4 S4)} _ _ (kind-not (c .before .before .before .before .before .before .before .before .before .before .before .before .if1 .left)) (s-true {a = (mem X0 T0 N0 J0 L0 H0 S0)} {e = (mem X0 T0 N0 J0 L4 H4 S4)} _ _ (kind-is (c .before .before .before .before .before .before .before .before .before .before .before .if2 .taken)) (s-bump {e = (mem X0 T0 N0 J0 L4 H4 S4)} {x = X0} {t = T0} {n = N0} {j = J0} {l = L0} {h = H0} {s = S0} {s' = S3} {l' = L3} (c .before .before .before .before .before .before .before .before .before .bump2 .ensures) (s-by {a = (mem X0 T0 N0 J0 L3 H0 S3)} {c = (mem X0 T0 N0 J0 L4 H4 S4)} {e = (mem X0 T0 N0 J0 L4 H4 S4)} _ (c .before .before .before .before .at-round .ensures) s-end))))
 
 rest-bump-requires-3 : (t : ℕ) → rest-lts.Need-bump-requires-3 (rest-told t) (rest-at t) rest.Post
 rest-bump-requires-3 t c κs =
@@ -2661,14 +2963,21 @@ rest-same-length-6 t c =
 rest-returns-3 : (t : ℕ) → rest-lts.Need-returns-3 (rest-told t) (rest-at t) rest.Post
 unfolding pat.atPatRest util.endSep plan choose chosen
 rest-returns-3 t c =
-    let pre0 = c .before .before .before .before .before .before .before .before .before .before .before .before .before .before .before .before .before .before .before .before .before .before .before .before .pre .1 .0 in
-    let if1 = c .before .before .before .before .before .before .before .before .before .before .before .before .before .before .before .before .before .if1 .left in
-    let if2 = c .before .before .before .before .before .before .before .before .before .before .before .before .before .before .before .before .if2 .left in
-    let if3 = c .before .before .before .before .before .before .before .before .before .before .before .before .before .before .before .if3 .taken in
-    let bump3 = c .before .before .before .before .before .before .before .before .before .before .before .before .before .bump3 .ensures in
-    let args2 = c .before .before .before .before .before .before .before .before .args2 .ensures in
-    let close2 = c .before .before .close2 .ensures in
-    in-steps pre0 (s-false _ _ (kind-not if1) (s-false _ _ (kind-not if2) (s-true _ _ (kind-is if3) (s-bump bump3 (s-run args2 (s-close close2 s-end))))))
+    let X0 = c .before .before .before .before .before .before .before .before .before .before .before .before .before .before .before .before .before .before .before .before .before .before .before .before .args .text .now in
+    let T0 = c .before .before .before .before .before .before .before .before .before .before .before .before .before .before .before .before .before .before .before .before .before .before .before .before .args .toks .now in
+    let N0 = c .before .before .before .before .before .before .before .before .before .before .before .before .before .before .before .before .before .before .before .before .before .before .before .before .args .env .now in
+    let J0 = c .before .before .before .before .before .before .before .before .before .before .before .before .before .before .before .before .before .before .before .before .before .before .before .before .args .table .now in
+    let L0 = c .before .before .before .before .before .before .before .before .before .before .before .before .before .before .before .before .before .before .before .before .before .before .before .before .args .scratch .now in
+    let H0 = c .before .before .before .before .before .before .before .before .before .before .before .before .before .before .before .before .before .before .before .before .before .before .before .before .args .finds .now in
+    let S0 = c .before .before .before .before .before .before .before .before .before .before .before .before .before .before .before .before .before .before .before .before .before .before .before .before .args .s in
+    let L4 = c .before .before .before .before .before .before .before .before .before .before .before .before .before .bump3 .last .1 .0 in
+    let S4 = c .before .before .before .before .before .before .before .before .before .before .before .before .before .bump3 .result in
+    let L5 = c .before .before .before .before .before .before .before .before .args2 .last .1 .1 .1 .1 .0 in
+    let H5 = c .before .before .before .before .before .before .before .before .args2 .last .1 .1 .1 .1 .1 .0 in
+    let S5 = c .before .before .before .before .before .before .before .before .args2 .result in
+    let L6 = c .before .before .close2 .last .0 in
+    let S6 = c .before .before .close2 .result in
+    in-steps {m = (mem X0 T0 N0 J0 L0 H0 S0)} {m' = (mem X0 T0 N0 J0 L6 H5 S6)} (c .before .before .before .before .before .before .before .before .before .before .before .before .before .before .before .before .before .before .before .before .before .before .before .before .pre .1 .0) (s-false {a = (mem X0 T0 N0 J0 L0 H0 S0)} {e = (mem X0 T0 N0 J0 L6 H5 S6)} _ _ (kind-not (c .before .before .before .before .before .before .before .before .before .before .before .before .before .before .before .before .before .if1 .left)) (s-false {a = (mem X0 T0 N0 J0 L0 H0 S0)} {e = (mem X0 T0 N0 J0 L6 H5 S6)} _ _ (kind-not (c .before .before .before .before .before .before .before .before .before .before .before .before .before .before .before .before .if2 .left)) (s-true {a = (mem X0 T0 N0 J0 L0 H0 S0)} {e = (mem X0 T0 N0 J0 L6 H5 S6)} _ _ (kind-is (c .before .before .before .before .before .before .before .before .before .before .before .before .before .before .before .if3 .taken)) (s-bump {e = (mem X0 T0 N0 J0 L6 H5 S6)} {x = X0} {t = T0} {n = N0} {j = J0} {l = L0} {h = H0} {s = S0} {s' = S4} {l' = L4} (c .before .before .before .before .before .before .before .before .before .before .before .before .before .bump3 .ensures) (s-run {a = (mem X0 T0 N0 J0 L4 H0 S4)} {c = (mem X0 T0 N0 J0 L5 H5 S5)} {e = (mem X0 T0 N0 J0 L6 H5 S6)} (c .before .before .before .before .before .before .before .before .args2 .ensures) (s-close {e = (mem X0 T0 N0 J0 L6 H5 S6)} {x = X0} {t = T0} {n = N0} {j = J0} {l = L5} {h = H5} {s = S5} {s' = S6} {l' = L6} (c .before .before .close2 .ensures) s-end))))))
 
 rest-bump-requires-4 : (t : ℕ) → rest-lts.Need-bump-requires-4 (rest-told t) (rest-at t) rest.Post
 rest-bump-requires-4 t c κs =
@@ -2706,15 +3015,21 @@ rest-same-length-8 t c =
 rest-returns-4 : (t : ℕ) → rest-lts.Need-returns-4 (rest-told t) (rest-at t) rest.Post
 unfolding pat.atPatRest util.endSep plan choose chosen
 rest-returns-4 t c =
-    let pre0 = c .before .before .before .before .before .before .before .before .before .before .before .before .before .before .before .before .before .before .before .before .before .before .before .before .before .pre .1 .0 in
-    let if1 = c .before .before .before .before .before .before .before .before .before .before .before .before .before .before .before .before .before .before .if1 .left in
-    let if2 = c .before .before .before .before .before .before .before .before .before .before .before .before .before .before .before .before .before .if2 .left in
-    let if3 = c .before .before .before .before .before .before .before .before .before .before .before .before .before .before .before .before .if3 .left in
-    let if4 = c .before .before .before .before .before .before .before .before .before .before .before .before .before .before .before .if4 .taken in
-    let bump4 = c .before .before .before .before .before .before .before .before .before .before .before .before .before .bump4 .ensures in
-    let vector = c .before .before .before .before .before .before .before .before .vector .ensures in
-    let close3 = c .before .before .close3 .ensures in
-    in-steps pre0 (s-false _ _ (kind-not if1) (s-false _ _ (kind-not if2) (s-false _ _ (kind-not if3) (s-true _ _ (kind-is if4) (s-bump bump4 (s-by _ (runs-in vector) (s-close close3 s-end)))))))
+    let X0 = c .before .before .before .before .before .before .before .before .before .before .before .before .before .before .before .before .before .before .before .before .before .before .before .before .before .args .text .now in
+    let T0 = c .before .before .before .before .before .before .before .before .before .before .before .before .before .before .before .before .before .before .before .before .before .before .before .before .before .args .toks .now in
+    let N0 = c .before .before .before .before .before .before .before .before .before .before .before .before .before .before .before .before .before .before .before .before .before .before .before .before .before .args .env .now in
+    let J0 = c .before .before .before .before .before .before .before .before .before .before .before .before .before .before .before .before .before .before .before .before .before .before .before .before .before .args .table .now in
+    let L0 = c .before .before .before .before .before .before .before .before .before .before .before .before .before .before .before .before .before .before .before .before .before .before .before .before .before .args .scratch .now in
+    let H0 = c .before .before .before .before .before .before .before .before .before .before .before .before .before .before .before .before .before .before .before .before .before .before .before .before .before .args .finds .now in
+    let S0 = c .before .before .before .before .before .before .before .before .before .before .before .before .before .before .before .before .before .before .before .before .before .before .before .before .before .args .s in
+    let L5 = c .before .before .before .before .before .before .before .before .before .before .before .before .before .bump4 .last .1 .0 in
+    let S5 = c .before .before .before .before .before .before .before .before .before .before .before .before .before .bump4 .result in
+    let L6 = c .before .before .before .before .before .before .before .before .vector .last .1 .1 .1 .1 .0 in
+    let H6 = c .before .before .before .before .before .before .before .before .vector .last .1 .1 .1 .1 .1 .0 in
+    let S6 = c .before .before .before .before .before .before .before .before .vector .result in
+    let L7 = c .before .before .close3 .last .0 in
+    let S7 = c .before .before .close3 .result in
+    in-steps {m = (mem X0 T0 N0 J0 L0 H0 S0)} {m' = (mem X0 T0 N0 J0 L7 H6 S7)} (c .before .before .before .before .before .before .before .before .before .before .before .before .before .before .before .before .before .before .before .before .before .before .before .before .before .pre .1 .0) (s-false {a = (mem X0 T0 N0 J0 L0 H0 S0)} {e = (mem X0 T0 N0 J0 L7 H6 S7)} _ _ (kind-not (c .before .before .before .before .before .before .before .before .before .before .before .before .before .before .before .before .before .before .if1 .left)) (s-false {a = (mem X0 T0 N0 J0 L0 H0 S0)} {e = (mem X0 T0 N0 J0 L7 H6 S7)} _ _ (kind-not (c .before .before .before .before .before .before .before .before .before .before .before .before .before .before .before .before .before .if2 .left)) (s-false {a = (mem X0 T0 N0 J0 L0 H0 S0)} {e = (mem X0 T0 N0 J0 L7 H6 S7)} _ _ (kind-not (c .before .before .before .before .before .before .before .before .before .before .before .before .before .before .before .before .if3 .left)) (s-true {a = (mem X0 T0 N0 J0 L0 H0 S0)} {e = (mem X0 T0 N0 J0 L7 H6 S7)} _ _ (kind-is (c .before .before .before .before .before .before .before .before .before .before .before .before .before .before .before .if4 .taken)) (s-bump {e = (mem X0 T0 N0 J0 L7 H6 S7)} {x = X0} {t = T0} {n = N0} {j = J0} {l = L0} {h = H0} {s = S0} {s' = S5} {l' = L5} (c .before .before .before .before .before .before .before .before .before .before .before .before .before .bump4 .ensures) (s-by {a = (mem X0 T0 N0 J0 L5 H0 S5)} {c = (mem X0 T0 N0 J0 L6 H6 S6)} {e = (mem X0 T0 N0 J0 L7 H6 S7)} _ (runs-in {a = (mem X0 T0 N0 J0 L5 H0 S5)} {c = (mem X0 T0 N0 J0 L6 H6 S6)} (c .before .before .before .before .before .before .before .before .vector .ensures)) (s-close {e = (mem X0 T0 N0 J0 L7 H6 S7)} {x = X0} {t = T0} {n = N0} {j = J0} {l = L6} {h = H6} {s = S6} {s' = S7} {l' = L7} (c .before .before .close3 .ensures) s-end)))))))
 
 rest-returns-5 : (t : ℕ) → rest-lts.Need-returns-5 (rest-told t) (rest-at t) rest.Post
 unfolding pat.atPatRest util.endSep plan choose chosen
@@ -2731,12 +3046,17 @@ row-refuse-requires t c κs =
     tt
 
 row-returns : (t : ℕ) → row-lts.Need-returns (row-told t) (row-at t) row.Post
-unfolding pat.patRow plan choose chosen
+unfolding pat.patRow plan choose chosen hushed
 row-returns t c =
-    let pre0 = c .before .before .before .before .before .before .before .before .pre .1 in
-    let if1 = c .before .if1 .taken in
-    let refuse = c .refuse .ensures in
-    by-steps pre0 (λ b. s-deep if1 refuse s-end)
+    let X0 = c .before .before .before .before .before .before .before .before .args .text .now in
+    let T0 = c .before .before .before .before .before .before .before .before .args .toks .now in
+    let N0 = c .before .before .before .before .before .before .before .before .args .env .now in
+    let J0 = c .before .before .before .before .before .before .before .before .args .table .now in
+    let L0 = c .before .before .before .before .before .before .before .before .args .scratch .now in
+    let H0 = c .before .before .before .before .before .before .before .before .args .finds .now in
+    let S0 = c .before .before .before .before .before .before .before .before .args .s in
+    let S2 = c .refuse .result in
+    by-steps {m = (mem X0 T0 N0 J0 L0 H0 S0)} {m' = (mem X0 T0 N0 J0 L0 H0 S2)} (c .before .before .before .before .before .before .before .before .pre .1) (λ b. s-shut (c .before .if1 .taken) (c .refuse .ensures) (λ k l. refl))
 
 row-mark-requires : (t : ℕ) → row-lts.Need-mark-requires (row-told t) (row-at t) row.Post
 row-mark-requires t c κs =
@@ -2772,14 +3092,19 @@ row-same-length t c =
 row-returns-2 : (t : ℕ) → row-lts.Need-returns-2 (row-told t) (row-at t) row.Post
 unfolding pat.patRow plan choose chosen
 row-returns-2 t c =
-    let pre0 = c .before .before .before .before .before .before .before .before .before .before .before .before .before .before .before .before .before .before .pre .1 in
-    let if1 = c .before .before .before .before .before .before .before .before .before .before .before .if1 .left in
-    let mark = c .before .before .before .before .before .before .before .before .before .before .mark .ensures in
-    let at = c .before .before .before .before .before .before .before .before .before .at .ensures in
-    let if2 = c .before .before .before .before .before .before .before .before .if2 .taken in
-    let bump = c .before .before .before .before .before .before .bump .ensures in
-    let close = c .before .before .close .ensures in
-    by-steps pre0 (λ b. s-mark if1 mark (s-kind (s-true _ _ (kind-at _ _ _ _ at if2) (s-bump bump (s-close close s-end)))))
+    let X0 = c .before .before .before .before .before .before .before .before .before .before .before .before .before .before .before .before .before .before .args .text .now in
+    let T0 = c .before .before .before .before .before .before .before .before .before .before .before .before .before .before .before .before .before .before .args .toks .now in
+    let N0 = c .before .before .before .before .before .before .before .before .before .before .before .before .before .before .before .before .before .before .args .env .now in
+    let J0 = c .before .before .before .before .before .before .before .before .before .before .before .before .before .before .before .before .before .before .args .table .now in
+    let L0 = c .before .before .before .before .before .before .before .before .before .before .before .before .before .before .before .before .before .before .args .scratch .now in
+    let H0 = c .before .before .before .before .before .before .before .before .before .before .before .before .before .before .before .before .before .before .args .finds .now in
+    let S0 = c .before .before .before .before .before .before .before .before .before .before .before .before .before .before .before .before .before .before .args .s in
+    let S2 = c .before .before .before .before .before .before .before .before .before .before .mark .result in
+    let L5 = c .before .before .before .before .before .before .bump .last .1 .0 in
+    let S5 = c .before .before .before .before .before .before .bump .result in
+    let L6 = c .before .before .close .last .0 in
+    let S6 = c .before .before .close .result in
+    by-steps {m = (mem X0 T0 N0 J0 L0 H0 S0)} {m' = (mem X0 T0 N0 J0 L6 H0 S6)} (c .before .before .before .before .before .before .before .before .before .before .before .before .before .before .before .before .before .before .pre .1) (λ b. s-mark {e = (mem X0 T0 N0 J0 L6 H0 S6)} {x = X0} {t = T0} {n = N0} {j = J0} {l = L0} {h = H0} {s = S0} {s' = S2} (c .before .before .before .before .before .before .before .before .before .before .before .if1 .left) (c .before .before .before .before .before .before .before .before .before .before .mark .ensures) (s-kind {a = (mem X0 T0 N0 J0 L0 H0 S2)} {e = (mem X0 T0 N0 J0 L6 H0 S6)} (s-true {a = (mem X0 T0 N0 J0 L0 H0 S2)} {e = (mem X0 T0 N0 J0 L6 H0 S6)} _ _ (kind-at _ _ (mem X0 T0 N0 J0 L0 H0 S2) _ (c .before .before .before .before .before .before .before .before .before .at .ensures) (c .before .before .before .before .before .before .before .before .if2 .taken)) (s-bump {e = (mem X0 T0 N0 J0 L6 H0 S6)} {x = X0} {t = T0} {n = N0} {j = J0} {l = L0} {h = H0} {s = S2} {s' = S5} {l' = L5} (c .before .before .before .before .before .before .bump .ensures) (s-close {e = (mem X0 T0 N0 J0 L6 H0 S6)} {x = X0} {t = T0} {n = N0} {j = J0} {l = L5} {h = H0} {s = S5} {s' = S6} {l' = L6} (c .before .before .close .ensures) s-end)))))
 
 row-at-n-requires : (t : ℕ) → row-lts.Need-at-n-requires (row-told t) (row-at t) row.Post
 row-at-n-requires t c κs =
@@ -2858,19 +3183,26 @@ row-same-length-3 t c =
 row-returns-3 : (t : ℕ) → row-lts.Need-returns-3 (row-told t) (row-at t) row.Post
 unfolding pat.patRow plan choose chosen
 row-returns-3 t c =
-    let pre0 = c .before .before .before .before .before .before .before .before .before .before .before .before .before .before .before .before .before .before .before .before .before .before .before .before .before .before .before .before .before .before .before .before .before .before .before .before .before .before .pre .1 in
-    let if1 = c .before .before .before .before .before .before .before .before .before .before .before .before .before .before .before .before .before .before .before .before .before .before .before .before .before .before .before .before .before .before .before .if1 .left in
-    let mark = c .before .before .before .before .before .before .before .before .before .before .before .before .before .before .before .before .before .before .before .before .before .before .before .before .before .before .before .before .before .before .mark .ensures in
-    let at = c .before .before .before .before .before .before .before .before .before .before .before .before .before .before .before .before .before .before .before .before .before .before .before .before .before .before .before .before .before .at .ensures in
-    let if2 = c .before .before .before .before .before .before .before .before .before .before .before .before .before .before .before .before .before .before .before .before .before .before .before .before .before .before .before .before .if2 .left in
-    let at-n = c .before .before .before .before .before .before .before .before .before .before .before .before .before .before .before .before .before .before .before .before .before .before .before .before .before .before .before .at-n .ensures in
-    let if3 = c .before .before .before .before .before .before .before .before .before .before .before .before .before .before .before .before .before .before .before .before .before .before .before .before .before .before .if3 .taken in
-    let lab = c .before .before .before .before .before .before .before .before .before .before .before .before .before .before .before .before .before .before .before .before .before .before .before .lab .ensures in
-    let eat = c .before .before .before .before .before .before .before .before .before .before .before .before .before .before .before .before .eat .ensures in
-    let state = c .before .before .before .before .before .before .before .before .before .before .before .state .ensures in
-    let pat-must = c .before .before .before .before .before .before .before .before .pat-must .ensures in
-    let close2 = c .before .before .close2 .ensures in
-    by-steps pre0 (λ b. s-mark if1 mark (s-kind (s-false _ _ (kind-off _ _ _ _ at if2) (s-kind (s-true _ _ (kind-at _ _ _ _ at-n if3) (s-eats _ _ _ lab (s-eats _ _ _ (eats-settled state eat) (s-by _ (runs-in pat-must) (s-close close2 s-end)))))))))
+    let X0 = c .before .before .before .before .before .before .before .before .before .before .before .before .before .before .before .before .before .before .before .before .before .before .before .before .before .before .before .before .before .before .before .before .before .before .before .before .before .before .args .text .now in
+    let T0 = c .before .before .before .before .before .before .before .before .before .before .before .before .before .before .before .before .before .before .before .before .before .before .before .before .before .before .before .before .before .before .before .before .before .before .before .before .before .before .args .toks .now in
+    let N0 = c .before .before .before .before .before .before .before .before .before .before .before .before .before .before .before .before .before .before .before .before .before .before .before .before .before .before .before .before .before .before .before .before .before .before .before .before .before .before .args .env .now in
+    let J0 = c .before .before .before .before .before .before .before .before .before .before .before .before .before .before .before .before .before .before .before .before .before .before .before .before .before .before .before .before .before .before .before .before .before .before .before .before .before .before .args .table .now in
+    let L0 = c .before .before .before .before .before .before .before .before .before .before .before .before .before .before .before .before .before .before .before .before .before .before .before .before .before .before .before .before .before .before .before .before .before .before .before .before .before .before .args .scratch .now in
+    let H0 = c .before .before .before .before .before .before .before .before .before .before .before .before .before .before .before .before .before .before .before .before .before .before .before .before .before .before .before .before .before .before .before .before .before .before .before .before .before .before .args .finds .now in
+    let S0 = c .before .before .before .before .before .before .before .before .before .before .before .before .before .before .before .before .before .before .before .before .before .before .before .before .before .before .before .before .before .before .before .before .before .before .before .before .before .before .args .s in
+    let S2 = c .before .before .before .before .before .before .before .before .before .before .before .before .before .before .before .before .before .before .before .before .before .before .before .before .before .before .before .before .before .before .mark .result in
+    let L7 = c .before .before .before .before .before .before .before .before .before .before .before .before .before .before .before .before .before .before .before .before .before .before .before .lab .last .1 .0 in
+    let H7 = c .before .before .before .before .before .before .before .before .before .before .before .before .before .before .before .before .before .before .before .before .before .before .before .lab .last .1 .1 .0 in
+    let S7 = c .before .before .before .before .before .before .before .before .before .before .before .before .before .before .before .before .before .before .before .before .before .before .before .lab .result in
+    let L8 = c .before .before .before .before .before .before .before .before .before .before .before .before .before .before .before .before .eat .last .1 .0 in
+    let H8 = c .before .before .before .before .before .before .before .before .before .before .before .before .before .before .before .before .eat .last .1 .1 .0 in
+    let S9 = c .before .before .before .before .before .before .before .before .before .before .before .state .result in
+    let L10 = c .before .before .before .before .before .before .before .before .pat-must .last .1 .1 .1 .1 .0 in
+    let H10 = c .before .before .before .before .before .before .before .before .pat-must .last .1 .1 .1 .1 .1 .0 in
+    let S10 = c .before .before .before .before .before .before .before .before .pat-must .result in
+    let L11 = c .before .before .close2 .last .0 in
+    let S11 = c .before .before .close2 .result in
+    by-steps {m = (mem X0 T0 N0 J0 L0 H0 S0)} {m' = (mem X0 T0 N0 J0 L11 H10 S11)} (c .before .before .before .before .before .before .before .before .before .before .before .before .before .before .before .before .before .before .before .before .before .before .before .before .before .before .before .before .before .before .before .before .before .before .before .before .before .before .pre .1) (λ b. s-mark {e = (mem X0 T0 N0 J0 L11 H10 S11)} {x = X0} {t = T0} {n = N0} {j = J0} {l = L0} {h = H0} {s = S0} {s' = S2} (c .before .before .before .before .before .before .before .before .before .before .before .before .before .before .before .before .before .before .before .before .before .before .before .before .before .before .before .before .before .before .before .if1 .left) (c .before .before .before .before .before .before .before .before .before .before .before .before .before .before .before .before .before .before .before .before .before .before .before .before .before .before .before .before .before .before .mark .ensures) (s-kind {a = (mem X0 T0 N0 J0 L0 H0 S2)} {e = (mem X0 T0 N0 J0 L11 H10 S11)} (s-false {a = (mem X0 T0 N0 J0 L0 H0 S2)} {e = (mem X0 T0 N0 J0 L11 H10 S11)} _ _ (kind-off _ _ (mem X0 T0 N0 J0 L0 H0 S2) _ (c .before .before .before .before .before .before .before .before .before .before .before .before .before .before .before .before .before .before .before .before .before .before .before .before .before .before .before .before .before .at .ensures) (c .before .before .before .before .before .before .before .before .before .before .before .before .before .before .before .before .before .before .before .before .before .before .before .before .before .before .before .before .if2 .left)) (s-kind {a = (mem X0 T0 N0 J0 L0 H0 S2)} {e = (mem X0 T0 N0 J0 L11 H10 S11)} (s-true {a = (mem X0 T0 N0 J0 L0 H0 S2)} {e = (mem X0 T0 N0 J0 L11 H10 S11)} _ _ (kind-at _ _ (mem X0 T0 N0 J0 L0 H0 S2) _ (c .before .before .before .before .before .before .before .before .before .before .before .before .before .before .before .before .before .before .before .before .before .before .before .before .before .before .before .at-n .ensures) (c .before .before .before .before .before .before .before .before .before .before .before .before .before .before .before .before .before .before .before .before .before .before .before .before .before .before .if3 .taken)) (s-eats _ _ {x = X0} {t = T0} {n = N0} {j = J0} {l = L0} {h = H0} {l' = L7} {s = S2} {s' = S7} {e = (mem X0 T0 N0 J0 L11 H10 S11)} _ {h' = H7} (c .before .before .before .before .before .before .before .before .before .before .before .before .before .before .before .before .before .before .before .before .before .before .before .lab .ensures) (s-eats _ _ {x = X0} {t = T0} {n = N0} {j = J0} {l = L7} {h = H7} {l' = L8} {s = S7} {s' = S9} {e = (mem X0 T0 N0 J0 L11 H10 S11)} _ {h' = H8} (eats-settled (c .before .before .before .before .before .before .before .before .before .before .before .state .ensures) (c .before .before .before .before .before .before .before .before .before .before .before .before .before .before .before .before .eat .ensures)) (s-by {a = (mem X0 T0 N0 J0 L8 H8 S9)} {c = (mem X0 T0 N0 J0 L10 H10 S10)} {e = (mem X0 T0 N0 J0 L11 H10 S11)} _ (runs-in {a = (mem X0 T0 N0 J0 L8 H8 S9)} {c = (mem X0 T0 N0 J0 L10 H10 S10)} (c .before .before .before .before .before .before .before .before .pat-must .ensures)) (s-close {e = (mem X0 T0 N0 J0 L11 H10 S11)} {x = X0} {t = T0} {n = N0} {j = J0} {l = L10} {h = H10} {s = S10} {s' = S11} {l' = L11} (c .before .before .close2 .ensures) s-end)))))))))
 
 row-eat-name-star-requires : (t : ℕ) → row-lts.Need-eat-name-star-requires (row-told t) (row-at t) row.Post
 row-eat-name-star-requires t c κs =
@@ -2954,33 +3286,45 @@ row-same-length-5 t c =
 row-returns-4 : (t : ℕ) → row-lts.Need-returns-4 (row-told t) (row-at t) row.Post
 unfolding pat.patRow plan choose chosen
 row-returns-4 t c =
-    let pre0 = c .before .before .before .before .before .before .before .before .before .before .before .before .before .before .before .before .before .before .before .before .before .before .before .before .before .before .before .before .before .before .before .before .before .before .before .before .before .before .before .before .pre .1 in
-    let if1 = c .before .before .before .before .before .before .before .before .before .before .before .before .before .before .before .before .before .before .before .before .before .before .before .before .before .before .before .before .before .before .before .before .before .if1 .left in
-    let mark = c .before .before .before .before .before .before .before .before .before .before .before .before .before .before .before .before .before .before .before .before .before .before .before .before .before .before .before .before .before .before .before .before .mark .ensures in
-    let at = c .before .before .before .before .before .before .before .before .before .before .before .before .before .before .before .before .before .before .before .before .before .before .before .before .before .before .before .before .before .before .before .at .ensures in
-    let if2 = c .before .before .before .before .before .before .before .before .before .before .before .before .before .before .before .before .before .before .before .before .before .before .before .before .before .before .before .before .before .before .if2 .left in
-    let at-n = c .before .before .before .before .before .before .before .before .before .before .before .before .before .before .before .before .before .before .before .before .before .before .before .before .before .before .before .before .before .at-n .ensures in
-    let if3 = c .before .before .before .before .before .before .before .before .before .before .before .before .before .before .before .before .before .before .before .before .before .before .before .before .before .before .before .before .if3 .left in
-    let eat-name-star = c .before .before .before .before .before .before .before .before .before .before .before .before .before .before .before .before .before .before .before .before .before .before .before .before .before .eat-name-star .ensures in
-    let state2 = c .before .before .before .before .before .before .before .before .before .before .before .before .before .before .before .before .before .before .before .before .state2 .ensures in
-    let ty-annotation = c .before .before .before .before .before .before .before .before .before .before .before .before .before .before .before .before .before .ty-annotation .ensures in
-    let state3 = c .before .before .before .before .before .before .before .before .before .before .before .before .state3 .ensures in
-    let as-pat-tl = c .before .before .before .before .before .before .before .before .before .as-pat-tl .ensures in
-    let state4 = c .before .before .before .before .state4 .ensures in
-    let close3 = c .before .before .close3 .ensures in
-    by-steps pre0 (λ b. s-mark if1 mark (s-kind (s-false _ _ (kind-off _ _ _ _ at if2) (s-kind (s-false _ _ (kind-off _ _ _ _ at-n if3) (s-eats _ _ _ (eats-settled state2 eat-name-star) (s-by _ (settled state3 (runs-in ty-annotation)) (s-by _ (settled state4 (runs-in as-pat-tl)) (s-close close3 s-end)))))))))
+    let X0 = c .before .before .before .before .before .before .before .before .before .before .before .before .before .before .before .before .before .before .before .before .before .before .before .before .before .before .before .before .before .before .before .before .before .before .before .before .before .before .before .before .args .text .now in
+    let T0 = c .before .before .before .before .before .before .before .before .before .before .before .before .before .before .before .before .before .before .before .before .before .before .before .before .before .before .before .before .before .before .before .before .before .before .before .before .before .before .before .before .args .toks .now in
+    let N0 = c .before .before .before .before .before .before .before .before .before .before .before .before .before .before .before .before .before .before .before .before .before .before .before .before .before .before .before .before .before .before .before .before .before .before .before .before .before .before .before .before .args .env .now in
+    let J0 = c .before .before .before .before .before .before .before .before .before .before .before .before .before .before .before .before .before .before .before .before .before .before .before .before .before .before .before .before .before .before .before .before .before .before .before .before .before .before .before .before .args .table .now in
+    let L0 = c .before .before .before .before .before .before .before .before .before .before .before .before .before .before .before .before .before .before .before .before .before .before .before .before .before .before .before .before .before .before .before .before .before .before .before .before .before .before .before .before .args .scratch .now in
+    let H0 = c .before .before .before .before .before .before .before .before .before .before .before .before .before .before .before .before .before .before .before .before .before .before .before .before .before .before .before .before .before .before .before .before .before .before .before .before .before .before .before .before .args .finds .now in
+    let S0 = c .before .before .before .before .before .before .before .before .before .before .before .before .before .before .before .before .before .before .before .before .before .before .before .before .before .before .before .before .before .before .before .before .before .before .before .before .before .before .before .before .args .s in
+    let S2 = c .before .before .before .before .before .before .before .before .before .before .before .before .before .before .before .before .before .before .before .before .before .before .before .before .before .before .before .before .before .before .before .before .mark .result in
+    let L7 = c .before .before .before .before .before .before .before .before .before .before .before .before .before .before .before .before .before .before .before .before .before .before .before .before .before .eat-name-star .last .1 .0 in
+    let H7 = c .before .before .before .before .before .before .before .before .before .before .before .before .before .before .before .before .before .before .before .before .before .before .before .before .before .eat-name-star .last .1 .1 .0 in
+    let S8 = c .before .before .before .before .before .before .before .before .before .before .before .before .before .before .before .before .before .before .before .before .state2 .result in
+    let L9 = c .before .before .before .before .before .before .before .before .before .before .before .before .before .before .before .before .before .ty-annotation .last .1 .1 .1 .1 .0 in
+    let H9 = c .before .before .before .before .before .before .before .before .before .before .before .before .before .before .before .before .before .ty-annotation .last .1 .1 .1 .1 .1 .0 in
+    let S9 = outState (c .before .before .before .before .before .before .before .before .before .before .before .before .before .before .before .before .before .ty-annotation .result) in
+    let S10 = c .before .before .before .before .before .before .before .before .before .before .before .before .state3 .result in
+    let L11 = c .before .before .before .before .before .before .before .before .before .as-pat-tl .last .1 .1 .1 .1 .0 in
+    let H11 = c .before .before .before .before .before .before .before .before .before .as-pat-tl .last .1 .1 .1 .1 .1 .0 in
+    let S11 = outState (c .before .before .before .before .before .before .before .before .before .as-pat-tl .result) in
+    let S12 = c .before .before .before .before .state4 .result in
+    let L13 = c .before .before .close3 .last .0 in
+    let S13 = c .before .before .close3 .result in
+    by-steps {m = (mem X0 T0 N0 J0 L0 H0 S0)} {m' = (mem X0 T0 N0 J0 L13 H11 S13)} (c .before .before .before .before .before .before .before .before .before .before .before .before .before .before .before .before .before .before .before .before .before .before .before .before .before .before .before .before .before .before .before .before .before .before .before .before .before .before .before .before .pre .1) (λ b. s-mark {e = (mem X0 T0 N0 J0 L13 H11 S13)} {x = X0} {t = T0} {n = N0} {j = J0} {l = L0} {h = H0} {s = S0} {s' = S2} (c .before .before .before .before .before .before .before .before .before .before .before .before .before .before .before .before .before .before .before .before .before .before .before .before .before .before .before .before .before .before .before .before .before .if1 .left) (c .before .before .before .before .before .before .before .before .before .before .before .before .before .before .before .before .before .before .before .before .before .before .before .before .before .before .before .before .before .before .before .before .mark .ensures) (s-kind {a = (mem X0 T0 N0 J0 L0 H0 S2)} {e = (mem X0 T0 N0 J0 L13 H11 S13)} (s-false {a = (mem X0 T0 N0 J0 L0 H0 S2)} {e = (mem X0 T0 N0 J0 L13 H11 S13)} _ _ (kind-off _ _ (mem X0 T0 N0 J0 L0 H0 S2) _ (c .before .before .before .before .before .before .before .before .before .before .before .before .before .before .before .before .before .before .before .before .before .before .before .before .before .before .before .before .before .before .before .at .ensures) (c .before .before .before .before .before .before .before .before .before .before .before .before .before .before .before .before .before .before .before .before .before .before .before .before .before .before .before .before .before .before .if2 .left)) (s-kind {a = (mem X0 T0 N0 J0 L0 H0 S2)} {e = (mem X0 T0 N0 J0 L13 H11 S13)} (s-false {a = (mem X0 T0 N0 J0 L0 H0 S2)} {e = (mem X0 T0 N0 J0 L13 H11 S13)} _ _ (kind-off _ _ (mem X0 T0 N0 J0 L0 H0 S2) _ (c .before .before .before .before .before .before .before .before .before .before .before .before .before .before .before .before .before .before .before .before .before .before .before .before .before .before .before .before .before .at-n .ensures) (c .before .before .before .before .before .before .before .before .before .before .before .before .before .before .before .before .before .before .before .before .before .before .before .before .before .before .before .before .if3 .left)) (s-eats _ _ {x = X0} {t = T0} {n = N0} {j = J0} {l = L0} {h = H0} {l' = L7} {s = S2} {s' = S8} {e = (mem X0 T0 N0 J0 L13 H11 S13)} _ {h' = H7} (eats-settled (c .before .before .before .before .before .before .before .before .before .before .before .before .before .before .before .before .before .before .before .before .state2 .ensures) (c .before .before .before .before .before .before .before .before .before .before .before .before .before .before .before .before .before .before .before .before .before .before .before .before .before .eat-name-star .ensures)) (s-by {a = (mem X0 T0 N0 J0 L7 H7 S8)} {c = (mem X0 T0 N0 J0 L9 H9 S10)} {e = (mem X0 T0 N0 J0 L13 H11 S13)} _ (settled (c .before .before .before .before .before .before .before .before .before .before .before .before .state3 .ensures) (runs-in {a = (mem X0 T0 N0 J0 L7 H7 S8)} {c = (mem X0 T0 N0 J0 L9 H9 S9)} (c .before .before .before .before .before .before .before .before .before .before .before .before .before .before .before .before .before .ty-annotation .ensures))) (s-by {a = (mem X0 T0 N0 J0 L9 H9 S10)} {c = (mem X0 T0 N0 J0 L11 H11 S12)} {e = (mem X0 T0 N0 J0 L13 H11 S13)} _ (settled (c .before .before .before .before .state4 .ensures) (runs-in {a = (mem X0 T0 N0 J0 L9 H9 S10)} {c = (mem X0 T0 N0 J0 L11 H11 S11)} (c .before .before .before .before .before .before .before .before .before .as-pat-tl .ensures))) (s-close {e = (mem X0 T0 N0 J0 L13 H11 S13)} {x = X0} {t = T0} {n = N0} {j = J0} {l = L11} {h = H11} {s = S12} {s' = S13} {l' = L13} (c .before .before .close3 .ensures) s-end)))))))))
 
 row-item-refuse-requires : (t : ℕ) → row-item-lts.Need-refuse-requires (row-item-told t) (row-item-at t) row-item.Post
 row-item-refuse-requires t c κs =
     tt
 
 row-item-returns : (t : ℕ) → row-item-lts.Need-returns (row-item-told t) (row-item-at t) row-item.Post
-unfolding util.endItem plan choose chosen
+unfolding util.endItem plan choose chosen hushed
 row-item-returns t c =
-    let pre0 = c .before .before .before .before .before .before .before .before .pre .1 in
-    let if1 = c .before .if1 .taken in
-    let refuse = c .refuse .ensures in
-    by-steps pre0 (λ b. s-deep if1 refuse s-end)
+    let X0 = c .before .before .before .before .before .before .before .before .args .text .now in
+    let T0 = c .before .before .before .before .before .before .before .before .args .toks .now in
+    let N0 = c .before .before .before .before .before .before .before .before .args .env .now in
+    let J0 = c .before .before .before .before .before .before .before .before .args .table .now in
+    let L0 = c .before .before .before .before .before .before .before .before .args .scratch .now in
+    let H0 = c .before .before .before .before .before .before .before .before .args .finds .now in
+    let S0 = c .before .before .before .before .before .before .before .before .args .s in
+    let S2 = c .refuse .result in
+    by-steps {m = (mem X0 T0 N0 J0 L0 H0 S0)} {m' = (mem X0 T0 N0 J0 L0 H0 S2)} (c .before .before .before .before .before .before .before .before .pre .1) (λ b. s-shut (c .before .if1 .taken) (c .refuse .ensures) (λ k l. refl))
 
 row-item-mark-requires : (t : ℕ) → row-item-lts.Need-mark-requires (row-item-told t) (row-item-at t) row-item.Post
 row-item-mark-requires t c κs =
@@ -3036,15 +3380,22 @@ row-item-same-length-2 t c =
 row-item-returns-2 : (t : ℕ) → row-item-lts.Need-returns-2 (row-item-told t) (row-item-at t) row-item.Post
 unfolding util.endItem plan choose chosen
 row-item-returns-2 t c =
-    let pre0 = c .before .before .before .before .before .before .before .before .before .before .before .before .before .before .before .before .before .before .before .before .before .before .before .before .before .pre .1 in
-    let if1 = c .before .before .before .before .before .before .before .before .before .before .before .before .before .before .before .before .before .before .if1 .left in
-    let mark = c .before .before .before .before .before .before .before .before .before .before .before .before .before .before .before .before .before .mark .ensures in
-    let row = c .before .before .before .before .before .before .before .before .before .before .before .before .before .before .row .ensures in
-    let at = c .before .before .before .before .before .before .before .before .before .at .ensures in
-    let if2 = c .before .before .before .before .before .before .before .before .if2 .taken in
-    let bump = c .before .before .before .before .before .before .bump .ensures in
-    let close = c .before .before .close .ensures in
-    by-steps pre0 (λ b. s-mark if1 mark (s-by _ (runs-in row) (s-kind (s-true _ _ (kind-at _ _ _ _ at if2) (s-bump bump (s-close close s-end))))))
+    let X0 = c .before .before .before .before .before .before .before .before .before .before .before .before .before .before .before .before .before .before .before .before .before .before .before .before .before .args .text .now in
+    let T0 = c .before .before .before .before .before .before .before .before .before .before .before .before .before .before .before .before .before .before .before .before .before .before .before .before .before .args .toks .now in
+    let N0 = c .before .before .before .before .before .before .before .before .before .before .before .before .before .before .before .before .before .before .before .before .before .before .before .before .before .args .env .now in
+    let J0 = c .before .before .before .before .before .before .before .before .before .before .before .before .before .before .before .before .before .before .before .before .before .before .before .before .before .args .table .now in
+    let L0 = c .before .before .before .before .before .before .before .before .before .before .before .before .before .before .before .before .before .before .before .before .before .before .before .before .before .args .scratch .now in
+    let H0 = c .before .before .before .before .before .before .before .before .before .before .before .before .before .before .before .before .before .before .before .before .before .before .before .before .before .args .finds .now in
+    let S0 = c .before .before .before .before .before .before .before .before .before .before .before .before .before .before .before .before .before .before .before .before .before .before .before .before .before .args .s in
+    let S2 = c .before .before .before .before .before .before .before .before .before .before .before .before .before .before .before .before .before .mark .result in
+    let L3 = c .before .before .before .before .before .before .before .before .before .before .before .before .before .before .row .last .1 .1 .1 .1 .0 in
+    let H3 = c .before .before .before .before .before .before .before .before .before .before .before .before .before .before .row .last .1 .1 .1 .1 .1 .0 in
+    let S3 = c .before .before .before .before .before .before .before .before .before .before .before .before .before .before .row .result in
+    let L6 = c .before .before .before .before .before .before .bump .last .1 .0 in
+    let S6 = c .before .before .before .before .before .before .bump .result in
+    let L7 = c .before .before .close .last .0 in
+    let S7 = c .before .before .close .result in
+    by-steps {m = (mem X0 T0 N0 J0 L0 H0 S0)} {m' = (mem X0 T0 N0 J0 L7 H3 S7)} (c .before .before .before .before .before .before .before .before .before .before .before .before .before .before .before .before .before .before .before .before .before .before .before .before .before .pre .1) (λ b. s-mark {e = (mem X0 T0 N0 J0 L7 H3 S7)} {x = X0} {t = T0} {n = N0} {j = J0} {l = L0} {h = H0} {s = S0} {s' = S2} (c .before .before .before .before .before .before .before .before .before .before .before .before .before .before .before .before .before .before .if1 .left) (c .before .before .before .before .before .before .before .before .before .before .before .before .before .before .before .before .before .mark .ensures) (s-by {a = (mem X0 T0 N0 J0 L0 H0 S2)} {c = (mem X0 T0 N0 J0 L3 H3 S3)} {e = (mem X0 T0 N0 J0 L7 H3 S7)} _ (runs-in {a = (mem X0 T0 N0 J0 L0 H0 S2)} {c = (mem X0 T0 N0 J0 L3 H3 S3)} (c .before .before .before .before .before .before .before .before .before .before .before .before .before .before .row .ensures)) (s-kind {a = (mem X0 T0 N0 J0 L3 H3 S3)} {e = (mem X0 T0 N0 J0 L7 H3 S7)} (s-true {a = (mem X0 T0 N0 J0 L3 H3 S3)} {e = (mem X0 T0 N0 J0 L7 H3 S7)} _ _ (kind-at _ _ (mem X0 T0 N0 J0 L3 H3 S3) _ (c .before .before .before .before .before .before .before .before .before .at .ensures) (c .before .before .before .before .before .before .before .before .if2 .taken)) (s-bump {e = (mem X0 T0 N0 J0 L7 H3 S7)} {x = X0} {t = T0} {n = N0} {j = J0} {l = L3} {h = H3} {s = S3} {s' = S6} {l' = L6} (c .before .before .before .before .before .before .bump .ensures) (s-close {e = (mem X0 T0 N0 J0 L7 H3 S7)} {x = X0} {t = T0} {n = N0} {j = J0} {l = L6} {h = H3} {s = S6} {s' = S7} {l' = L7} (c .before .before .close .ensures) s-end))))))
 
 row-item-close-requires-2 : (t : ℕ) → row-item-lts.Need-close-requires-2 (row-item-told t) (row-item-at t) row-item.Post
 row-item-close-requires-2 t c κs =
@@ -3066,14 +3417,20 @@ row-item-same-length-4 t c =
 row-item-returns-3 : (t : ℕ) → row-item-lts.Need-returns-3 (row-item-told t) (row-item-at t) row-item.Post
 unfolding util.endItem plan choose chosen
 row-item-returns-3 t c =
-    let pre0 = c .before .before .before .before .before .before .before .before .before .before .before .before .before .before .before .before .before .before .before .before .before .pre .1 in
-    let if1 = c .before .before .before .before .before .before .before .before .before .before .before .before .before .before .if1 .left in
-    let mark = c .before .before .before .before .before .before .before .before .before .before .before .before .before .mark .ensures in
-    let row = c .before .before .before .before .before .before .before .before .before .before .row .ensures in
-    let at = c .before .before .before .before .before .at .ensures in
-    let if2 = c .before .before .before .before .if2 .left in
-    let close2 = c .before .before .close2 .ensures in
-    by-steps pre0 (λ b. s-mark if1 mark (s-by _ (runs-in row) (s-kind (s-false _ _ (kind-off _ _ _ _ at if2) (s-close close2 s-end)))))
+    let X0 = c .before .before .before .before .before .before .before .before .before .before .before .before .before .before .before .before .before .before .before .before .before .args .text .now in
+    let T0 = c .before .before .before .before .before .before .before .before .before .before .before .before .before .before .before .before .before .before .before .before .before .args .toks .now in
+    let N0 = c .before .before .before .before .before .before .before .before .before .before .before .before .before .before .before .before .before .before .before .before .before .args .env .now in
+    let J0 = c .before .before .before .before .before .before .before .before .before .before .before .before .before .before .before .before .before .before .before .before .before .args .table .now in
+    let L0 = c .before .before .before .before .before .before .before .before .before .before .before .before .before .before .before .before .before .before .before .before .before .args .scratch .now in
+    let H0 = c .before .before .before .before .before .before .before .before .before .before .before .before .before .before .before .before .before .before .before .before .before .args .finds .now in
+    let S0 = c .before .before .before .before .before .before .before .before .before .before .before .before .before .before .before .before .before .before .before .before .before .args .s in
+    let S2 = c .before .before .before .before .before .before .before .before .before .before .before .before .before .mark .result in
+    let L3 = c .before .before .before .before .before .before .before .before .before .before .row .last .1 .1 .1 .1 .0 in
+    let H3 = c .before .before .before .before .before .before .before .before .before .before .row .last .1 .1 .1 .1 .1 .0 in
+    let S3 = c .before .before .before .before .before .before .before .before .before .before .row .result in
+    let L6 = c .before .before .close2 .last .0 in
+    let S6 = c .before .before .close2 .result in
+    by-steps {m = (mem X0 T0 N0 J0 L0 H0 S0)} {m' = (mem X0 T0 N0 J0 L6 H3 S6)} (c .before .before .before .before .before .before .before .before .before .before .before .before .before .before .before .before .before .before .before .before .before .pre .1) (λ b. s-mark {e = (mem X0 T0 N0 J0 L6 H3 S6)} {x = X0} {t = T0} {n = N0} {j = J0} {l = L0} {h = H0} {s = S0} {s' = S2} (c .before .before .before .before .before .before .before .before .before .before .before .before .before .before .if1 .left) (c .before .before .before .before .before .before .before .before .before .before .before .before .before .mark .ensures) (s-by {a = (mem X0 T0 N0 J0 L0 H0 S2)} {c = (mem X0 T0 N0 J0 L3 H3 S3)} {e = (mem X0 T0 N0 J0 L6 H3 S6)} _ (runs-in {a = (mem X0 T0 N0 J0 L0 H0 S2)} {c = (mem X0 T0 N0 J0 L3 H3 S3)} (c .before .before .before .before .before .before .before .before .before .before .row .ensures)) (s-kind {a = (mem X0 T0 N0 J0 L3 H3 S3)} {e = (mem X0 T0 N0 J0 L6 H3 S6)} (s-false {a = (mem X0 T0 N0 J0 L3 H3 S3)} {e = (mem X0 T0 N0 J0 L6 H3 S6)} _ _ (kind-off _ _ (mem X0 T0 N0 J0 L3 H3 S3) _ (c .before .before .before .before .before .at .ensures) (c .before .before .before .before .if2 .left)) (s-close {e = (mem X0 T0 N0 J0 L6 H3 S6)} {x = X0} {t = T0} {n = N0} {j = J0} {l = L3} {h = H3} {s = S3} {s' = S6} {l' = L6} (c .before .before .close2 .ensures) s-end)))))
 
 row-turn-at-requires : (t : ℕ) → row-turn-lts.Need-at-requires (row-turn-told t) (row-turn-at t) row-turn.Post
 row-turn-at-requires t c κs =
@@ -3092,11 +3449,16 @@ row-turn-same-length t c =
 row-turn-returns : (t : ℕ) → row-turn-lts.Need-returns (row-turn-told t) (row-turn-at t) row-turn.Post
 unfolding util.endTurn plan choose chosen
 row-turn-returns t c =
-    let pre0 = c .before .before .before .before .before .before .before .before .before .before .before .before .pre .1 in
-    let at = c .before .before .before .before .before .at .ensures in
-    let if1 = c .before .before .before .before .if1 .taken in
-    let bump = c .before .before .bump .ensures in
-    by-steps pre0 (λ b. s-kind (s-true _ _ (kind-at _ _ _ _ at if1) (s-bump bump s-end)))
+    let X0 = c .before .before .before .before .before .before .before .before .before .before .before .before .args .text .now in
+    let T0 = c .before .before .before .before .before .before .before .before .before .before .before .before .args .toks .now in
+    let N0 = c .before .before .before .before .before .before .before .before .before .before .before .before .args .env .now in
+    let J0 = c .before .before .before .before .before .before .before .before .before .before .before .before .args .table .now in
+    let L0 = c .before .before .before .before .before .before .before .before .before .before .before .before .args .scratch .now in
+    let H0 = c .before .before .before .before .before .before .before .before .before .before .before .before .args .finds .now in
+    let S0 = c .before .before .before .before .before .before .before .before .before .before .before .before .args .s in
+    let L3 = c .before .before .bump .last .1 .0 in
+    let S3 = c .before .before .bump .result in
+    by-steps {m = (mem X0 T0 N0 J0 L0 H0 S0)} {m' = (mem X0 T0 N0 J0 L3 H0 S3)} (c .before .before .before .before .before .before .before .before .before .before .before .before .pre .1) (λ b. s-kind {a = (mem X0 T0 N0 J0 L0 H0 S0)} {e = (mem X0 T0 N0 J0 L3 H0 S3)} (s-true {a = (mem X0 T0 N0 J0 L0 H0 S0)} {e = (mem X0 T0 N0 J0 L3 H0 S3)} _ _ (kind-at _ _ (mem X0 T0 N0 J0 L0 H0 S0) _ (c .before .before .before .before .before .at .ensures) (c .before .before .before .before .if1 .taken)) (s-bump {e = (mem X0 T0 N0 J0 L3 H0 S3)} {x = X0} {t = T0} {n = N0} {j = J0} {l = L0} {h = H0} {s = S0} {s' = S3} {l' = L3} (c .before .before .bump .ensures) s-end)))
 
 row-turn-row-item-requires : (t : ℕ) → row-turn-lts.Need-row-item-requires (row-turn-told t) (row-turn-at t) row-turn.Post
 row-turn-row-item-requires t c κs =
@@ -3143,11 +3505,17 @@ row-turn-same-length-3 t c =
 row-turn-returns-2 : (t : ℕ) → row-turn-lts.Need-returns-2 (row-turn-told t) (row-turn-at t) row-turn.Post
 unfolding util.endTurn plan choose chosen
 row-turn-returns-2 t c =
-    let pre0 = c .before .before .before .before .before .before .before .before .before .before .before .before .before .before .before .before .before .before .pre .1 in
-    let at = c .before .before .before .before .before .before .before .before .before .before .before .at .ensures in
-    let if1 = c .before .before .before .before .before .before .before .before .before .before .if1 .left in
-    let row-item = rw (c .before .item .given .1) at (c .before .before .before .before .before .before .before .row-item .ensures) in
-    by-steps pre0 (λ b. s-kind (s-false _ _ (kind-off _ _ _ _ at if1) (s-by _ (runs-in row-item) s-end)))
+    let X0 = c .before .before .before .before .before .before .before .before .before .before .before .before .before .before .before .before .before .before .args .text .now in
+    let T0 = c .before .before .before .before .before .before .before .before .before .before .before .before .before .before .before .before .before .before .args .toks .now in
+    let N0 = c .before .before .before .before .before .before .before .before .before .before .before .before .before .before .before .before .before .before .args .env .now in
+    let J0 = c .before .before .before .before .before .before .before .before .before .before .before .before .before .before .before .before .before .before .args .table .now in
+    let L0 = c .before .before .before .before .before .before .before .before .before .before .before .before .before .before .before .before .before .before .args .scratch .now in
+    let H0 = c .before .before .before .before .before .before .before .before .before .before .before .before .before .before .before .before .before .before .args .finds .now in
+    let S0 = c .before .before .before .before .before .before .before .before .before .before .before .before .before .before .before .before .before .before .args .s in
+    let L3 = c .before .before .before .before .before .before .before .row-item .last .1 .1 .1 .1 .0 in
+    let H3 = c .before .before .before .before .before .before .before .row-item .last .1 .1 .1 .1 .1 .0 in
+    let S3 = c .before .item .given .0 .0 in
+    by-steps {m = (mem X0 T0 N0 J0 L0 H0 S0)} {m' = (mem X0 T0 N0 J0 L3 H3 S3)} (c .before .before .before .before .before .before .before .before .before .before .before .before .before .before .before .before .before .before .pre .1) (λ b. s-kind {a = (mem X0 T0 N0 J0 L0 H0 S0)} {e = (mem X0 T0 N0 J0 L3 H3 S3)} (s-false {a = (mem X0 T0 N0 J0 L0 H0 S0)} {e = (mem X0 T0 N0 J0 L3 H3 S3)} _ _ (kind-off _ _ (mem X0 T0 N0 J0 L0 H0 S0) _ (c .before .before .before .before .before .before .before .before .before .before .before .at .ensures) (c .before .before .before .before .before .before .before .before .before .before .if1 .left)) (s-by {a = (mem X0 T0 N0 J0 L0 H0 S0)} {c = (mem X0 T0 N0 J0 L3 H3 S3)} {e = (mem X0 T0 N0 J0 L3 H3 S3)} _ (runs-in {a = (mem X0 T0 N0 J0 L0 H0 S0)} {c = (mem X0 T0 N0 J0 L3 H3 S3)} (rw (c .before .item .given .1) at (c .before .before .before .before .before .before .before .row-item .ensures))) s-end)))
 
 row-turn-same-length-4 : (t : ℕ) → row-turn-lts.Need-same-length-4 (row-turn-told t) (row-turn-at t) row-turn.Post
 row-turn-same-length-4 t c =
@@ -3160,13 +3528,20 @@ row-turn-same-length-5 t c =
 row-turn-returns-3 : (t : ℕ) → row-turn-lts.Need-returns-3 (row-turn-told t) (row-turn-at t) row-turn.Post
 unfolding util.endTurn plan choose chosen
 row-turn-returns-3 t c =
-    let pre0 = c .before .before .before .before .before .before .before .before .before .before .before .before .before .before .before .before .before .before .before .before .before .before .before .before .before .before .pre .1 in
-    let at = c .before .before .before .before .before .before .before .before .before .before .before .before .before .before .before .before .before .before .before .at .ensures in
-    let if1 = c .before .before .before .before .before .before .before .before .before .before .before .before .before .before .before .before .before .before .if1 .left in
-    let row-item = rw (c .before .before .before .before .before .before .before .before .before .item2 .given .1) at (c .before .before .before .before .before .before .before .before .before .before .before .before .before .before .before .row-item .ensures) in
-    let eat = c .before .before .before .before .before .eat .ensures in
-    let state = c .state .ensures in
-    by-steps pre0 (λ b. s-kind (s-false _ _ (kind-off _ _ _ _ at if1) (s-by _ (runs-in row-item) (s-eats _ _ _ (eats-settled state eat) s-end))))
+    let X0 = c .before .before .before .before .before .before .before .before .before .before .before .before .before .before .before .before .before .before .before .before .before .before .before .before .before .before .args .text .now in
+    let T0 = c .before .before .before .before .before .before .before .before .before .before .before .before .before .before .before .before .before .before .before .before .before .before .before .before .before .before .args .toks .now in
+    let N0 = c .before .before .before .before .before .before .before .before .before .before .before .before .before .before .before .before .before .before .before .before .before .before .before .before .before .before .args .env .now in
+    let J0 = c .before .before .before .before .before .before .before .before .before .before .before .before .before .before .before .before .before .before .before .before .before .before .before .before .before .before .args .table .now in
+    let L0 = c .before .before .before .before .before .before .before .before .before .before .before .before .before .before .before .before .before .before .before .before .before .before .before .before .before .before .args .scratch .now in
+    let H0 = c .before .before .before .before .before .before .before .before .before .before .before .before .before .before .before .before .before .before .before .before .before .before .before .before .before .before .args .finds .now in
+    let S0 = c .before .before .before .before .before .before .before .before .before .before .before .before .before .before .before .before .before .before .before .before .before .before .before .before .before .before .args .s in
+    let L3 = c .before .before .before .before .before .before .before .before .before .before .before .before .before .before .before .row-item .last .1 .1 .1 .1 .0 in
+    let H3 = c .before .before .before .before .before .before .before .before .before .before .before .before .before .before .before .row-item .last .1 .1 .1 .1 .1 .0 in
+    let S3 = c .before .before .before .before .before .before .before .before .before .item2 .given .0 .0 in
+    let L4 = c .before .before .before .before .before .eat .last .1 .0 in
+    let H4 = c .before .before .before .before .before .eat .last .1 .1 .0 in
+    let S5 = c .state .result in
+    by-steps {m = (mem X0 T0 N0 J0 L0 H0 S0)} {m' = (mem X0 T0 N0 J0 L4 H4 S5)} (c .before .before .before .before .before .before .before .before .before .before .before .before .before .before .before .before .before .before .before .before .before .before .before .before .before .before .pre .1) (λ b. s-kind {a = (mem X0 T0 N0 J0 L0 H0 S0)} {e = (mem X0 T0 N0 J0 L4 H4 S5)} (s-false {a = (mem X0 T0 N0 J0 L0 H0 S0)} {e = (mem X0 T0 N0 J0 L4 H4 S5)} _ _ (kind-off _ _ (mem X0 T0 N0 J0 L0 H0 S0) _ (c .before .before .before .before .before .before .before .before .before .before .before .before .before .before .before .before .before .before .before .at .ensures) (c .before .before .before .before .before .before .before .before .before .before .before .before .before .before .before .before .before .before .if1 .left)) (s-by {a = (mem X0 T0 N0 J0 L0 H0 S0)} {c = (mem X0 T0 N0 J0 L3 H3 S3)} {e = (mem X0 T0 N0 J0 L4 H4 S5)} _ (runs-in {a = (mem X0 T0 N0 J0 L0 H0 S0)} {c = (mem X0 T0 N0 J0 L3 H3 S3)} (rw (c .before .before .before .before .before .before .before .before .before .item2 .given .1) at (c .before .before .before .before .before .before .before .before .before .before .before .before .before .before .before .row-item .ensures))) (s-eats _ _ {x = X0} {t = T0} {n = N0} {j = J0} {l = L3} {h = H3} {l' = L4} {s = S3} {s' = S5} {e = (mem X0 T0 N0 J0 L4 H4 S5)} _ {h' = H4} (eats-settled (c .state .ensures) (c .before .before .before .before .before .eat .ensures)) s-end))))
 
 abbrev rows-Inv-loop : rows-lts.InvT-loop
 rows-Inv-loop text toks env table scratch₀ finds₀ left e b s1₀ scratch finds s1 =
@@ -3274,9 +3649,14 @@ step-enum-told t c =
 step-returns : (t : ℕ) → step-lts.Need-returns (step-told t) (step-at t) step.Post
 unfolding pat.patStep plan choose chosen
 step-returns t c =
-    let pre0 = c .before .before .before .before .before .before .before .before .before .pre .1 .0 in
-    let peek = rw (c .enum-told .given .1) at (c .before .before .peek .ensures) in
-    in-steps pre0 (s-look peek s-end)
+    let X0 = c .before .before .before .before .before .before .before .before .before .args .text .now in
+    let T0 = c .before .before .before .before .before .before .before .before .before .args .toks .now in
+    let N0 = c .before .before .before .before .before .before .before .before .before .args .env .now in
+    let J0 = c .before .before .before .before .before .before .before .before .before .args .table .now in
+    let L0 = c .before .before .before .before .before .before .before .before .before .args .scratch .now in
+    let H0 = c .before .before .before .before .before .before .before .before .before .args .finds .now in
+    let S0 = c .before .before .before .before .before .before .before .before .before .args .s in
+    in-steps {m = (mem X0 T0 N0 J0 L0 H0 S0)} {m' = (mem X0 T0 N0 J0 L0 H0 S0)} (c .before .before .before .before .before .before .before .before .before .pre .1 .0) (s-look {a = (mem X0 T0 N0 J0 L0 H0 S0)} {e = (mem X0 T0 N0 J0 L0 H0 S0)} (rw (c .enum-told .given .1) at (c .before .before .peek .ensures)) s-end)
 
 step-name-star-requires : (t : ℕ) → step-lts.Need-name-star-requires (step-told t) (step-at t) step.Post
 step-name-star-requires t c κs =
@@ -3301,12 +3681,17 @@ step-same-length-2 t c =
 step-returns-2 : (t : ℕ) → step-lts.Need-returns-2 (step-told t) (step-at t) step.Post
 unfolding pat.patStep plan choose chosen
 step-returns-2 t c =
-    let pre0 = c .before .before .before .before .before .before .before .before .before .before .before .before .before .before .before .before .before .before .before .pre .1 .0 in
-    let peek = rw (c .before .before .before .before .before .before .before .before .before .before .k .given .1) at (c .before .before .before .before .before .before .before .before .before .before .before .before .peek .ensures) in
-    let name-star = c .before .before .before .before .before .before .before .before .name-star .ensures in
-    let if1 = c .before .before .before .before .before .before .before .if1 .taken in
-    let op-step = c .before .before .before .before .op-step .ensures in
-    in-steps pre0 (s-look peek (s-true _ _ (test-true name-star if1) (s-by _ op-step s-end)))
+    let X0 = c .before .before .before .before .before .before .before .before .before .before .before .before .before .before .before .before .before .before .before .args .text .now in
+    let T0 = c .before .before .before .before .before .before .before .before .before .before .before .before .before .before .before .before .before .before .before .args .toks .now in
+    let N0 = c .before .before .before .before .before .before .before .before .before .before .before .before .before .before .before .before .before .before .before .args .env .now in
+    let J0 = c .before .before .before .before .before .before .before .before .before .before .before .before .before .before .before .before .before .before .before .args .table .now in
+    let L0 = c .before .before .before .before .before .before .before .before .before .before .before .before .before .before .before .before .before .before .before .args .scratch .now in
+    let H0 = c .before .before .before .before .before .before .before .before .before .before .before .before .before .before .before .before .before .before .before .args .finds .now in
+    let S0 = c .before .before .before .before .before .before .before .before .before .before .before .before .before .before .before .before .before .before .before .args .s in
+    let L4 = c .before .before .before .before .op-step .last .1 .1 .1 .1 .0 in
+    let H4 = c .before .before .before .before .op-step .last .1 .1 .1 .1 .1 .0 in
+    let S4 = outState (c .before .before .before .before .op-step .result) in
+    in-steps {m = (mem X0 T0 N0 J0 L0 H0 S0)} {m' = (mem X0 T0 N0 J0 L4 H4 S4)} (c .before .before .before .before .before .before .before .before .before .before .before .before .before .before .before .before .before .before .before .pre .1 .0) (s-look {a = (mem X0 T0 N0 J0 L0 H0 S0)} {e = (mem X0 T0 N0 J0 L4 H4 S4)} (rw (c .before .before .before .before .before .before .before .before .before .before .k .given .1) at (c .before .before .before .before .before .before .before .before .before .before .before .before .peek .ensures)) (s-true {a = (mem X0 T0 N0 J0 L0 H0 S0)} {e = (mem X0 T0 N0 J0 L4 H4 S4)} _ _ (test-true (c .before .before .before .before .before .before .before .before .name-star .ensures) (c .before .before .before .before .before .before .before .if1 .taken)) (s-by {a = (mem X0 T0 N0 J0 L0 H0 S0)} {c = (mem X0 T0 N0 J0 L4 H4 S4)} {e = (mem X0 T0 N0 J0 L4 H4 S4)} _ (c .before .before .before .before .op-step .ensures) s-end)))
 
 step-or-step-requires : (t : ℕ) → step-lts.Need-or-step-requires (step-told t) (step-at t) step.Post
 step-or-step-requires t c κs =
@@ -3328,13 +3713,17 @@ step-same-length-4 t c =
 step-returns-3 : (t : ℕ) → step-lts.Need-returns-3 (step-told t) (step-at t) step.Post
 unfolding pat.patStep plan choose chosen
 step-returns-3 t c =
-    let pre0 = c .before .before .before .before .before .before .before .before .before .before .before .before .before .before .before .before .before .before .before .before .pre .1 .0 in
-    let peek = rw (c .before .before .before .before .before .before .before .before .before .before .before .k .given .1) at (c .before .before .before .before .before .before .before .before .before .before .before .before .before .peek .ensures) in
-    let name-star = c .before .before .before .before .before .before .before .before .before .name-star .ensures in
-    let if1 = c .before .before .before .before .before .before .before .before .if1 .left in
-    let if2 = c .before .before .before .before .before .before .before .if2 .taken in
-    let or-step = c .before .before .before .before .or-step .ensures in
-    in-steps pre0 (s-look peek (s-false _ _ (test-false name-star if1) (s-true _ _ (kind-is if2) (s-by _ or-step s-end))))
+    let X0 = c .before .before .before .before .before .before .before .before .before .before .before .before .before .before .before .before .before .before .before .before .args .text .now in
+    let T0 = c .before .before .before .before .before .before .before .before .before .before .before .before .before .before .before .before .before .before .before .before .args .toks .now in
+    let N0 = c .before .before .before .before .before .before .before .before .before .before .before .before .before .before .before .before .before .before .before .before .args .env .now in
+    let J0 = c .before .before .before .before .before .before .before .before .before .before .before .before .before .before .before .before .before .before .before .before .args .table .now in
+    let L0 = c .before .before .before .before .before .before .before .before .before .before .before .before .before .before .before .before .before .before .before .before .args .scratch .now in
+    let H0 = c .before .before .before .before .before .before .before .before .before .before .before .before .before .before .before .before .before .before .before .before .args .finds .now in
+    let S0 = c .before .before .before .before .before .before .before .before .before .before .before .before .before .before .before .before .before .before .before .before .args .s in
+    let L5 = c .before .before .before .before .or-step .last .1 .1 .1 .1 .0 in
+    let H5 = c .before .before .before .before .or-step .last .1 .1 .1 .1 .1 .0 in
+    let S5 = outState (c .before .before .before .before .or-step .result) in
+    in-steps {m = (mem X0 T0 N0 J0 L0 H0 S0)} {m' = (mem X0 T0 N0 J0 L5 H5 S5)} (c .before .before .before .before .before .before .before .before .before .before .before .before .before .before .before .before .before .before .before .before .pre .1 .0) (s-look {a = (mem X0 T0 N0 J0 L0 H0 S0)} {e = (mem X0 T0 N0 J0 L5 H5 S5)} (rw (c .before .before .before .before .before .before .before .before .before .before .before .k .given .1) at (c .before .before .before .before .before .before .before .before .before .before .before .before .before .peek .ensures)) (s-false {a = (mem X0 T0 N0 J0 L0 H0 S0)} {e = (mem X0 T0 N0 J0 L5 H5 S5)} _ _ (test-false (c .before .before .before .before .before .before .before .before .before .name-star .ensures) (c .before .before .before .before .before .before .before .before .if1 .left)) (s-true {a = (mem X0 T0 N0 J0 L0 H0 S0)} {e = (mem X0 T0 N0 J0 L5 H5 S5)} _ _ (kind-is (c .before .before .before .before .before .before .before .if2 .taken)) (s-by {a = (mem X0 T0 N0 J0 L0 H0 S0)} {c = (mem X0 T0 N0 J0 L5 H5 S5)} {e = (mem X0 T0 N0 J0 L5 H5 S5)} _ (c .before .before .before .before .or-step .ensures) s-end))))
 
 step-ascription-requires : (t : ℕ) → step-lts.Need-ascription-requires (step-told t) (step-at t) step.Post
 step-ascription-requires t c κs =
@@ -3357,15 +3746,17 @@ step-same-length-6 t c =
 step-returns-4 : (t : ℕ) → step-lts.Need-returns-4 (step-told t) (step-at t) step.Post
 unfolding pat.patStep plan choose chosen
 step-returns-4 t c =
-    let pre0 = c .before .before .before .before .before .before .before .before .before .before .before .before .before .before .before .before .before .before .before .before .before .before .pre .1 .0 in
-    let peek = rw (c .before .before .before .before .before .before .before .before .before .before .before .before .before .k .given .1) at (c .before .before .before .before .before .before .before .before .before .before .before .before .before .before .before .peek .ensures) in
-    let name-star = c .before .before .before .before .before .before .before .before .before .before .before .name-star .ensures in
-    let if1 = c .before .before .before .before .before .before .before .before .before .before .if1 .left in
-    let if2 = c .before .before .before .before .before .before .before .before .before .if2 .left in
-    let ascription = c .before .before .before .before .before .before .before .before .ascription .ensures in
-    let if3 = c .before .before .before .before .before .before .before .if3 .taken in
-    let typed-step = c .before .before .before .before .typed-step .ensures in
-    in-steps pre0 (s-look peek (s-false _ _ (test-false name-star if1) (s-false _ _ (kind-not if2) (s-true _ _ (test-true ascription if3) (s-by _ typed-step s-end)))))
+    let X0 = c .before .before .before .before .before .before .before .before .before .before .before .before .before .before .before .before .before .before .before .before .before .before .args .text .now in
+    let T0 = c .before .before .before .before .before .before .before .before .before .before .before .before .before .before .before .before .before .before .before .before .before .before .args .toks .now in
+    let N0 = c .before .before .before .before .before .before .before .before .before .before .before .before .before .before .before .before .before .before .before .before .before .before .args .env .now in
+    let J0 = c .before .before .before .before .before .before .before .before .before .before .before .before .before .before .before .before .before .before .before .before .before .before .args .table .now in
+    let L0 = c .before .before .before .before .before .before .before .before .before .before .before .before .before .before .before .before .before .before .before .before .before .before .args .scratch .now in
+    let H0 = c .before .before .before .before .before .before .before .before .before .before .before .before .before .before .before .before .before .before .before .before .before .before .args .finds .now in
+    let S0 = c .before .before .before .before .before .before .before .before .before .before .before .before .before .before .before .before .before .before .before .before .before .before .args .s in
+    let L7 = c .before .before .before .before .typed-step .last .1 .1 .1 .1 .0 in
+    let H7 = c .before .before .before .before .typed-step .last .1 .1 .1 .1 .1 .0 in
+    let S7 = outState (c .before .before .before .before .typed-step .result) in
+    in-steps {m = (mem X0 T0 N0 J0 L0 H0 S0)} {m' = (mem X0 T0 N0 J0 L7 H7 S7)} (c .before .before .before .before .before .before .before .before .before .before .before .before .before .before .before .before .before .before .before .before .before .before .pre .1 .0) (s-look {a = (mem X0 T0 N0 J0 L0 H0 S0)} {e = (mem X0 T0 N0 J0 L7 H7 S7)} (rw (c .before .before .before .before .before .before .before .before .before .before .before .before .before .k .given .1) at (c .before .before .before .before .before .before .before .before .before .before .before .before .before .before .before .peek .ensures)) (s-false {a = (mem X0 T0 N0 J0 L0 H0 S0)} {e = (mem X0 T0 N0 J0 L7 H7 S7)} _ _ (test-false (c .before .before .before .before .before .before .before .before .before .before .before .name-star .ensures) (c .before .before .before .before .before .before .before .before .before .before .if1 .left)) (s-false {a = (mem X0 T0 N0 J0 L0 H0 S0)} {e = (mem X0 T0 N0 J0 L7 H7 S7)} _ _ (kind-not (c .before .before .before .before .before .before .before .before .before .if2 .left)) (s-true {a = (mem X0 T0 N0 J0 L0 H0 S0)} {e = (mem X0 T0 N0 J0 L7 H7 S7)} _ _ (test-true (c .before .before .before .before .before .before .before .before .ascription .ensures) (c .before .before .before .before .before .before .before .if3 .taken)) (s-by {a = (mem X0 T0 N0 J0 L0 H0 S0)} {c = (mem X0 T0 N0 J0 L7 H7 S7)} {e = (mem X0 T0 N0 J0 L7 H7 S7)} _ (c .before .before .before .before .typed-step .ensures) s-end)))))
 
 step-as-step-requires : (t : ℕ) → step-lts.Need-as-step-requires (step-told t) (step-at t) step.Post
 step-as-step-requires t c κs =
@@ -3389,29 +3780,29 @@ step-same-length-8 t c =
 step-returns-5 : (t : ℕ) → step-lts.Need-returns-5 (step-told t) (step-at t) step.Post
 unfolding pat.patStep plan choose chosen
 step-returns-5 t c =
-    let pre0 = c .before .before .before .before .before .before .before .before .before .before .before .before .before .before .before .before .before .before .before .before .before .before .before .pre .1 .0 in
-    let peek = rw (c .before .before .before .before .before .before .before .before .before .before .before .before .before .before .k .given .1) at (c .before .before .before .before .before .before .before .before .before .before .before .before .before .before .before .before .peek .ensures) in
-    let name-star = c .before .before .before .before .before .before .before .before .before .before .before .before .name-star .ensures in
-    let if1 = c .before .before .before .before .before .before .before .before .before .before .before .if1 .left in
-    let if2 = c .before .before .before .before .before .before .before .before .before .before .if2 .left in
-    let ascription = c .before .before .before .before .before .before .before .before .before .ascription .ensures in
-    let if3 = c .before .before .before .before .before .before .before .before .if3 .left in
-    let if4 = c .before .before .before .before .before .before .before .if4 .taken in
-    let as-step = c .before .before .before .before .as-step .ensures in
-    in-steps pre0 (s-look peek (s-false _ _ (test-false name-star if1) (s-false _ _ (kind-not if2) (s-false _ _ (test-false ascription if3) (s-true _ _ (kind-is if4) (s-by _ as-step s-end))))))
+    let X0 = c .before .before .before .before .before .before .before .before .before .before .before .before .before .before .before .before .before .before .before .before .before .before .before .args .text .now in
+    let T0 = c .before .before .before .before .before .before .before .before .before .before .before .before .before .before .before .before .before .before .before .before .before .before .before .args .toks .now in
+    let N0 = c .before .before .before .before .before .before .before .before .before .before .before .before .before .before .before .before .before .before .before .before .before .before .before .args .env .now in
+    let J0 = c .before .before .before .before .before .before .before .before .before .before .before .before .before .before .before .before .before .before .before .before .before .before .before .args .table .now in
+    let L0 = c .before .before .before .before .before .before .before .before .before .before .before .before .before .before .before .before .before .before .before .before .before .before .before .args .scratch .now in
+    let H0 = c .before .before .before .before .before .before .before .before .before .before .before .before .before .before .before .before .before .before .before .before .before .before .before .args .finds .now in
+    let S0 = c .before .before .before .before .before .before .before .before .before .before .before .before .before .before .before .before .before .before .before .before .before .before .before .args .s in
+    let L8 = c .before .before .before .before .as-step .last .1 .1 .1 .1 .0 in
+    let H8 = c .before .before .before .before .as-step .last .1 .1 .1 .1 .1 .0 in
+    let S8 = outState (c .before .before .before .before .as-step .result) in
+    in-steps {m = (mem X0 T0 N0 J0 L0 H0 S0)} {m' = (mem X0 T0 N0 J0 L8 H8 S8)} (c .before .before .before .before .before .before .before .before .before .before .before .before .before .before .before .before .before .before .before .before .before .before .before .pre .1 .0) (s-look {a = (mem X0 T0 N0 J0 L0 H0 S0)} {e = (mem X0 T0 N0 J0 L8 H8 S8)} (rw (c .before .before .before .before .before .before .before .before .before .before .before .before .before .before .k .given .1) at (c .before .before .before .before .before .before .before .before .before .before .before .before .before .before .before .before .peek .ensures)) (s-false {a = (mem X0 T0 N0 J0 L0 H0 S0)} {e = (mem X0 T0 N0 J0 L8 H8 S8)} _ _ (test-false (c .before .before .before .before .before .before .before .before .before .before .before .before .name-star .ensures) (c .before .before .before .before .before .before .before .before .before .before .before .if1 .left)) (s-false {a = (mem X0 T0 N0 J0 L0 H0 S0)} {e = (mem X0 T0 N0 J0 L8 H8 S8)} _ _ (kind-not (c .before .before .before .before .before .before .before .before .before .before .if2 .left)) (s-false {a = (mem X0 T0 N0 J0 L0 H0 S0)} {e = (mem X0 T0 N0 J0 L8 H8 S8)} _ _ (test-false (c .before .before .before .before .before .before .before .before .before .ascription .ensures) (c .before .before .before .before .before .before .before .before .if3 .left)) (s-true {a = (mem X0 T0 N0 J0 L0 H0 S0)} {e = (mem X0 T0 N0 J0 L8 H8 S8)} _ _ (kind-is (c .before .before .before .before .before .before .before .if4 .taken)) (s-by {a = (mem X0 T0 N0 J0 L0 H0 S0)} {c = (mem X0 T0 N0 J0 L8 H8 S8)} {e = (mem X0 T0 N0 J0 L8 H8 S8)} _ (c .before .before .before .before .as-step .ensures) s-end))))))
 
 step-returns-6 : (t : ℕ) → step-lts.Need-returns-6 (step-told t) (step-at t) step.Post
 unfolding pat.patStep plan choose chosen
 step-returns-6 t c =
-    let pre0 = c .before .before .before .before .before .before .before .before .before .before .before .before .before .before .before .before .pre .1 .0 in
-    let peek = rw (c .before .before .before .before .before .before .before .k .given .1) at (c .before .before .before .before .before .before .before .before .before .peek .ensures) in
-    let name-star = c .before .before .before .before .before .name-star .ensures in
-    let if1 = c .before .before .before .before .if1 .left in
-    let if2 = c .before .before .before .if2 .left in
-    let ascription = c .before .before .ascription .ensures in
-    let if3 = c .before .if3 .left in
-    let if4 = c .if4 .left in
-    in-steps pre0 (s-look peek (s-false _ _ (test-false name-star if1) (s-false _ _ (kind-not if2) (s-false _ _ (test-false ascription if3) (s-false _ _ (kind-not if4) s-end)))))
+    let X0 = c .before .before .before .before .before .before .before .before .before .before .before .before .before .before .before .before .args .text .now in
+    let T0 = c .before .before .before .before .before .before .before .before .before .before .before .before .before .before .before .before .args .toks .now in
+    let N0 = c .before .before .before .before .before .before .before .before .before .before .before .before .before .before .before .before .args .env .now in
+    let J0 = c .before .before .before .before .before .before .before .before .before .before .before .before .before .before .before .before .args .table .now in
+    let L0 = c .before .before .before .before .before .before .before .before .before .before .before .before .before .before .before .before .args .scratch .now in
+    let H0 = c .before .before .before .before .before .before .before .before .before .before .before .before .before .before .before .before .args .finds .now in
+    let S0 = c .before .before .before .before .before .before .before .before .before .before .before .before .before .before .before .before .args .s in
+    in-steps {m = (mem X0 T0 N0 J0 L0 H0 S0)} {m' = (mem X0 T0 N0 J0 L0 H0 S0)} (c .before .before .before .before .before .before .before .before .before .before .before .before .before .before .before .before .pre .1 .0) (s-look {a = (mem X0 T0 N0 J0 L0 H0 S0)} {e = (mem X0 T0 N0 J0 L0 H0 S0)} (rw (c .before .before .before .before .before .before .before .k .given .1) at (c .before .before .before .before .before .before .before .before .before .peek .ensures)) (s-false {a = (mem X0 T0 N0 J0 L0 H0 S0)} {e = (mem X0 T0 N0 J0 L0 H0 S0)} _ _ (test-false (c .before .before .before .before .before .name-star .ensures) (c .before .before .before .before .if1 .left)) (s-false {a = (mem X0 T0 N0 J0 L0 H0 S0)} {e = (mem X0 T0 N0 J0 L0 H0 S0)} _ _ (kind-not (c .before .before .before .if2 .left)) (s-false {a = (mem X0 T0 N0 J0 L0 H0 S0)} {e = (mem X0 T0 N0 J0 L0 H0 S0)} _ _ (test-false (c .before .before .ascription .ensures) (c .before .if3 .left)) (s-false {a = (mem X0 T0 N0 J0 L0 H0 S0)} {e = (mem X0 T0 N0 J0 L0 H0 S0)} _ _ (kind-not (c .if4 .left)) s-end)))))
 
 abbrev tail-Inv-loop : tail-lts.InvT-loop
 tail-Inv-loop text toks env table scratch₀ finds₀ left min e b s1₀ scratch finds s1 =
@@ -3514,12 +3905,17 @@ vector-refuse-requires t c κs =
     tt
 
 vector-returns : (t : ℕ) → vector-lts.Need-returns (vector-told t) (vector-at t) vector.Post
-unfolding pat.vector util.endSep plan choose chosen
+unfolding pat.vector util.endSep plan choose chosen hushed
 vector-returns t c =
-    let pre0 = c .before .before .before .before .before .before .before .before .pre .1 in
-    let if1 = c .before .if1 .taken in
-    let refuse = c .refuse .ensures in
-    by-steps pre0 (λ b. s-deep if1 refuse s-end)
+    let X0 = c .before .before .before .before .before .before .before .before .args .text .now in
+    let T0 = c .before .before .before .before .before .before .before .before .args .toks .now in
+    let N0 = c .before .before .before .before .before .before .before .before .args .env .now in
+    let J0 = c .before .before .before .before .before .before .before .before .args .table .now in
+    let L0 = c .before .before .before .before .before .before .before .before .args .scratch .now in
+    let H0 = c .before .before .before .before .before .before .before .before .args .finds .now in
+    let S0 = c .before .before .before .before .before .before .before .before .args .s in
+    let S2 = c .refuse .result in
+    by-steps {m = (mem X0 T0 N0 J0 L0 H0 S0)} {m' = (mem X0 T0 N0 J0 L0 H0 S2)} (c .before .before .before .before .before .before .before .before .pre .1) (λ b. s-shut (c .before .if1 .taken) (c .refuse .ensures) (λ k l. refl))
 
 vector-mark-requires : (t : ℕ) → vector-lts.Need-mark-requires (vector-told t) (vector-at t) vector.Post
 vector-mark-requires t c κs =
@@ -3578,14 +3974,23 @@ vector-same-length-2 t c =
 vector-returns-2 : (t : ℕ) → vector-lts.Need-returns-2 (vector-told t) (vector-at t) vector.Post
 unfolding pat.vector util.endSep plan choose chosen
 vector-returns-2 t c =
-    let pre0 = c .before .before .before .before .before .before .before .before .before .before .before .before .before .before .before .before .before .before .before .before .before .before .before .before .before .before .before .pre .1 in
-    let if1 = c .before .before .before .before .before .before .before .before .before .before .before .before .before .before .before .before .before .before .before .before .if1 .left in
-    let mark = c .before .before .before .before .before .before .before .before .before .before .before .before .before .before .before .before .before .before .before .mark .ensures in
-    let eat = c .before .before .before .before .before .before .before .before .before .before .before .before .before .before .before .before .eat .ensures in
-    let state = c .before .before .before .before .before .before .before .before .before .before .before .state .ensures in
-    let args2 = c .before .before .before .before .before .before .before .before .args2 .ensures in
-    let close = c .before .before .close .ensures in
-    by-steps pre0 (λ b. s-mark if1 mark (s-eats _ _ _ (eats-settled state eat) (s-run args2 (s-close close s-end))))
+    let X0 = c .before .before .before .before .before .before .before .before .before .before .before .before .before .before .before .before .before .before .before .before .before .before .before .before .before .before .before .args .text .now in
+    let T0 = c .before .before .before .before .before .before .before .before .before .before .before .before .before .before .before .before .before .before .before .before .before .before .before .before .before .before .before .args .toks .now in
+    let N0 = c .before .before .before .before .before .before .before .before .before .before .before .before .before .before .before .before .before .before .before .before .before .before .before .before .before .before .before .args .env .now in
+    let J0 = c .before .before .before .before .before .before .before .before .before .before .before .before .before .before .before .before .before .before .before .before .before .before .before .before .before .before .before .args .table .now in
+    let L0 = c .before .before .before .before .before .before .before .before .before .before .before .before .before .before .before .before .before .before .before .before .before .before .before .before .before .before .before .args .scratch .now in
+    let H0 = c .before .before .before .before .before .before .before .before .before .before .before .before .before .before .before .before .before .before .before .before .before .before .before .before .before .before .before .args .finds .now in
+    let S0 = c .before .before .before .before .before .before .before .before .before .before .before .before .before .before .before .before .before .before .before .before .before .before .before .before .before .before .before .args .s in
+    let S2 = c .before .before .before .before .before .before .before .before .before .before .before .before .before .before .before .before .before .before .before .mark .result in
+    let L3 = c .before .before .before .before .before .before .before .before .before .before .before .before .before .before .before .before .eat .last .1 .0 in
+    let H3 = c .before .before .before .before .before .before .before .before .before .before .before .before .before .before .before .before .eat .last .1 .1 .0 in
+    let S4 = c .before .before .before .before .before .before .before .before .before .before .before .state .result in
+    let L5 = c .before .before .before .before .before .before .before .before .args2 .last .1 .1 .1 .1 .0 in
+    let H5 = c .before .before .before .before .before .before .before .before .args2 .last .1 .1 .1 .1 .1 .0 in
+    let S5 = c .before .before .before .before .before .before .before .before .args2 .result in
+    let L6 = c .before .before .close .last .0 in
+    let S6 = c .before .before .close .result in
+    by-steps {m = (mem X0 T0 N0 J0 L0 H0 S0)} {m' = (mem X0 T0 N0 J0 L6 H5 S6)} (c .before .before .before .before .before .before .before .before .before .before .before .before .before .before .before .before .before .before .before .before .before .before .before .before .before .before .before .pre .1) (λ b. s-mark {e = (mem X0 T0 N0 J0 L6 H5 S6)} {x = X0} {t = T0} {n = N0} {j = J0} {l = L0} {h = H0} {s = S0} {s' = S2} (c .before .before .before .before .before .before .before .before .before .before .before .before .before .before .before .before .before .before .before .before .if1 .left) (c .before .before .before .before .before .before .before .before .before .before .before .before .before .before .before .before .before .before .before .mark .ensures) (s-eats _ _ {x = X0} {t = T0} {n = N0} {j = J0} {l = L0} {h = H0} {l' = L3} {s = S2} {s' = S4} {e = (mem X0 T0 N0 J0 L6 H5 S6)} _ {h' = H3} (eats-settled (c .before .before .before .before .before .before .before .before .before .before .before .state .ensures) (c .before .before .before .before .before .before .before .before .before .before .before .before .before .before .before .before .eat .ensures)) (s-run {a = (mem X0 T0 N0 J0 L3 H3 S4)} {c = (mem X0 T0 N0 J0 L5 H5 S5)} {e = (mem X0 T0 N0 J0 L6 H5 S6)} (c .before .before .before .before .before .before .before .before .args2 .ensures) (s-close {e = (mem X0 T0 N0 J0 L6 H5 S6)} {x = X0} {t = T0} {n = N0} {j = J0} {l = L5} {h = H5} {s = S5} {s' = S6} {l' = L6} (c .before .before .close .ensures) s-end))))
 
 pub +arg-item+arg-turn+args+as-pat-tl+as-step+at-head+at-must+at-pat+at-round+atom+con+con-head+con-turn+inf-pat+op-step+op-tail+or-step+pat-arg+pat-must+pat-prec+rest+row+row-item+row-turn+rows+step+tail+vector-spec :
     {M : Type 1} → statement M
