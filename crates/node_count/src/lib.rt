@@ -1,10 +1,8 @@
 // How many node records the log of a reading comes to.
+use parser::TOOK;
 ghost use Prim.Native.Nat.{_*_, _≤_};
 ghost use lib.ListN.{length};
 ghost use Rattle.node_count.specs.Log.{Counted};
-
-// The tag of the log's record of a token; any other is that of a node that ended.
-pub const TOOK: u8 = 1;
 
 // A token comes to one, a node that ended to two.
 pub fn node_count(scratch: &[u8], len: usize) -> usize

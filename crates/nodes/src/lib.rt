@@ -1,6 +1,6 @@
 // The nodes, written from the log of a reading.
 use clearing::clear;
-use node_count::TOOK;
+use parser::TOOK;
 use sml_fixity::table::pair;
 ghost use mathlib.Core.Path.{_≡_};
 ghost use Prim.Native.Nat.{_+_, _*_, _≤_, _<_};

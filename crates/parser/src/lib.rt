@@ -25,7 +25,7 @@ pub const IMPOSSIBLE: usize = 10;
 pub const NO_NAME: usize = 65535;
 
 // The tags of the log's records: a token that was read, a node that ended.
-const TOOK: u8 = 1;
+pub const TOOK: u8 = 1;
 
 const ENDED: u8 = 2;
 
