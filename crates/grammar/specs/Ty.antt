@@ -4,7 +4,7 @@ use Rattle.grammar.specs.Prog.{Prog, ◌>>=◌, ◌>>◌, peek, bump}
 use Rattle.grammar.specs.Prog.Prog.{ret, branch, from, close, marked, loop, call}
 use Rattle.grammar.specs.Rule.{Rule, Arrow, Star, App}
 use Rattle.grammar.specs.Rule.Rule.{ty_prec}
-use Rattle.grammar.specs.Util.{is, if_kind, if_none, done, expected, eat, comma_sep, is_ascription, bump_ascription, path_must, lab}
+use Rattle.grammar.specs.Util.{if_kind, if_none, done, expected, eat, comma_sep, is_ascription, bump_ascription, path_must, lab}
 use Rattle.grammar.specs.SyntaxKind as SK
 use Rattle.grammar.specs.ErrorKind as EK
 

@@ -1,4 +1,4 @@
--- One lawful grouping of a line: what a line, an operator, a lawful tree and a tie are, and the three claims about `read`. They are proved in Proofs.
+-- One lawful grouping of a line: what a line, an operator, a lawful tree and a tie are, and the three claims about `read`. They are proved in proofs/Proofs.antt.
 use Rattle.std.specs.Prelude.{ℕ, zero, suc, ◌<◌, ◌≤◌, ◌≡◌, List, [], ◌∷◌, ◌++◌, map, true, false, ◌⊎◌, eqb, length}
 use Rattle.std.proofs.Math.Option.{none, some}
 use Rattle.grammar.specs.Tokens.{Token, record_count, live}

@@ -1,4 +1,4 @@
--- The same for patterns: what a pattern's line is, the nodes that a lawful tree has there, and the claims about `read` of `val LINE = ATOM`. They are proved in PatProofs.
+-- The same for patterns: what a pattern's line is, the nodes that a lawful tree has there, and the claims about `read` of `val LINE = ATOM`. They are proved in proofs/PatProofs.antt.
 use Rattle.std.specs.Prelude.{ℕ, ◌≡◌, List, [], ◌∷◌, ◌++◌, true, false, eqb}
 use Rattle.std.proofs.Math.Option.{none, some}
 use Rattle.grammar.specs.Tokens.{Token}

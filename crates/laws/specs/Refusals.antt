@@ -1,5 +1,5 @@
 -- That no reading is refused by the number 0, the answer of a call that was read.
-use Rattle.std.specs.Prelude.{ℕ, zero, suc, ◌≡◌, refl, List, [], ◌∷◌, Bool, true, false, ◌&&◌, ltb, length}
+use Rattle.std.specs.Prelude.{ℕ, ◌≡◌, List, [], ◌∷◌, Bool, false, ◌&&◌, ltb, length}
 use Rattle.std.proofs.Math.Option.{Option}
 use Rattle.std.proofs.Common.{arith}
 use Rattle.grammar.specs.Tokens.{Token}

@@ -1,1 +1,2 @@
-// Laws of the grammar's programs, proved: see specs/.
+// Laws of the grammar's programs, proved: see specs/ and proofs/.
+#![tactic(auto)]

@@ -8,22 +8,27 @@ use Rattle.grammar.specs.SyntaxKind as SK
 use Rattle.lawful.specs.Terms.{Step, Tree, climb}
 use Rattle.lawful.specs.Terms as Terms
 use Rattle.lawful.specs.Terms.Min.{min}
-use Rattle.lawful.specs.Climb.{Loop, runs, true_false}
+use Rattle.lawful.specs.Climb.{Loop, true_false}
+use Rattle.lawful.proofs.Climb.{runs}
 use Rattle.lawful.specs.Climb.Loop.{stop, turn}
-use Rattle.lawful.specs.Laws.{climb_all, tie_report, report_tie}
-use Rattle.lawful.specs.Apply.{term, climb_term}
+use Rattle.lawful.proofs.Laws.{climb_all, tie_report, report_tie}
+use Rattle.lawful.specs.Apply.{term}
+use Rattle.lawful.proofs.Apply.{climb_term}
 use Rattle.lawful.specs.Apply as Apply
 use Rattle.grouping.specs.Grouping.{Atom, Operator, Term, tokens, Lawful, tokens_in, Tied, hands_out}
 use Rattle.grouping.specs.Grouping.Lawful.{lawful_atom, lawful_apply, lawful_oper}
-use Rattle.grouping.specs.Patterns.{PatOperand, PatLine, IsName, Pattern, val_nodes, file_nodes, Is, Grouped, WithTie, WithoutTie, ReadBack}
+use Rattle.grouping.specs.Patterns.{PatOperand, PatLine, IsName, Pattern, val_nodes, file_nodes, Is, Given, Grouped, WithTie, WithoutTie, ReadBack}
 use Rattle.grouping.specs.Patterns.Is.{is}
 use Rattle.grouping.specs.Climbs.{bare, step_tokens, Atoms, Stand}
 use Rattle.grouping.specs.Files.{line_tokens}
-use Rattle.grouping.specs.Readings.{Handed, file_read, handed_tied, handed_quiet}
-use Rattle.grouping.specs.Meanings.{Fair, env_fair, op_of, signs, Formed, line_operators, tie_there, tie_here}
-use Rattle.grouping.specs.Proofs.{no_tree, climbed, climbed_lawful, climbed_line, climbed_only}
-use Rattle.grouping.specs.PatRuns.{PatFit, PatStand, pat_left}
-use Rattle.grouping.specs.PatFiles.{pat_reads, one_val}
+use Rattle.grouping.specs.Readings.{Handed}
+use Rattle.grouping.proofs.Readings.{file_read, handed_tied, handed_quiet}
+use Rattle.grouping.specs.Meanings.{Fair, env_fair, op_of, Formed}
+use Rattle.grouping.proofs.Meanings.{signs, line_operators, tie_there, tie_here}
+use Rattle.grouping.proofs.Proofs.{no_tree, climbed, climbed_lawful, climbed_line, climbed_only}
+use Rattle.grouping.specs.PatRuns.{PatFit, PatStand}
+use Rattle.grouping.proofs.PatRuns.{pat_left}
+use Rattle.grouping.proofs.PatFiles.{pat_reads, one_val}
 
 -- A pattern's line, as crate lawful has it.
 record PatFormed (E : List Entry) (ts : List Token) : Type 0 where
@@ -102,27 +107,27 @@ climbs : {E : List Entry} {ts : List Token} (f : PatFormed E ts) → Loop min (T
 climbs f = rw (climb_all f.line) at (runs (suc (length f.line.rest)) min (Tree.leaf f.line.first) f.line.rest (omega arith))
 
 -- what `read` hands out for it is the climb's
-pat_read : (c : Call) (E : List Entry) (v : Token) (ts : List Token) (e x : Token) → (f : PatFormed E ts)
+pat_read : (c : Call) (E : List Entry) (v : Token) (ts : List Token) (e x : Token) → Given c E v ts e x → (f : PatFormed E ts)
     → Handed c E SK.ValDec (val_nodes v (bare (term (climb f.line).tree)) e x) (climb f.line).tie
-pat_read c E v ts e x f = go 𝓛.val 𝓛.eq (𝓛.all ∙ ap (λ (us : List Token). v ∷ (us ++ (e ∷ x ∷ []))) (sym f.same))
+pat_read c E v ts e x g f = go g.val g.eq (g.all ∙ ap (λ (us : List Token). v ∷ (us ++ (e ∷ x ∷ []))) (sym f.same))
   where
     go : {v e : Token} → Is SK.ValKw v → Is SK.Eq e → tokens_in c ≡ v ∷ (line_tokens f.line ++ (e ∷ x ∷ []))
         → Handed c E SK.ValDec (val_nodes v (bare (term (climb f.line).tree)) e x) (climb f.line).tie
     go (is {i} {x = z}) (is {i = j} {x = y}) q =
         let C = record_count c.toks in
         let T = bare (term (climb f.line).tree) in
-        file_read c E 𝓛.env 𝓛.answer _ _ q SK.ValDec _ (climb f.line).tie
-        (one_val E C (f.line.first.args ++ step_tokens f.line.rest) T (climb f.line).tie j y (fit_fun f.fit) 𝓛.right
+        file_read c E g.env g.answer _ _ q SK.ValDec _ (climb f.line).tie
+        (one_val E C (f.line.first.args ++ step_tokens f.line.rest) T (climb f.line).tie j y (fit_fun f.fit) g.right
         (pat_reads E C j y (x ∷ []) f.line f.fit f.rest (climb f.line).tree (climb f.line).tie (climbs f)) i z)
 
 -- a line whose climb reports
-told : (c : Call) (E : List Entry) (v : Token) (ts : List Token) (e x : Token) → (f : PatFormed E ts) → (climb f.line).tie ≡ true → Tied c E ts
-told c E v ts e x f k = handed_tied c E _ _ _ ts (pat_read c E v ts e x f) k (no_tree E (env_fair c.env E 𝓛.env) (form f) (report_tie f.line k))
+told : (c : Call) (E : List Entry) (v : Token) (ts : List Token) (e x : Token) → Given c E v ts e x → (f : PatFormed E ts) → (climb f.line).tie ≡ true → Tied c E ts
+told c E v ts e x g f k = handed_tied c E _ _ _ ts (pat_read c E v ts e x g f) k (no_tree E (env_fair c.env E g.env) (form f) (report_tie f.line k))
 
 -- and one whose climb does not
-quiet : (c : Call) (E : List Entry) (v : Token) (ts : List Token) (e x : Token) → (f : PatFormed E ts) → (climb f.line).tie ≡ false → Grouped c E v ts e x
-quiet c E v ts e x f k =
-    let fair = env_fair c.env E 𝓛.env in
+quiet : (c : Call) (E : List Entry) (v : Token) (ts : List Token) (e x : Token) → Given c E v ts e x → (f : PatFormed E ts) → (climb f.line).tie ≡ false → Grouped c E v ts e x
+quiet c E v ts e x g f k =
+    let fair = env_fair c.env E g.env in
     let m = climb_term f.line (λ t. true_false (sym (tie_report f.line t) ∙ k)) in
     record {
       tree = climbed E fair (form f);
@@ -130,14 +135,14 @@ quiet c E v ts e x f k =
       pattern = fits_pattern E (climb f.line).tree (loop_fits E (climbs f) f.fit f.rest);
       line = climbed_line E fair (form f) m;
       only = climbed_only E fair (form f) m;
-      reads = handed_quiet c E _ _ _ (pat_read c E v ts e x f) k;
+      reads = handed_quiet c E _ _ _ (pat_read c E v ts e x g f) k;
     }
 
 -- Claim 1.
 pub with_tie : WithTie
 with_tie c E v ts e x g t =
     let f = pat_formed (env_fair c.env E g.env) g.line in
-    told c E v ts e x f (tie_report f.line (tie_there f.line.rest (rw (line_operators E (form f)) at t)))
+    told c E v ts e x g f (tie_report f.line (tie_there f.line.rest (rw (line_operators E (form f)) at t)))
 
 -- Claim 2.
 pub without : WithoutTie
@@ -145,7 +150,7 @@ without c E v ts e x g n = let f = pat_formed (env_fair c.env E g.env) g.line in
   where
     go : (f : PatFormed E ts) (b : Bool) → (climb f.line).tie ≡ b → Grouped c E v ts e x
     go f true k = absurd (n (rw (line_operators E (form f)) (tie_here f.line.rest (report_tie f.line k))))
-    go f false k = quiet c E v ts e x f k
+    go f false k = quiet c E v ts e x g f k
 
 -- two lines around an operator are a line
 line_join : {E : List Entry} {t : Token} {o : Infix} {ts us : List Token} → PatLine E ts → Operator E t o → (t.kind ≡ SK.Eq → ⊥) → PatLine E us → PatLine E (ts ++ (t ∷ us))
@@ -170,7 +175,8 @@ pattern_line (lawful_oper k cl cr hl hr) p = line_join (pattern_line hl p.1) k p
 -- Claim 3.
 pub read_back : ReadBack
 read_back c E d a v e x iv ie ax t h p q =
-    go (without c E v (tokens t) e x (record { env = d; val = iv; line = pattern_line h p; eq = ie; right = ax; all = q; answer = a }) (λ k. (with_tie c E v (tokens t) e x (record { env = d; val = iv; line = pattern_line h p; eq = ie; right = ax; all = q; answer = a }) k).none t h refl))
+    let g : Given c E v (tokens t) e x = record { env = d; val = iv; line = pattern_line h p; eq = ie; right = ax; all = q; answer = a } in
+    go (without c E v (tokens t) e x g (λ k. (with_tie c E v (tokens t) e x g k).none t h refl))
   where
     go : Grouped c E v (tokens t) e x → read c ≡ hands_out c E (file_nodes v t e x)
     go k = k.reads ∙ ap (λ (t : Term). hands_out c E (file_nodes v t e x)) (sym (k.only t h refl))

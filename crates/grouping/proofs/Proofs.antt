@@ -9,14 +9,18 @@ use Rattle.grammar.specs.SyntaxKind as SK
 use Rattle.lawful.specs.Terms.{climb}
 use Rattle.lawful.specs.Terms as Terms
 use Rattle.lawful.specs.Terms.Min.{min}
-use Rattle.lawful.specs.Climb.{runs, true_false}
-use Rattle.lawful.specs.Laws.{climb_all, tie_report, report_tie}
-use Rattle.lawful.specs.Apply.{toks, Means, term, flat, tie_no_term, climb_term, unique_term}
-use Rattle.grouping.specs.Grouping.{Atom, Operator, Operand, Line, Term, tokens, Tight, Lawful, Tie, file_nodes, tokens_in, Given, Tied, Grouped, hands_out, WithTie, WithoutTie, EachLine, ReadBack, Apart}
+use Rattle.lawful.specs.Climb.{true_false}
+use Rattle.lawful.proofs.Climb.{runs}
+use Rattle.lawful.proofs.Laws.{climb_all, tie_report, report_tie}
+use Rattle.lawful.specs.Apply.{toks, Means, term, flat}
+use Rattle.lawful.proofs.Apply.{tie_no_term, climb_term, unique_term}
+use Rattle.grouping.specs.Grouping.{Atom, Operator, Operand, Line, Term, tokens, Tight, Lawful, file_nodes, tokens_in, Given, Tied, Grouped, hands_out, WithTie, WithoutTie, EachLine, ReadBack, Apart}
 use Rattle.grouping.specs.Grouping.Lawful.{lawful_atom, lawful_apply, lawful_oper}
 use Rattle.grouping.specs.Climbs.{bare, tree}
-use Rattle.grouping.specs.Readings.{Handed, line_read, handed_tied, handed_quiet}
-use Rattle.grouping.specs.Meanings.{Fair, env_fair, words, same_words, tokens_bare, lawful_here, There, there, Formed, formed, flat_words, flat_all, line_operators, tie_there, tie_here}
+use Rattle.grouping.specs.Readings.{Handed}
+use Rattle.grouping.proofs.Readings.{line_read, handed_tied, handed_quiet}
+use Rattle.grouping.specs.Meanings.{Fair, env_fair, words, tokens_bare, Formed, flat_words}
+use Rattle.grouping.proofs.Meanings.{same_words, lawful_here, There, there, formed, flat_all, line_operators, tie_there, tie_here}
 
 module _ (E : List Entry) {ts : List Token} (fair : Fair E) (f : Formed E ts) where
   -- a lawful tree of the line is, there, a term of it

@@ -13,9 +13,9 @@ use Rattle.grammar.specs.SyntaxKind as SK
 use Rattle.grouping.specs.Grouping.{Atom, Sign, Operator, Operand, Line, Term, tokens, Below, Lawful, operators, file_nodes, tokens_in, Given, Tied, hands_out}
 use Rattle.grouping.specs.Grouping.Lawful.{lawful_atom, lawful_apply, lawful_oper}
 use Rattle.grouping.specs.Grouping.Term.{atom, apply, oper}
-use Rattle.grouping.specs.Proofs.{with_tie, read_back}
+use Rattle.grouping.proofs.Proofs.{with_tie, read_back}
 use Rattle.grouping.specs.Patterns
-use Rattle.grouping.specs.PatProofs
+use Rattle.grouping.proofs.PatProofs
 
 -- a call in plain mode, with room enough
 unfoldable call_of : List Entry → List Word → Call

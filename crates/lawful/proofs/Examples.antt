@@ -4,7 +4,7 @@ use Rattle.grammar.specs.Tokens.{Token}
 use Rattle.lawful.specs.Terms.{Op, Step, Tree, Out, loop, climb, Tie}
 use Rattle.lawful.specs.Terms.Assoc.{left, right}
 use Rattle.lawful.specs.Terms.Tree.{leaf, node}
-use Rattle.lawful.specs.Laws.{report_tie}
+use Rattle.lawful.proofs.Laws.{report_tie}
 
 -- The climb does not look at the token.
 abbrev sign : Token

@@ -1,0 +1,9 @@
+pub mod Climbs
+pub mod Files
+pub mod Readings
+pub mod Meanings
+pub mod Proofs
+pub mod PatRuns
+pub mod PatFiles
+pub mod PatProofs
+pub mod Examples
