@@ -1,4 +1,6 @@
 // Whether an infix name ends a climb: util.rs, `should_break`.
+#![tactic(auto)]
+
 ghost use Rattle.std.specs.Prelude.{◌≡◌, Bool, not, eqb};
 ghost use Rattle.grammar.specs.Util as util;
 ghost use Rattle.sml_fixity.specs.Fix.{assoc_of, infix_of};

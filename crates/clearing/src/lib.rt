@@ -1,4 +1,6 @@
 // The clearing of a lent buffer.
+#![tactic(auto)]
+
 ghost use Rattle.std.specs.Prelude.{◌≡◌, ◌++◌, length, take, drop};
 ghost use Rattle.grammar.specs.Read.{zeroes};
 

@@ -5,7 +5,7 @@ ghost use Rattle.grammar.specs.Env.{entry_fits, env_of};
 ghost use Rattle.env_bytes.specs.Form.{count_of, form_of};
 
 // What the test answers: the number of entries, if bytes have the form.
-#[derive(Drop)]
+#[derive(Clone, Copy)]
 pub enum Form {
     Bad,
     Good(usize),

@@ -12,7 +12,7 @@ use sml_fixity::table::Table;
 use sml_fixity::{Fixity, table};
 
 // How many bytes were written, or that they do not fit.
-#[derive(Drop)]
+#[derive(Clone, Copy)]
 pub enum Copied {
     Fits(usize),
     TooLong,

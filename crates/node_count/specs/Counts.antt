@@ -31,8 +31,8 @@ insert_length b x (y ∷ ys) =
 place_length : (out : List Placed) (i : ℕ) (l : List Rec) → length (place out i l) ≡ length out + weight l
 unfolding place weight
 place_length out i [] = omega arith
-place_length out i (took k x ∷ l) = place_length _ (suc i) l ∙ simp length-append (omega arith)
-place_length out i (ended k b ∷ l) = place_length _ (suc i) l ∙ simp (length-append, insert_length) (omega arith)
+place_length out i (took k x ∷ l) = place_length (out ++ (record { at = i; node = token k x } ∷ [])) (suc i) l ∙ simp length-append (omega arith)
+place_length out i (ended k b ∷ l) = place_length (insert b (opens k) out ++ (record { at = i; node = closes k } ∷ [])) (suc i) l ∙ simp (length-append, insert_length) (omega arith)
 
 nodes_length : (log : List Rec) → length (nodes_of log) ≡ weight log
 unfolding nodes_of

@@ -1,4 +1,6 @@
 // How many node records the log of a reading comes to.
+#![tactic(auto)]
+
 ghost use Rattle.std.specs.Prelude.{◌*◌, ◌≤◌, length};
 ghost use Rattle.node_count.specs.Log.{Counted};
 

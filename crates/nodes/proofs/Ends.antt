@@ -8,7 +8,8 @@ use lib.Seq.{drop_at}
 use Rattle.grammar.specs.World.{Rec}
 use Rattle.grammar.specs.Nodes.{Node, nodes_of, nodes_bytes}
 use Rattle.grammar.specs.Read.{zeroes, pad}
-use Rattle.laws.specs.Flat.{flat, nodes_posts}
+use Rattle.laws.specs.Flat.{flat}
+use Rattle.laws.proofs.Flat.{nodes_posts}
 use Rattle.node_count.specs.Log.{node_size, nodes_in}
 use Rattle.nodes.specs.Grown.{Ready}
 use Rattle.nodes.specs.Walk.{before, ahead, Walks}

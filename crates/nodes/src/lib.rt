@@ -1,4 +1,6 @@
 // The nodes, written from the log of a reading.
+#![tactic(auto)]
+
 ghost use Rattle.std.specs.Prelude.{◌≡◌, ◌+◌, ◌*◌, ◌≤◌, ◌<◌, [], ◌∷◌, length};
 ghost use Rattle.grammar.specs.Bytes.{low, high};
 ghost use Rattle.grammar.specs.Read.{pad};
@@ -18,7 +20,7 @@ const TOKEN: u8 = 2;
 const CLOSES: u8 = 3;
 
 // Where the walk over the log stands: the node records to be written, the log's records to be read, and the top of the stack.
-#[derive(Drop)]
+#[derive(Clone, Copy)]
 struct Walk {
     at: usize,
     left: usize,

@@ -9,7 +9,7 @@ use borrow.Author.Tests.{ne_eqb}
 use lib.Dec.{lit<}
 use lib.ListN.{length, get_or, set, length-set}
 use lib.Seq.{sets, length-sets, get_or-set_same, get_or-set_other}
-use Rattle.grammar.specs.Tokens.{Token, live, kind_at, text_at}
+use Rattle.grammar.specs.Tokens.{live, kind_at}
 use Rattle.grammar.specs.SyntaxKind as SK
 use Rattle.parser.specs.View.{chunks, chunk_size, bytes_of, put_at}
 use Rattle.parser.specs.View.{token_at}

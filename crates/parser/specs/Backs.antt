@@ -1,5 +1,5 @@
 -- The laws of `attempt` and `scoped`: an old state over buffers that were written since still means the old reading, since what stood there stays.
-use Rattle.std.specs.Prelude.{ℕ, zero, suc, ◌+◌, ◌≤◌, ◌≡◌, List, ◌++◌, Bool, true, false, eqb, length, take}
+use Rattle.std.specs.Prelude.{ℕ, zero, suc, ◌≤◌, ◌≡◌, List, ◌++◌, Bool, true, false, eqb, length, take}
 use Rattle.std.proofs.Common.{le_refl, ◌∙◌, sym, eqb-true, length-append, take_all, take_at}
 use native.Mathlib.Omega.{arith}
 use Rattle.std.proofs.Math.Path.{refl, ap}

@@ -1,5 +1,5 @@
 -- Tests of kinds, where a look gives one more than the kind that the code has, and of fixities.
-use Rattle.std.specs.Prelude.{ℕ, suc, ◌+◌, ◌≡◌, refl, Bool, true, false, ◌&&◌, ◌||◌, eqb, leb, ltb}
+use Rattle.std.specs.Prelude.{ℕ, suc, ◌+◌, ◌≡◌, Bool, true, false, ◌&&◌, ◌||◌, eqb, leb, ltb}
 use Rattle.std.proofs.Common.{ap, ◌∙◌, sym, add-one, arith, eq-eqb, ne_eqb}
 use Rattle.std.proofs.Math.Dec.{eqb-suc-suc}
 use Rattle.grammar.specs.Env as Env

@@ -1,5 +1,5 @@
 -- What a program comes to, operation by operation: the calls of a function make it up, one step for each.
-use Rattle.std.specs.Prelude.{ℕ, ◌-◌, ◌≡◌, List, Bool, not, eqb, length}
+use Rattle.std.specs.Prelude.{ℕ, ◌-◌, ◌≡◌, List, Bool, eqb, length}
 use Rattle.std.proofs.Math.Path.{refl, ap}
 use Rattle.std.proofs.Common.{◌∙◌, sym, arith, eq-eqb, ne_eqb}
 use Rattle.std.proofs.Math.Option.{Option, none, some}

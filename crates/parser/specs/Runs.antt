@@ -1,11 +1,10 @@
 -- A call that did what a program does: the contracts of the rules' functions, what calls require, and loops.
 use Rattle.std.specs.Prelude.{ℕ, zero, suc, ◌+◌, ◌≤◌, ◌<◌, ◌≡◌, refl, List, Bool, true, false, eqb, length}
 use Rattle.std.proofs.Common.{ap, ◌∙◌, sym, arith, rules, eq-eqb, ne_eqb, length-append}
-use Rattle.grammar.specs.World.{World, Out, out, ahead, refuse, mark, length_of}
+use Rattle.grammar.specs.World.{World, Out, out, ahead, refuse, length_of}
 use Rattle.grammar.specs.World.World.{refused}
-use Rattle.grammar.specs.Prog.{Prog, seen, does, eval, rule}
-use Rattle.grammar.specs.Prog.Look.{kind}
-use Rattle.grammar.specs.Prog.Prog.{loop, call}
+use Rattle.grammar.specs.Prog.{Prog, eval, rule}
+use Rattle.grammar.specs.Prog.Prog.{loop}
 use Rattle.grammar.specs.Rule.{Rule}
 use Rattle.grammar.specs.Root.{body}
 use Rattle.laws.specs.Choice.{if_both}

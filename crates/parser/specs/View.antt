@@ -1,6 +1,5 @@
 -- What the code's numbers and buffers mean: the reading that they hold.
-use Rattle.std.specs.Prelude.{ℕ, zero, suc, ◌+◌, ◌-◌, ◌*◌, ◌/◌, ◌%◌, ◌≤◌, ◌<◌, ◌≡◌, List, [], ◌∷◌, ◌++◌, Bool, true, false, eqb, ltb, length, get_or}
-use Rattle.std.proofs.Math.Option.{Option}
+use Rattle.std.specs.Prelude.{ℕ, zero, suc, ◌+◌, ◌-◌, ◌*◌, ◌/◌, ◌%◌, ◌≤◌, ◌<◌, ◌≡◌, List, [], ◌∷◌, ◌++◌, Bool, true, false, eqb, length, get_or}
 use Rattle.std.proofs.lemmas.List.Edits.{sets}
 use Rattle.grammar.specs.Tokens.{Token, live, kind_at, text_at, end_at, record_size, max_records}
 use Rattle.grammar.specs.World.{World, Now, Rec, Find, ahead, fixity_ahead, mark, take1}

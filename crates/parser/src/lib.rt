@@ -1,4 +1,6 @@
 // The parser's state and its operations: event_parse by document 01's rules.
+#![tactic(auto)]
+
 ghost use Rattle.std.specs.Prelude.{◌≡◌, ℕ, suc, ◌+◌, ◌-◌, ◌*◌, ◌/◌, ◌%◌, ◌≤◌, ◌<◌, List, [], ◌∷◌, ◌++◌, true, false, length};
 ghost use Rattle.grammar.specs.World.{World, end, report as reports};
 ghost use Rattle.grammar.specs.Prog.{Look as Ask};
@@ -28,7 +30,7 @@ const ENDED: u8 = 2;
 // Where a reading stands: the next token that is no trivia and the count of records, the log's records, the scratch records used of the
 // room, the findings held of those that fit, the fixities in force, the mode, and the refusal (0: none). All fields are of one width, so that a
 // copy of it is made of whole words.
-#[derive(Drop)]
+#[derive(Clone, Copy)]
 pub struct State {
     pub at: usize,
     pub count: usize,
@@ -45,21 +47,21 @@ pub struct State {
 }
 
 // What a look ahead finds.
-#[derive(Drop)]
+#[derive(Clone, Copy)]
 pub enum Look {
     Kind(u8),
     Nothing,
 }
 
 // Whether to report infix names that stand without `op`.
-#[derive(Drop)]
+#[derive(Clone, Copy)]
 pub enum InfixErr {
     No,
     Yes,
 }
 
 // Whether a rule found what it reads.
-#[derive(Drop)]
+#[derive(Clone, Copy)]
 pub enum Found {
     At(State),
     Missing(State),

@@ -1,7 +1,7 @@
 -- Laws on the definitions of a list: one step of each that goes over bytes or cases, and what the test of the form leaves.
 use Prim.Native.Nat.{ℕ, zero, suc, ◌+◌, ◌-◌, ◌≤◌, ◌<◌}
 use Rattle.std.proofs.Common.{add-one, arith, sym, ◌∙◌, drop-cons}
-use Rattle.std.specs.Prelude.{◌≡◌, List, [], ◌∷◌, Bool, true, false, ◌&&◌, eqb, length, get_or, drop}
+use Rattle.std.specs.Prelude.{◌≡◌, List, Bool, true, false, ◌&&◌, eqb, length, get_or, drop}
 use Rattle.std.proofs.Math.Path.{refl, ap}
 use borrow.Author.Tests.{leb-true, eq-eqb, ne_eqb}
 use Rattle.std.proofs.Math.Dec.{leb}

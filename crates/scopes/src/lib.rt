@@ -1,4 +1,6 @@
 // Where fixities end: those of a let with it, while those of a local's first part reach what follows.
+#![tactic(auto)]
+
 ghost use Rattle.std.specs.Prelude.{◌<◌};
 ghost use Rattle.grammar.specs.World.{end};
 ghost use Rattle.parser.specs.View.{Logs, Adds};

@@ -1,4 +1,6 @@
 // Fixities of infix names: sml-fixity's lib.rs, with the table in force in a module of its own.
+#![tactic(auto)]
+
 ghost use Rattle.std.specs.Prelude.{◌≡◌};
 ghost use Rattle.grammar.specs.Env.{left, right};
 ghost use Rattle.sml_fixity.specs.Fix.{infix_of};
@@ -6,14 +8,14 @@ ghost use Rattle.sml_fixity.specs.Fix.{infix_of};
 pub mod table;
 
 // The associativity of an infix name.
-#[derive(Drop)]
+#[derive(Clone, Copy)]
 pub enum Assoc {
     Left,
     Right,
 }
 
 // The precedence and the associativity of an infix name.
-#[derive(Drop)]
+#[derive(Clone, Copy)]
 pub struct Infix {
     pub prec: u16,
     pub assoc: Assoc,
@@ -40,7 +42,7 @@ impl Infix {
 }
 
 // What the environment says of a name.
-#[derive(Drop)]
+#[derive(Clone, Copy)]
 pub enum Fixity {
     Nonfix,
     Is(Infix),

@@ -10,7 +10,7 @@ ghost use Rattle.sml_fixity.specs.Table.{part, fix_in, entries_in, table_of, Sta
 use crate::{Assoc, Fixity, Infix};
 
 // How much of the journal is in force, how many entries are, and how many changes were ever made.
-#[derive(Drop)]
+#[derive(Clone, Copy)]
 pub struct Table {
     pub len: usize,
     pub entries: usize,
@@ -18,7 +18,7 @@ pub struct Table {
 }
 
 // What became of a change.
-#[derive(Drop)]
+#[derive(Clone, Copy)]
 pub enum Changed {
     Done(Table),
     Full,

@@ -2,7 +2,7 @@
 use Prim.Native.Nat.{ℕ, suc, ◌+◌, ◌-◌, ◌*◌, ◌≤◌, ◌<◌}
 use native.Mathlib.Nat.{add-zero, sub-zero}
 use native.Mathlib.Omega.{arith}
-use mathlib.Core.Path.{◌≡◌, refl, ap, ◌∙◌}
+use mathlib.Core.Path.{◌≡◌, refl, ap, sym, ◌∙◌}
 use mathlib.Core.List.{List, [], ◌∷◌}
 use mathlib.Core.Option.{Option, none, some}
 use mathlib.Core.Bool.{Bool, true, false, ◌&&◌}
@@ -127,6 +127,12 @@ module _ (text : List ℕ) (start len k v : ℕ) (inside : k < len) (fits : star
   pub digits_next : digit0 ≤ get_or text (start + k) 0 → get_or text (start + k) 0 ≤ digit9 → digits v (part text (start + k) (len - k)) ≡ digits (radix * v + (get_or text (start + k) 0 - digit0)) (part text (start + (k + 1)) (len - (k + 1)))
   unfolding digits
   digits_next g h = rw (part_cons text start len k inside fits) (rw (le-leb digit0 (get_or text (start + k) 0) g, le-leb (get_or text (start + k) 0) digit9 h, digits) refl)
+
+-- a byte that makes the value too large ends what is asked
+pub digits_large : (text : List ℕ) (start len k v : ℕ) → value_of (digits v (part text (start + k) (len - k))) ≡ value_of (some_digits (part text start len)) → k < len → start + len ≤ length text
+    → digit0 ≤ get_or text (start + k) 0 → get_or text (start + k) 0 ≤ digit9 → max_u16 < radix * v + (get_or text (start + k) 0 - digit0) → invalid ≡ value_of (some_digits (part text start len))
+digits_large text start len k v e inside fits g h l =
+    sym (ap value_of (digits_next text start len k v inside fits g h) ∙ digits_over _ _ l) ∙ e
 
 pub digits_done : (text : List ℕ) (start len k v : ℕ) → len ≤ k → v ≤ max_u16 → value_of (digits v (part text (start + k) (len - k))) ≡ v + valid
 unfolding digits

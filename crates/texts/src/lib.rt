@@ -1,4 +1,6 @@
 // What needs a token's text: the fixity of a name and its change, a word, a fixity number.
+#![tactic(auto)]
+
 ghost use Rattle.std.specs.Prelude.{◌≡◌, ◌+◌, ◌*◌, ◌≤◌, ◌<◌, length};
 ghost use Rattle.grammar.specs.Tokens.{start_at, length_at};
 ghost use Rattle.grammar.specs.World.{number_of, some_digits};
@@ -13,7 +15,7 @@ use sml_fixity::Fixity;
 use sml_fixity::table::{Changed, Table, change, find, pair, same};
 
 // What a text is as a fixity number.
-#[derive(Drop)]
+#[derive(Clone, Copy)]
 pub enum Number {
     Negative,
     Invalid,
@@ -96,6 +98,7 @@ pub fn says(text: &[u8], toks: &[u8], word: &[u8], s: State) -> bool
 }
 
 // The number of so many digits, at least one. Once it is too large it stays so, whatever follows.
+#[tactic(auto, using(crate::proofs::Texts::digits_large))]
 fn digits_in(text: &[u8], start: usize, len: usize) -> Number
     requires { start + len ≤ length text.now }
     ensures { number_val result ≡ value_of (some_digits (part text.now start len)) }

@@ -1,4 +1,6 @@
 // The test of a token file (document 01).
+#![tactic(auto)]
+
 ghost use Rattle.std.specs.Prelude.{◌≡◌};
 ghost use Rattle.token_file.specs.File.{is_file};
 

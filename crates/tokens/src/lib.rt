@@ -1,4 +1,6 @@
 // The lent text and token records: the tests behind the answers 1 and 2, and the text of a token.
+#![tactic(auto)]
+
 ghost use Rattle.std.specs.Prelude.{◌≡◌, ◌+◌, ◌*◌, ◌≤◌, ◌&&◌, length};
 ghost use Rattle.grammar.specs.Tokens.{end_at, end_before, record_count, lists_fit, record_fits, records_fit, token_part, token_text};
 ghost use Rattle.grammar.specs.Read.{settings_fit};

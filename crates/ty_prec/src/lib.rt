@@ -1,4 +1,6 @@
 // The precedences of types: ty.rs, `TyPrec`, by their place in its derived order.
+#![tactic(auto)]
+
 ghost use Rattle.std.specs.Prelude.{◌≡◌, ltb};
 ghost use Rattle.grammar.specs.Rule.{Arrow, Star};
 

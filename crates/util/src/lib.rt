@@ -1,4 +1,6 @@
 // Parse utilities: util.rs, and `eat` of event_parse.
+#![tactic(auto)]
+
 ghost use Rattle.std.specs.Prelude.{◌≡◌, suc, ◌+◌, ◌-◌, ◌*◌, ◌<◌, true, not};
 ghost use Rattle.grammar.specs.Prog.{Prog};
 ghost use Rattle.grammar.specs.Util as util;
@@ -208,7 +210,7 @@ fn path_part(
 }
 
 // The further parts of a path.
-// advances: path-part-advances true
+// advances: path_part_advances true
 fn path_parts(
     text: &[u8],
     toks: &[u8],

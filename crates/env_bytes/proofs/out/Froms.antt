@@ -32,6 +32,11 @@ unfolding afters
 chain_afters end = refl
 chain_afters (link p c) = rw (p, afters)
 
+-- where x is the first entry's name, all are from it on
+same_first : (x : List ℕ) (e : Entry) (es : List Entry) → x ≡ e.name → Sorted (e ∷ es) → froms x (e ∷ es) ≡ record { name = x; fixity = e.fixity } ∷ afters x es
+unfolding froms
+same_first x e es q h = rw (q, before_irrefl e.name, chain_afters h, froms)
+
 -- the entry of x itself, and those after it
 pub froms_split : (x : List ℕ) (es : List Entry) → Sorted es → froms x es ≡ here x (find x es) ++ afters x es
 unfolding froms afters find
@@ -41,7 +46,7 @@ froms_split x (e ∷ es) h =
     (λ b. rw (before_asym x e.name b, chain_none x (e ∷ es) (link b h), b, froms, afters))
     (λ b. by_test (same x e.name)
     (λ s. let q : x ≡ e.name = same_eq x e.name s in
-    rw (s, b, find, afters) (rw (q, before_irrefl e.name, chain_afters h, froms)))
+    rw (s, b, find, afters) (same_first x e es q h))
     (λ s. rw (before_total x e.name s b, s, b, froms, find, afters) (froms_split x es (chain_sorted h))))
 
 -- a name that no entry has is no entry's name

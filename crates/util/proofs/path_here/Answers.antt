@@ -1,0 +1,74 @@
+-- by tools/prove
+use Rattle.grammar.specs.Util as util
+use Rattle.parser.specs.Runs.{runs_in, ok_marks, small_len}
+use Rattle.parser.specs.Plans.{plan, choose, chosen, by_steps, s_close, s_mark, s_shut, hushed, s_by, s_run, s_end}
+use mathlib.Core.Path.{refl}
+use Rattle.util.proofs.path_here.Goals as goal
+
+pub refuse-requires : goal.refuse-requires
+refuse-requires c =
+    tt
+
+pub returns-then-left-eq0 : goal.returns-then-left-eq0
+unfolding util.path_here plan choose chosen hushed
+returns-then-left-eq0 c =
+    let pre0 = c.requires in
+    let if1 = c.if-left-eq0.true in
+    let refuse = c.refuse.ensures in
+    by_steps pre0 (λ b. s_shut if1 refuse (λ k l. refl))
+
+pub mark-s1-requires : goal.mark-s1-requires
+mark-s1-requires c =
+    tt
+
+pub path_start-start-requires : goal.path_start-start-requires
+path_start-start-requires c =
+    let pre0 = c.requires in
+    let mark = c.mark-s1.ensures in
+    let mark_ok = ok_marks mark pre0 in
+    mark_ok
+
+pub path_parts-s3-requires : goal.path_parts-s3-requires
+path_parts-s3-requires c =
+    let path_start = c.in-At.ensures in
+    let path_start_ok = path_start.ok in
+    path_start_ok
+
+pub close-requires : goal.close-requires
+close-requires c =
+    let pre0 = c.requires in
+    let mark = c.mark-s1.ensures in
+    let mark_ok = ok_marks mark pre0 in
+    let path_parts = c.path_parts-s3.ensures in
+    let path_parts_ok = path_parts.ok in
+    (path_parts_ok.logs, small_len mark_ok)
+
+pub close-requires-in-Missing : goal.close-requires-in-Missing
+close-requires-in-Missing c =
+    let pre0 = c.requires in
+    let mark = c.mark-s1.ensures in
+    let mark_ok = ok_marks mark pre0 in
+    let path_start = c.in-Missing.ensures in
+    let path_start_ok = path_start.ok in
+    (path_start_ok.logs, small_len mark_ok)
+
+pub returns-in-At : goal.returns-in-At
+unfolding util.path_here plan choose chosen
+returns-in-At c =
+    let pre0 = c.requires in
+    let if1 = c.if-left-eq0.false in
+    let mark = c.mark-s1.ensures in
+    let path_start = c.in-At.ensures in
+    let path_parts = c.path_parts-s3.ensures in
+    let close = c.close.ensures in
+    by_steps pre0 (λ b. s_mark if1 mark (s_by _ (runs_in path_start) (s_run path_parts (s_close close s_end))))
+
+pub returns-in-Missing : goal.returns-in-Missing
+unfolding util.path_here plan choose chosen
+returns-in-Missing c =
+    let pre0 = c.requires in
+    let if1 = c.if-left-eq0.false in
+    let mark = c.mark-s1.ensures in
+    let path_start = c.in-Missing.ensures in
+    let close2 = c.close-in-Missing.ensures in
+    by_steps pre0 (λ b. s_mark if1 mark (s_by _ (runs_in path_start) (s_close close2 s_end)))

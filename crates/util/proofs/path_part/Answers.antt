@@ -1,0 +1,55 @@
+-- by tools/prove
+use Rattle.grammar.specs.Util as util
+use Rattle.parser.specs.Runs.{ok_marks, ok_eats, ok_state, small_len}
+use Rattle.parser.specs.Plans.{plan, choose, chosen, by_steps, s_mark, s_shut, hushed, s_by, s_eats, eats_settled, s_end}
+use mathlib.Core.Path.{refl}
+use Rattle.util.proofs.path_part.Goals as goal
+
+pub refuse-requires : goal.refuse-requires
+refuse-requires c =
+    tt
+
+pub returns-then-left-eq0 : goal.returns-then-left-eq0
+unfolding util.path_part plan choose chosen hushed
+returns-then-left-eq0 c =
+    let pre0 = c.requires in
+    let if1 = c.if-left-eq0.true in
+    let refuse = c.refuse.ensures in
+    by_steps pre0 (λ b. s_shut if1 refuse (λ k l. refl))
+
+pub mark-s1-requires : goal.mark-s1-requires
+mark-s1-requires c =
+    tt
+
+pub eat_name_star-got-requires : goal.eat_name_star-got-requires
+eat_name_star-got-requires c =
+    let pre0 = c.requires in
+    let mark = c.mark-s1.ensures in
+    let mark_ok = ok_marks mark pre0 in
+    (mark_ok.reads, mark_ok.logs, mark_ok.holds)
+
+pub state-s2-requires : goal.state-s2-requires
+state-s2-requires c =
+    tt
+
+pub part_end-requires : goal.part_end-requires
+part_end-requires c =
+    let pre0 = c.requires in
+    let mark = c.mark-s1.ensures in
+    let mark_ok = ok_marks mark pre0 in
+    let eat_name_star = c.eat_name_star-got.ensures in
+    let eat_name_star_ok = ok_eats eat_name_star mark_ok in
+    let state = c.state-s2.ensures in
+    let state_ok = ok_state state eat_name_star_ok in
+    (state_ok, small_len mark_ok)
+
+pub returns : goal.returns
+unfolding util.path_part plan choose chosen
+returns c =
+    let pre0 = c.requires in
+    let if1 = c.if-left-eq0.false in
+    let mark = c.mark-s1.ensures in
+    let eat_name_star = c.eat_name_star-got.ensures in
+    let state = c.state-s2.ensures in
+    let part_end = c.part_end.ensures in
+    by_steps pre0 (λ b. s_mark if1 mark (s_eats _ _ _ (eats_settled state eat_name_star) (s_by _ part_end s_end)))

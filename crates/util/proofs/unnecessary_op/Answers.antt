@@ -1,0 +1,83 @@
+-- by tools/prove
+use Rattle.grammar.specs.Util as util
+use Rattle.parser.specs.Runs.{kind_at, kind_off, test_true, test_false}
+use Rattle.parser.specs.Plans.{plan, choose, chosen, always, s_look, s_kind, s_fixed, s_true, s_false, s_report, s_end}
+use native.Mathlib.Omega.{arith}
+use Rattle.util.proofs.unnecessary_op.Goals as goal
+
+pub at_n-requires : goal.at_n-requires
+at_n-requires c =
+    let pre0 = c.requires in
+    pre0.reads
+
+pub returns-then-at_n : goal.returns-then-at_n
+unfolding util.unnecessary_op plan choose chosen
+returns-then-at_n c =
+    let pre0 = c.requires in
+    let at_n = c.at_n.ensures in
+    let if1 = c.if-at_n.true in
+    always pre0 (λ n b. s_kind (s_true _ _ (kind_at _ _ _ _ at_n if1) s_end))
+
+pub peek_n-requires : goal.peek_n-requires
+peek_n-requires c =
+    let pre0 = c.requires in
+    pre0.reads
+
+pub returns-in_default : goal.returns-in_default
+unfolding util.unnecessary_op plan choose chosen
+returns-in_default c =
+    let pre0 = c.requires in
+    let at_n = c.at_n.ensures in
+    let if1 = c.if-at_n.false in
+    let peek_n = c.in_default.ensures in
+    always pre0 (λ n b. s_kind (s_false _ _ (kind_off _ _ _ _ at_n if1) (s_look peek_n s_end)))
+
+pub name_star_eq-requires : goal.name_star_eq-requires
+name_star_eq-requires c =
+    tt
+
+pub fixity_at-requires : goal.fixity_at-requires
+fixity_at-requires c =
+    let pre0 = c.requires in
+    (pre0.reads, pre0.names, pre0.stands)
+
+pub report-requires : goal.report-requires
+report-requires c =
+    let pre0 = c.requires in
+    (pre0.holds, (let few = pre0.reads.few in let inside = pre0.reads.inside in omega arith), omega arith)
+
+pub returns-in-Nonfix : goal.returns-in-Nonfix
+unfolding util.unnecessary_op plan choose chosen
+returns-in-Nonfix c =
+    let pre0 = c.requires in
+    let at_n = c.at_n.ensures in
+    let if1 = c.if-at_n.false in
+    let peek_n = c.in-Kind.ensures in
+    let name_star_eq = c.name_star_eq.ensures in
+    let if2 = c.if-name_star_eq.true in
+    let fixity_at = c.in-Nonfix.ensures in
+    let report = c.report.ensures in
+    always pre0 (λ n b. s_kind (s_false _ _ (kind_off _ _ _ _ at_n if1) (s_look peek_n (s_true _ _ (test_true name_star_eq if2) (s_fixed fixity_at (s_report report s_end))))))
+
+pub returns-in-Is : goal.returns-in-Is
+unfolding util.unnecessary_op plan choose chosen
+returns-in-Is c =
+    let pre0 = c.requires in
+    let at_n = c.at_n.ensures in
+    let if1 = c.if-at_n.false in
+    let peek_n = c.in-Kind.ensures in
+    let name_star_eq = c.name_star_eq.ensures in
+    let if2 = c.if-name_star_eq.true in
+    let fixity_at = c.in-Is.ensures in
+    always pre0 (λ n b. s_kind (s_false _ _ (kind_off _ _ _ _ at_n if1) (s_look peek_n (s_true _ _ (test_true name_star_eq if2) (s_fixed fixity_at s_end)))))
+
+pub returns-else-name_star_eq : goal.returns-else-name_star_eq
+unfolding util.unnecessary_op plan choose chosen
+returns-else-name_star_eq c =
+    let pre0 = c.requires in
+    let at_n = c.at_n.ensures in
+    let if1 = c.if-at_n.false in
+    let peek_n = c.in-Kind.ensures in
+    let name_star_eq = c.name_star_eq.ensures in
+    let if2 = c.if-name_star_eq.false in
+    always pre0 (λ n b. s_kind (s_false _ _ (kind_off _ _ _ _ at_n if1) (s_look peek_n (s_false _ _ (test_false name_star_eq if2) s_end))))
