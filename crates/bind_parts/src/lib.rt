@@ -1,4 +1,6 @@
 // What types and datatypes are bound to: dec.rs.
+#![tactic(auto)]
+
 ghost use Rattle.std.specs.Prelude.{true};
 ghost use Rattle.grammar.specs.Prog.{Prog};
 ghost use Rattle.grammar.specs.Util as util;
@@ -91,7 +93,7 @@ fn ty_bind(
 
 // `ty_binds`: types that are bound, between `and`.
 // unfolds: util.many_turn
-// advances: many-turn-advances true SK.AndKw SK.TyBind decl.ty_bind
+// advances: many_turn_advances true SK.AndKw SK.TyBind decl.ty_bind
 pub fn ty_binds(
     text: &[u8],
     toks: &[u8],
@@ -178,7 +180,7 @@ fn con_bind(
 
 // Constructors, between `|`.
 // unfolds: util.many_turn
-// advances: many-turn-advances true SK.Bar SK.ConBind decl.con_bind
+// advances: many_turn_advances true SK.Bar SK.ConBind decl.con_bind
 fn con_binds(
     text: &[u8],
     toks: &[u8],
@@ -270,7 +272,7 @@ fn dat_bind(
 
 // Datatypes, between `and`.
 // unfolds: util.many_turn
-// advances: many-turn-advances true SK.AndKw SK.DatBind decl.dat_bind
+// advances: many_turn_advances true SK.AndKw SK.DatBind decl.dat_bind
 fn dat_list(
     text: &[u8],
     toks: &[u8],

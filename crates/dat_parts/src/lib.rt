@@ -1,4 +1,6 @@
 // `datatype`, and the head of `abstype`: dec.rs.
+#![tactic(auto)]
+
 ghost use Rattle.std.specs.Prelude.{◌<◌};
 ghost use Rattle.grammar.specs.Dec as decl;
 ghost use Rattle.parser.specs.View.{Sound, mem, out_state, out_val};

@@ -1,4 +1,6 @@
 // The parts of dec.rs that start and end a declaration, and hold no expression, structure or signature.
+#![tactic(auto)]
+
 ghost use Rattle.std.specs.Prelude.{◌<◌};
 ghost use Rattle.grammar.specs.Dec as decl;
 ghost use Rattle.parser.specs.View.{Sound, mem, err_of, out_state, out_val};
@@ -51,7 +53,7 @@ pub fn app_start(
 }
 
 // Where something ends: the kinds of the token and of the node.
-#[derive(Drop)]
+#[derive(Clone, Copy)]
 pub struct Ending {
     pub end: u8,
     pub node: u8,

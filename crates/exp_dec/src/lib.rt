@@ -1,4 +1,6 @@
 // Expressions and declarations: exp.rs and dec.rs, the functions that call one another.
+#![tactic(auto)]
+
 ghost use Rattle.std.specs.Prelude.{◌≡◌, Bool, true, false, ℕ, suc, ◌+◌, ◌-◌, ◌*◌, ◌<◌};
 ghost use Rattle.grammar.specs.Prog.{Prog};
 ghost use Rattle.grammar.specs.Rule.{Rule};
@@ -52,7 +54,7 @@ const NO: InfixErr = InfixErr::No;
 const YES: InfixErr = InfixErr::Yes;
 
 // The arguments of `end_sep`, and the node around it. The kind of what it wraps names the closure.
-#[derive(Drop)]
+#[derive(Clone, Copy)]
 pub struct EndSep {
     pub wrap: u8,
     pub sep: u8,
@@ -97,7 +99,7 @@ const INS: EndSep = EndSep {
 };
 
 // The arguments of `many_sep`, and the node around it. The kind of what it wraps names the closure.
-#[derive(Drop)]
+#[derive(Clone, Copy)]
 pub struct ManySep {
     pub sep: u8,
     pub wrap: u8,
@@ -199,6 +201,7 @@ const INSEQ: u8 = kind::DEC_IN_SEQ;
 
 // `exp_prec`, or the finding that there is no expression.
 // measure: 64 * left + 6
+#[cycle(exp_dec)]
 fn exp(
     text: &[u8],
     toks: &[u8],
@@ -224,6 +227,7 @@ fn exp(
 // measure: 64 * left + 5
 // unfolds: root.body expr.exp_scope expr.exp_head
 // shuts: expr.exp_rest expr.at_exp
+#[cycle(exp_dec)]
 fn pre(
     text: &[u8],
     toks: &[u8],
@@ -256,6 +260,7 @@ fn pre(
 
 // What is behind a keyword that starts an expression, to the end of its node.
 // measure: 64 * left + 8
+#[cycle(exp_dec)]
 fn kw(
     text: &[u8],
     toks: &[u8],
@@ -295,6 +300,7 @@ fn kw(
 
 // A token of the kind `k`, and an expression.
 // measure: 64 * left + 7
+#[cycle(exp_dec)]
 fn we(
     text: &[u8],
     toks: &[u8],
@@ -316,6 +322,7 @@ fn we(
 // An atomic expression, and the arguments and operators behind it.
 // measure: 64 * left + 4
 // unfolds: expr.at_exp
+#[cycle(exp_dec)]
 fn rst(
     text: &[u8],
     toks: &[u8],
@@ -351,7 +358,8 @@ fn rst(
 
 // `exp_prec_loop`: arguments and operators behind an expression that started at `b`.
 // measure: 64 * left + 3
-// advances: exp-step-advances _
+// advances: exp_step_advances _
+#[cycle(exp_dec)]
 fn ops(
     text: &[u8],
     toks: &[u8],
@@ -379,6 +387,7 @@ fn ops(
 
 // One of them.
 // measure: 64 * left + 2
+#[cycle(exp_dec)]
 fn stp(
     text: &[u8],
     toks: &[u8],
@@ -420,6 +429,7 @@ fn stp(
 
 // A name: an argument, or an infix operator.
 // measure: 64 * left + 1
+#[cycle(exp_dec)]
 fn id(
     text: &[u8],
     toks: &[u8],
@@ -450,6 +460,7 @@ fn id(
 
 // An operator and its right side, unless it ends the climb.
 // measure: 64 * left
+#[cycle(exp_dec)]
 fn opr(
     text: &[u8],
     toks: &[u8],
@@ -483,7 +494,8 @@ fn opr(
 
 // The right side of an operator, to the end of its node.
 // measure: 64 * left + 7
-// rewrites: node-of
+// rewrites: node_of
+#[cycle(exp_dec)]
 fn rhs(
     text: &[u8],
     toks: &[u8],
@@ -514,6 +526,7 @@ fn rhs(
 
 // `app_exp`: an argument of the expression that started at `b`.
 // measure: 64 * left
+#[cycle(exp_dec)]
 fn app(
     text: &[u8],
     toks: &[u8],
@@ -539,6 +552,7 @@ fn app(
 // `at_exp`, or the finding that there is no expression.
 // measure: 64 * left
 // unfolds: expr.at_exp
+#[cycle(exp_dec)]
 fn arg(
     text: &[u8],
     toks: &[u8],
@@ -570,6 +584,7 @@ fn arg(
 // `at_exp`: an atomic expression, the kind k being next.
 // measure: 64 * left + 5
 // unfolds: expr.end_closure util.choose
+#[cycle(exp_dec)]
 fn atm(
     text: &[u8],
     toks: &[u8],
@@ -611,6 +626,7 @@ fn atm(
 // `#`: a vector, or a selector.
 // measure: 64 * left
 // unfolds: expr.end_closure util.choose
+#[cycle(exp_dec)]
 fn hs(
     text: &[u8],
     toks: &[u8],
@@ -644,6 +660,7 @@ fn hs(
 // measure: 64 * left + 2
 // unfolds: expr.end_closure util.choose
 // shuts: expr.paren_end
+#[cycle(exp_dec)]
 fn rnd(
     text: &[u8],
     toks: &[u8],
@@ -688,6 +705,7 @@ fn rnd(
 
 // `let`, whose fixities end with it.
 // measure: 64 * left + 4
+#[cycle(exp_dec)]
 fn lex(
     text: &[u8],
     toks: &[u8],
@@ -710,6 +728,7 @@ fn lex(
 // What stands between `let` and `end`.
 // measure: 64 * left + 3
 // unfolds: util.end_sep expr.end_closure util.choose
+#[cycle(exp_dec)]
 fn bdy(
     text: &[u8],
     toks: &[u8],
@@ -733,6 +752,7 @@ fn bdy(
 // `end_sep`, to the end of the node around it.
 // measure: 64 * left + 1
 // unfolds: util.end_sep
+#[cycle(exp_dec)]
 fn cl(
     text: &[u8],
     toks: &[u8],
@@ -755,7 +775,8 @@ fn cl(
 // `end_sep`: items up to the token that ends them.
 // measure: 64 * left
 // unfolds: util.end_item
-// advances: end-turn-advances true _ _ _ _
+// advances: end_turn_advances true _ _ _ _
+#[cycle(exp_dec)]
 fn sep(
     text: &[u8],
     toks: &[u8],
@@ -799,6 +820,7 @@ fn sep(
 // measure: 64 * left + 7
 // chooses: q.wrap
 // unfolds: expr.exp_row
+#[cycle(exp_dec)]
 fn cel(
     text: &[u8],
     toks: &[u8],
@@ -822,6 +844,7 @@ fn cel(
 
 // `eq_exp`: `=` and an expression, where they are next.
 // measure: 64 * left
+#[cycle(exp_dec)]
 fn eq(
     text: &[u8],
     toks: &[u8],
@@ -851,6 +874,7 @@ fn eq(
 // `matcher`.
 // measure: 64 * left
 // unfolds: decl.many_closure util.choose
+#[cycle(exp_dec)]
 fn mat(
     text: &[u8],
     toks: &[u8],
@@ -888,6 +912,7 @@ fn mat(
 // `many_sep`, to the end of the node around it.
 // measure: 64 * left + 1
 // unfolds: util.many_sep
+#[cycle(exp_dec)]
 fn bd(
     text: &[u8],
     toks: &[u8],
@@ -910,7 +935,8 @@ fn bd(
 
 // `many_sep`: items between separators.
 // measure: 64 * left
-// advances: many-turn-advances true _ _ _
+// advances: many_turn_advances true _ _ _
+#[cycle(exp_dec)]
 fn mny(
     text: &[u8],
     toks: &[u8],
@@ -952,6 +978,7 @@ fn mny(
 // One of them.
 // measure: 64 * left + 9
 // chooses: q.wrap
+#[cycle(exp_dec)]
 fn itm(
     text: &[u8],
     toks: &[u8],
@@ -993,6 +1020,7 @@ fn itm(
 
 // An arm: a pattern and an expression.
 // measure: 64 * left + 8
+#[cycle(exp_dec)]
 fn arm(
     text: &[u8],
     toks: &[u8],
@@ -1021,6 +1049,7 @@ fn arm(
 
 // A value that is bound.
 // measure: 64 * left + 1
+#[cycle(exp_dec)]
 fn vl(
     text: &[u8],
     toks: &[u8],
@@ -1048,6 +1077,7 @@ fn vl(
 // A function: its cases, between `|`.
 // measure: 64 * left + 1
 // unfolds: util.many_sep decl.many_closure util.choose
+#[cycle(exp_dec)]
 fn fun(
     text: &[u8],
     toks: &[u8],
@@ -1072,6 +1102,7 @@ fn fun(
 
 // A case of a function.
 // measure: 64 * left + 1
+#[cycle(exp_dec)]
 fn cs(
     text: &[u8],
     toks: &[u8],
@@ -1095,6 +1126,7 @@ fn cs(
 
 // An exception.
 // measure: 64 * left + 1
+#[cycle(exp_dec)]
 fn ex(
     text: &[u8],
     toks: &[u8],
@@ -1126,6 +1158,7 @@ fn ex(
 
 // A structure that is bound.
 // measure: 64 * left + 2
+#[cycle(exp_dec)]
 fn stb(
     text: &[u8],
     toks: &[u8],
@@ -1161,6 +1194,7 @@ fn stb(
 
 // A signature that is bound.
 // measure: 64 * left + 2
+#[cycle(exp_dec)]
 fn sgb(
     text: &[u8],
     toks: &[u8],
@@ -1187,6 +1221,7 @@ fn sgb(
 
 // A functor that is bound.
 // measure: 64 * left + 4
+#[cycle(exp_dec)]
 fn fct(
     text: &[u8],
     toks: &[u8],
@@ -1217,6 +1252,7 @@ fn fct(
 
 // The parameter of a functor: a name and its signature, or declarations, whose fixities reach what follows.
 // measure: 64 * left + 3
+#[cycle(exp_dec)]
 fn pa(
     text: &[u8],
     toks: &[u8],
@@ -1248,6 +1284,7 @@ fn pa(
 // `dec`: declarations.
 // measure: 64 * left + 2
 // unfolds: root.body decl.decs util.maybe_semi_sep decl.semi_closure util.choose
+#[cycle(exp_dec)]
 pub fn dec(
     text: &[u8],
     toks: &[u8],
@@ -1275,7 +1312,8 @@ pub fn dec(
 
 // `maybe_semi_sep`: further items, each with its `;` where there is one.
 // measure: 64 * left + 1
-// advances: semi-turn-advances g _ _
+// advances: semi_turn_advances g _ _
+#[cycle(exp_dec)]
 fn seq(
     text: &[u8],
     toks: &[u8],
@@ -1304,6 +1342,7 @@ fn seq(
 
 // One of them.
 // measure: 64 * left
+#[cycle(exp_dec)]
 fn sem(
     text: &[u8],
     toks: &[u8],
@@ -1337,6 +1376,7 @@ fn sem(
 // Declarations with their tails, or a single one.
 // measure: 64 * left + 1
 // chooses: w
+#[cycle(exp_dec)]
 fn pt(
     text: &[u8],
     toks: &[u8],
@@ -1361,6 +1401,7 @@ fn pt(
 // `dec_with_tail`: its node stands also where it is empty.
 // measure: 64 * left
 // unfolds: util.maybe_semi_sep decl.semi_closure util.choose
+#[cycle(exp_dec)]
 fn tl(
     text: &[u8],
     toks: &[u8],
@@ -1395,6 +1436,7 @@ fn tl(
 // `dec_one`: one declaration.
 // measure: 64 * left
 // unfolds: decl.dec_head
+#[cycle(exp_dec)]
 fn one(
     text: &[u8],
     toks: &[u8],
@@ -1428,6 +1470,7 @@ fn one(
 // The declarations that `leaf_dec` leaves, the kind k being next: those of values, functions and exceptions, `do`, and what `mds` reads.
 // measure: 64 * left + 8
 // unfolds: decl.many_closure util.choose
+#[cycle(exp_dec)]
 fn cor(
     text: &[u8],
     toks: &[u8],
@@ -1470,6 +1513,7 @@ fn cor(
 // Those of structures, signatures and functors, `include`, and what `oth` reads.
 // measure: 64 * left + 7
 // unfolds: decl.many_closure util.choose
+#[cycle(exp_dec)]
 fn mds(
     text: &[u8],
     toks: &[u8],
@@ -1511,6 +1555,7 @@ fn mds(
 
 // `abstype`, whose fixities reach what follows, `local`, and an expression.
 // measure: 64 * left + 6
+#[cycle(exp_dec)]
 fn oth(
     text: &[u8],
     toks: &[u8],
@@ -1546,6 +1591,7 @@ fn oth(
 
 // `local`, whose fixities reach what follows.
 // measure: 64 * left + 1
+#[cycle(exp_dec)]
 fn lo(
     text: &[u8],
     toks: &[u8],
@@ -1577,6 +1623,7 @@ fn lo(
 // Its second part, from `in` to `end`.
 // measure: 64 * left
 // shuts: decl.ended util.want util.eat
+#[cycle(exp_dec)]
 fn end(
     text: &[u8],
     toks: &[u8],
@@ -1607,6 +1654,7 @@ fn end(
 
 // `str_exp`, or the finding that there is no structure.
 // measure: 64 * left + 2
+#[cycle(exp_dec)]
 fn stm(
     text: &[u8],
     toks: &[u8],
@@ -1629,6 +1677,7 @@ fn stm(
 
 // `sig_exp`, or the finding that there is no signature.
 // measure: 64 * left + 1
+#[cycle(exp_dec)]
 fn sgm(
     text: &[u8],
     toks: &[u8],
@@ -1651,6 +1700,7 @@ fn sgm(
 
 // `ascription_tail`: `:` or `:>`, and a signature.
 // measure: 64 * left
+#[cycle(exp_dec)]
 fn asc(
     text: &[u8],
     toks: &[u8],
@@ -1676,6 +1726,7 @@ fn asc(
 
 // The same, where an ascription is next.
 // measure: 64 * left + 1
+#[cycle(exp_dec)]
 fn aso(
     text: &[u8],
     toks: &[u8],
@@ -1701,6 +1752,7 @@ fn aso(
 // `str_exp`: a structure.
 // measure: 64 * left + 1
 // unfolds: root.body decl.str_scope
+#[cycle(exp_dec)]
 fn stx(
     text: &[u8],
     toks: &[u8],
@@ -1734,6 +1786,7 @@ fn stx(
 
 // What a structure starts with, the kind k being next. The fixities of `struct` and `let` end with them.
 // measure: 64 * left + 4
+#[cycle(exp_dec)]
 fn sth(
     text: &[u8],
     toks: &[u8],
@@ -1776,6 +1829,7 @@ fn sth(
 // A functor application. The fixities of declarations as its argument end with it.
 // measure: 64 * left + 3
 // shuts: decl.ended util.want util.eat
+#[cycle(exp_dec)]
 fn fap(
     text: &[u8],
     toks: &[u8],
@@ -1815,6 +1869,7 @@ fn fap(
 
 // What stands between `let` and `end` in a structure.
 // measure: 64 * left + 3
+#[cycle(exp_dec)]
 fn slt(
     text: &[u8],
     toks: &[u8],
@@ -1836,7 +1891,8 @@ fn slt(
 
 // The ascriptions behind a structure that started at `b`.
 // measure: 64 * left
-// advances: str-step-advances
+// advances: str_step_advances
+#[cycle(exp_dec)]
 fn stt(
     text: &[u8],
     toks: &[u8],
@@ -1873,6 +1929,7 @@ fn stt(
 // `sig_exp`: a signature. The fixities of `sig` end with it.
 // measure: 64 * left
 // unfolds: root.body decl.sig_scope decl.sig_head
+#[cycle(exp_dec)]
 fn sgx(
     text: &[u8],
     toks: &[u8],
@@ -1913,7 +1970,8 @@ fn sgx(
 
 // The signatures behind `include`.
 // measure: 64 * left + 1
-// advances: sig-exp-advances
+// advances: sig_exp_advances
+#[cycle(exp_dec)]
 fn ic(
     text: &[u8],
     toks: &[u8],

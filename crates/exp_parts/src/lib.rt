@@ -1,4 +1,6 @@
 // The parts of exp.rs that hold no expression: keywords, paths, the ends of parentheses.
+#![tactic(auto)]
+
 ghost use Rattle.std.specs.Prelude.{◌≡◌, suc, ◌<◌};
 ghost use Rattle.grammar.specs.Exp as expr;
 ghost use Rattle.parser.specs.View.{Sound, mem, out_state, out_val};

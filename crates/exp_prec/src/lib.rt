@@ -1,4 +1,6 @@
 // Precedences of exp.rs, and when a climb ends.
+#![tactic(auto)]
+
 ghost use Rattle.std.specs.Prelude.{◌≡◌, false};
 ghost use Rattle.grammar.specs.Rule as rules;
 ghost use Rattle.grammar.specs.Exp as expr;
@@ -12,7 +14,7 @@ use parser::{Found, IMPOSSIBLE, State, kind};
 use sml_fixity::Infix;
 
 // What may stand in an expression: all, or what binds more than an operator to its left.
-#[derive(Drop)]
+#[derive(Clone, Copy)]
 pub enum ExpPrec {
     Min,
     Handle,
@@ -23,7 +25,7 @@ pub enum ExpPrec {
 }
 
 // Whether an operator ends a climb: a case that cannot happen, no, yes, or as two infix names decide.
-#[derive(Drop)]
+#[derive(Clone, Copy)]
 pub enum Verdict {
     Unreachable,
     GoesOn,

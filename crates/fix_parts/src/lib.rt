@@ -1,4 +1,6 @@
 // The parts of dec.rs about fixities: infix, infixr and nonfix, and their number.
+#![tactic(auto)]
+
 ghost use Rattle.std.specs.Prelude.{◌≡◌, ◌<◌};
 ghost use Rattle.grammar.specs.Prog.{Prog};
 ghost use Rattle.grammar.specs.Dec as decl;
@@ -17,7 +19,7 @@ const STRICT: usize = 2;
 const LARGEST: u16 = 9;
 
 // The number of a fixity declaration, and the state behind it.
-#[derive(Drop)]
+#[derive(Clone, Copy)]
 pub struct Numbered {
     pub num: u16,
     pub state: State,
@@ -116,7 +118,7 @@ fn fixity(
 
 // `names_star_eq`: names that get a fixity, or lose it.
 // unfolds: decl.names_turn
-// advances: names-turn-advances _
+// advances: names_turn_advances _
 fn names(
     text: &[u8],
     toks: &[u8],

@@ -1,4 +1,6 @@
 // The left side of a function's case: dec.rs.
+#![tactic(auto)]
+
 ghost use Rattle.std.specs.Prelude.{true, ◌<◌};
 ghost use Rattle.grammar.specs.Prog.{Prog};
 ghost use Rattle.grammar.specs.Pat as pats;
@@ -93,7 +95,7 @@ fn fun_head(
 }
 
 // The patterns behind a head.
-// advances: at-pat-advances true _
+// advances: at_pat_advances true _
 fn at_pats(
     text: &[u8],
     toks: &[u8],

@@ -1,4 +1,6 @@
 // The names in the head of a function: dec.rs.
+#![tactic(auto)]
+
 ghost use Rattle.std.specs.Prelude.{true};
 ghost use Rattle.grammar.specs.Dec as decl;
 ghost use Rattle.parser.specs.View.{Sound, mem};

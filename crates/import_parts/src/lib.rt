@@ -1,4 +1,6 @@
 // The parts of dec.rs about imports: es_import.
+#![tactic(auto)]
+
 ghost use Rattle.std.specs.Prelude.{◌≡◌, true, suc};
 ghost use Rattle.grammar.specs.Prog.{Prog};
 ghost use Rattle.grammar.specs.Util as util;
@@ -89,7 +91,7 @@ fn es_spec(
 
 // Named imports, up to `}`.
 // unfolds: util.end_turn util.end_item
-// advances: end-turn-advances true SK.EsImportSpecArg SK.Comma SK.RCurly decl.es_import_spec
+// advances: end_turn_advances true SK.EsImportSpecArg SK.Comma SK.RCurly decl.es_import_spec
 fn es_list(
     text: &[u8],
     toks: &[u8],
@@ -158,7 +160,7 @@ fn es_specs(
 
 // The names among the attributes.
 // unfolds: decl.attr_turn
-// advances: attr-turn-advances
+// advances: attr_turn_advances
 fn attrs(
     text: &[u8],
     toks: &[u8],

@@ -1,4 +1,6 @@
 // The declarations that hold no expression, structure or signature: dec.rs.
+#![tactic(auto)]
+
 ghost use Rattle.std.specs.Prelude.{◌≡◌, true, suc, ◌<◌};
 ghost use Rattle.grammar.specs.Prog.{Prog};
 ghost use Rattle.grammar.specs.Util as util;
@@ -14,7 +16,7 @@ use parser::{Found, State, bump, close, kind};
 use util::path;
 
 // The paths behind `open`.
-// advances: path-advances true
+// advances: path_advances true
 fn opens(
     text: &[u8],
     toks: &[u8],

@@ -1,4 +1,6 @@
 // Patterns: pat.rs.
+#![tactic(auto)]
+
 ghost use Rattle.std.specs.Prelude.{◌≡◌, Bool, true, false, ℕ, suc, ◌+◌, ◌-◌, ◌*◌, ◌<◌};
 ghost use Rattle.grammar.specs.Prog.{Prog};
 ghost use Rattle.grammar.specs.Rule.{Rule, PatPrec as Prec};
@@ -24,7 +26,7 @@ use util::{ascription, eat, eat_name_star, lab, name_star, path_infix};
 
 // `pat_prec`, or the finding that there is no pattern.
 // measure: 64 * left + 6
-#[cycle(arg_item_arg_turn_args_as_pat_tl_as_step_at_head_at_must_at_pat_at_round_atom_con_con_head_con_turn_inf_pat_op_step_op_tail_or_step_pat_arg_pat_must_pat_prec_rest_row_row_item_row_turn_rows_step_tail_vector)]
+#[cycle(pat)]
 pub fn pat_must(
     text: &[u8],
     toks: &[u8],
@@ -50,7 +52,7 @@ pub fn pat_must(
 // `pat_prec`: a pattern, with what `min` lets stand.
 // measure: 64 * left + 5
 // unfolds: root.body pat.pat_scope
-#[cycle(arg_item_arg_turn_args_as_pat_tl_as_step_at_head_at_must_at_pat_at_round_atom_con_con_head_con_turn_inf_pat_op_step_op_tail_or_step_pat_arg_pat_must_pat_prec_rest_row_row_item_row_turn_rows_step_tail_vector)]
+#[cycle(pat)]
 pub fn pat_prec(
     text: &[u8],
     toks: &[u8],
@@ -88,7 +90,7 @@ pub fn pat_prec(
 // A pattern that starts with a constructor.
 // measure: 64 * left + 4
 // unfolds: pat.pat_tail
-#[cycle(arg_item_arg_turn_args_as_pat_tl_as_step_at_head_at_must_at_pat_at_round_atom_con_con_head_con_turn_inf_pat_op_step_op_tail_or_step_pat_arg_pat_must_pat_prec_rest_row_row_item_row_turn_rows_step_tail_vector)]
+#[cycle(pat)]
 fn con(
     text: &[u8],
     toks: &[u8],
@@ -123,7 +125,7 @@ fn con(
 
 // A constructor and its argument.
 // measure: 64 * left
-#[cycle(arg_item_arg_turn_args_as_pat_tl_as_step_at_head_at_must_at_pat_at_round_atom_con_con_head_con_turn_inf_pat_op_step_op_tail_or_step_pat_arg_pat_must_pat_prec_rest_row_row_item_row_turn_rows_step_tail_vector)]
+#[cycle(pat)]
 fn con_head(
     text: &[u8],
     toks: &[u8],
@@ -163,7 +165,7 @@ fn con_head(
 
 // The argument of a constructor, where there is one, and the end of the node that started at `b`.
 // measure: 64 * left + 2
-#[cycle(arg_item_arg_turn_args_as_pat_tl_as_step_at_head_at_must_at_pat_at_round_atom_con_con_head_con_turn_inf_pat_op_step_op_tail_or_step_pat_arg_pat_must_pat_prec_rest_row_row_item_row_turn_rows_step_tail_vector)]
+#[cycle(pat)]
 fn con_turn(
     text: &[u8],
     toks: &[u8],
@@ -204,7 +206,7 @@ fn con_turn(
 
 // An infix name that was tested, and the pattern behind it.
 // measure: 64 * left + 1
-#[cycle(arg_item_arg_turn_args_as_pat_tl_as_step_at_head_at_must_at_pat_at_round_atom_con_con_head_con_turn_inf_pat_op_step_op_tail_or_step_pat_arg_pat_must_pat_prec_rest_row_row_item_row_turn_rows_step_tail_vector)]
+#[cycle(pat)]
 fn op_tail(
     text: &[u8],
     toks: &[u8],
@@ -229,7 +231,7 @@ fn op_tail(
 
 // A pattern that starts with no constructor.
 // measure: 64 * left + 4
-#[cycle(arg_item_arg_turn_args_as_pat_tl_as_step_at_head_at_must_at_pat_at_round_atom_con_con_head_con_turn_inf_pat_op_step_op_tail_or_step_pat_arg_pat_must_pat_prec_rest_row_row_item_row_turn_rows_step_tail_vector)]
+#[cycle(pat)]
 fn atom(
     text: &[u8],
     toks: &[u8],
@@ -258,8 +260,8 @@ fn atom(
 
 // What follows a pattern that started at `b`.
 // measure: 64 * left + 3
-// advances: pat-step-advances _ _
-#[cycle(arg_item_arg_turn_args_as_pat_tl_as_step_at_head_at_must_at_pat_at_round_atom_con_con_head_con_turn_inf_pat_op_step_op_tail_or_step_pat_arg_pat_must_pat_prec_rest_row_row_item_row_turn_rows_step_tail_vector)]
+// advances: pat_step_advances _ _
+#[cycle(pat)]
 fn tail(
     text: &[u8],
     toks: &[u8],
@@ -288,7 +290,7 @@ fn tail(
 
 // One of it: an infix pattern, `|`, a type or `as`.
 // measure: 64 * left + 2
-#[cycle(arg_item_arg_turn_args_as_pat_tl_as_step_at_head_at_must_at_pat_at_round_atom_con_con_head_con_turn_inf_pat_op_step_op_tail_or_step_pat_arg_pat_must_pat_prec_rest_row_row_item_row_turn_rows_step_tail_vector)]
+#[cycle(pat)]
 fn step(
     text: &[u8],
     toks: &[u8],
@@ -325,7 +327,7 @@ fn step(
 
 // At a name: an infix pattern, unless the name ends the climb.
 // measure: 64 * left + 1
-#[cycle(arg_item_arg_turn_args_as_pat_tl_as_step_at_head_at_must_at_pat_at_round_atom_con_con_head_con_turn_inf_pat_op_step_op_tail_or_step_pat_arg_pat_must_pat_prec_rest_row_row_item_row_turn_rows_step_tail_vector)]
+#[cycle(pat)]
 fn op_step(
     text: &[u8],
     toks: &[u8],
@@ -363,7 +365,7 @@ fn op_step(
 
 // An infix name and the pattern behind it.
 // measure: 64 * left
-#[cycle(arg_item_arg_turn_args_as_pat_tl_as_step_at_head_at_must_at_pat_at_round_atom_con_con_head_con_turn_inf_pat_op_step_op_tail_or_step_pat_arg_pat_must_pat_prec_rest_row_row_item_row_turn_rows_step_tail_vector)]
+#[cycle(pat)]
 fn inf_pat(
     text: &[u8],
     toks: &[u8],
@@ -391,7 +393,7 @@ fn inf_pat(
 
 // `|` and the pattern behind it, where it may stand.
 // measure: 64 * left
-#[cycle(arg_item_arg_turn_args_as_pat_tl_as_step_at_head_at_must_at_pat_at_round_atom_con_con_head_con_turn_inf_pat_op_step_op_tail_or_step_pat_arg_pat_must_pat_prec_rest_row_row_item_row_turn_rows_step_tail_vector)]
+#[cycle(pat)]
 fn or_step(
     text: &[u8],
     toks: &[u8],
@@ -422,7 +424,7 @@ fn or_step(
 
 // `as` and the pattern behind it, where it may stand.
 // measure: 64 * left
-#[cycle(arg_item_arg_turn_args_as_pat_tl_as_step_at_head_at_must_at_pat_at_round_atom_con_con_head_con_turn_inf_pat_op_step_op_tail_or_step_pat_arg_pat_must_pat_prec_rest_row_row_item_row_turn_rows_step_tail_vector)]
+#[cycle(pat)]
 fn as_step(
     text: &[u8],
     toks: &[u8],
@@ -458,7 +460,7 @@ fn as_step(
 
 // `as` and the pattern behind it.
 // measure: 64 * left
-#[cycle(arg_item_arg_turn_args_as_pat_tl_as_step_at_head_at_must_at_pat_at_round_atom_con_con_head_con_turn_inf_pat_op_step_op_tail_or_step_pat_arg_pat_must_pat_prec_rest_row_row_item_row_turn_rows_step_tail_vector)]
+#[cycle(pat)]
 pub fn as_pat_tl(
     text: &[u8],
     toks: &[u8],
@@ -489,7 +491,7 @@ pub fn as_pat_tl(
 
 // `at_pat`, or the finding that there is no pattern.
 // measure: 64 * left + 1
-#[cycle(arg_item_arg_turn_args_as_pat_tl_as_step_at_head_at_must_at_pat_at_round_atom_con_con_head_con_turn_inf_pat_op_step_op_tail_or_step_pat_arg_pat_must_pat_prec_rest_row_row_item_row_turn_rows_step_tail_vector)]
+#[cycle(pat)]
 pub fn at_must(
     text: &[u8],
     toks: &[u8],
@@ -513,7 +515,7 @@ pub fn at_must(
 
 // `at_pat`: an atomic pattern.
 // measure: 64 * left
-#[cycle(arg_item_arg_turn_args_as_pat_tl_as_step_at_head_at_must_at_pat_at_round_atom_con_con_head_con_turn_inf_pat_op_step_op_tail_or_step_pat_arg_pat_must_pat_prec_rest_row_row_item_row_turn_rows_step_tail_vector)]
+#[cycle(pat)]
 pub fn at_pat(
     text: &[u8],
     toks: &[u8],
@@ -553,7 +555,7 @@ pub fn at_pat(
 
 // What an atomic pattern starts with, the kind k being next.
 // measure: 64 * left + 5
-#[cycle(arg_item_arg_turn_args_as_pat_tl_as_step_at_head_at_must_at_pat_at_round_atom_con_con_head_con_turn_inf_pat_op_step_op_tail_or_step_pat_arg_pat_must_pat_prec_rest_row_row_item_row_turn_rows_step_tail_vector)]
+#[cycle(pat)]
 fn at_head(
     text: &[u8],
     toks: &[u8],
@@ -594,7 +596,7 @@ fn at_head(
 // The starts of an atomic pattern that hold others.
 // measure: 64 * left + 4
 // unfolds: util.end_sep
-#[cycle(arg_item_arg_turn_args_as_pat_tl_as_step_at_head_at_must_at_pat_at_round_atom_con_con_head_con_turn_inf_pat_op_step_op_tail_or_step_pat_arg_pat_must_pat_prec_rest_row_row_item_row_turn_rows_step_tail_vector)]
+#[cycle(pat)]
 fn rest(
     text: &[u8],
     toks: &[u8],
@@ -637,7 +639,7 @@ fn rest(
 // The list of a vector pattern.
 // measure: 64 * left
 // unfolds: util.end_sep
-#[cycle(arg_item_arg_turn_args_as_pat_tl_as_step_at_head_at_must_at_pat_at_round_atom_con_con_head_con_turn_inf_pat_op_step_op_tail_or_step_pat_arg_pat_must_pat_prec_rest_row_row_item_row_turn_rows_step_tail_vector)]
+#[cycle(pat)]
 fn vector(
     text: &[u8],
     toks: &[u8],
@@ -679,7 +681,7 @@ fn vector(
 // A pattern that starts with `(`, from behind it on.
 // measure: 64 * left + 3
 // unfolds: util.end_sep
-#[cycle(arg_item_arg_turn_args_as_pat_tl_as_step_at_head_at_must_at_pat_at_round_atom_con_con_head_con_turn_inf_pat_op_step_op_tail_or_step_pat_arg_pat_must_pat_prec_rest_row_row_item_row_turn_rows_step_tail_vector)]
+#[cycle(pat)]
 fn at_round(
     text: &[u8],
     toks: &[u8],
@@ -715,7 +717,7 @@ fn at_round(
 
 // The pattern behind `(`.
 // measure: 64 * left
-#[cycle(arg_item_arg_turn_args_as_pat_tl_as_step_at_head_at_must_at_pat_at_round_atom_con_con_head_con_turn_inf_pat_op_step_op_tail_or_step_pat_arg_pat_must_pat_prec_rest_row_row_item_row_turn_rows_step_tail_vector)]
+#[cycle(pat)]
 fn pat_arg(
     text: &[u8],
     toks: &[u8],
@@ -747,8 +749,8 @@ fn pat_arg(
 
 // Patterns with commas, up to `end`.
 // measure: 64 * left + 2
-// advances: end-turn-advances true _ _ _ _
-#[cycle(arg_item_arg_turn_args_as_pat_tl_as_step_at_head_at_must_at_pat_at_round_atom_con_con_head_con_turn_inf_pat_op_step_op_tail_or_step_pat_arg_pat_must_pat_prec_rest_row_row_item_row_turn_rows_step_tail_vector)]
+// advances: end_turn_advances true _ _ _ _
+#[cycle(pat)]
 fn args(
     text: &[u8],
     toks: &[u8],
@@ -777,7 +779,7 @@ fn args(
 
 // `end`, or one pattern.
 // measure: 64 * left + 1
-#[cycle(arg_item_arg_turn_args_as_pat_tl_as_step_at_head_at_must_at_pat_at_round_atom_con_con_head_con_turn_inf_pat_op_step_op_tail_or_step_pat_arg_pat_must_pat_prec_rest_row_row_item_row_turn_rows_step_tail_vector)]
+#[cycle(pat)]
 fn arg_turn(
     text: &[u8],
     toks: &[u8],
@@ -809,7 +811,7 @@ fn arg_turn(
 
 // One pattern and its comma.
 // measure: 64 * left
-#[cycle(arg_item_arg_turn_args_as_pat_tl_as_step_at_head_at_must_at_pat_at_round_atom_con_con_head_con_turn_inf_pat_op_step_op_tail_or_step_pat_arg_pat_must_pat_prec_rest_row_row_item_row_turn_rows_step_tail_vector)]
+#[cycle(pat)]
 fn arg_item(
     text: &[u8],
     toks: &[u8],
@@ -840,8 +842,8 @@ fn arg_item(
 
 // The rows of a record pattern, up to `}`.
 // measure: 64 * left + 2
-// advances: end-turn-advances true _ _ _ _
-#[cycle(arg_item_arg_turn_args_as_pat_tl_as_step_at_head_at_must_at_pat_at_round_atom_con_con_head_con_turn_inf_pat_op_step_op_tail_or_step_pat_arg_pat_must_pat_prec_rest_row_row_item_row_turn_rows_step_tail_vector)]
+// advances: end_turn_advances true _ _ _ _
+#[cycle(pat)]
 fn rows(
     text: &[u8],
     toks: &[u8],
@@ -869,7 +871,7 @@ fn rows(
 
 // `}`, or one row.
 // measure: 64 * left + 1
-#[cycle(arg_item_arg_turn_args_as_pat_tl_as_step_at_head_at_must_at_pat_at_round_atom_con_con_head_con_turn_inf_pat_op_step_op_tail_or_step_pat_arg_pat_must_pat_prec_rest_row_row_item_row_turn_rows_step_tail_vector)]
+#[cycle(pat)]
 fn row_turn(
     text: &[u8],
     toks: &[u8],
@@ -900,7 +902,7 @@ fn row_turn(
 
 // One row and its comma.
 // measure: 64 * left
-#[cycle(arg_item_arg_turn_args_as_pat_tl_as_step_at_head_at_must_at_pat_at_round_atom_con_con_head_con_turn_inf_pat_op_step_op_tail_or_step_pat_arg_pat_must_pat_prec_rest_row_row_item_row_turn_rows_step_tail_vector)]
+#[cycle(pat)]
 fn row_item(
     text: &[u8],
     toks: &[u8],
@@ -930,7 +932,7 @@ fn row_item(
 
 // A row: `...`, a label and its pattern, or a name with what may follow it.
 // measure: 64 * left
-#[cycle(arg_item_arg_turn_args_as_pat_tl_as_step_at_head_at_must_at_pat_at_round_atom_con_con_head_con_turn_inf_pat_op_step_op_tail_or_step_pat_arg_pat_must_pat_prec_rest_row_row_item_row_turn_rows_step_tail_vector)]
+#[cycle(pat)]
 fn row(
     text: &[u8],
     toks: &[u8],

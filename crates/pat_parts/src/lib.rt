@@ -1,4 +1,6 @@
 // What pat.rs does outside of its cycle of calls: the names of constructors, the end of a constructor pattern, a type behind a pattern.
+#![tactic(auto)]
+
 ghost use Rattle.std.specs.Prelude.{true, ◌<◌};
 ghost use Rattle.grammar.specs.Pat as pat;
 ghost use Rattle.sml_fixity.specs.Fix.{infix_of};
@@ -15,7 +17,7 @@ use ty_prec::ARROW;
 use util::{path, path_infix, path_no_infix};
 
 // How the head of a constructor pattern was left: it was too deep; the pattern goes on; it goes on at an infix name that was tested; it ends.
-#[derive(Drop)]
+#[derive(Clone, Copy)]
 pub enum Head {
     Missing(State),
     GoOn(State),

@@ -1,4 +1,6 @@
 // What may stand in a pattern, and the tests by which pat.rs tells its cases apart.
+#![tactic(auto)]
+
 ghost use Rattle.std.specs.Prelude.{◌≡◌, Bool, suc};
 ghost use Rattle.grammar.specs.Rule as rule;
 ghost use Rattle.grammar.specs.Pat as pat;
@@ -12,7 +14,7 @@ use parser::{Found, InfixErr, State, kind};
 use sml_fixity::Infix;
 
 // What may stand in a pattern: all, all but `|`, or what binds more than an infix name to its left.
-#[derive(Drop)]
+#[derive(Clone, Copy)]
 pub enum PatPrec {
     Min,
     Or,

@@ -1,4 +1,6 @@
 // The tails of declarations: sharing, and the node that stands also where there are none. dec.rs.
+#![tactic(auto)]
+
 ghost use Rattle.std.specs.Prelude.{true, ◌<◌};
 ghost use Rattle.grammar.specs.Prog.{Prog};
 ghost use Rattle.grammar.specs.Util as util;
@@ -12,7 +14,7 @@ use util::{bump_if, path_must};
 
 // Paths, between `=`.
 // unfolds: util.many_turn
-// advances: many-turn-advances true SK.Eq SK.PathEq util.path_must
+// advances: many_turn_advances true SK.Eq SK.PathEq util.path_must
 fn path_eqs(
     text: &[u8],
     toks: &[u8],
@@ -79,7 +81,7 @@ fn sharing_turn(
 }
 
 // Sharing tails.
-// advances: sharing-advances true
+// advances: sharing_advances true
 fn sharing_tails(
     text: &[u8],
     toks: &[u8],

@@ -1,4 +1,6 @@
 // Types: ty.rs, but for type variables in a row, which are in ty_parts.
+#![tactic(auto)]
+
 ghost use Rattle.std.specs.Prelude.{◌≡◌, true, false, ℕ, suc, ◌+◌, ◌-◌, ◌*◌, ◌<◌};
 ghost use Rattle.grammar.specs.Prog.{Prog};
 ghost use Rattle.grammar.specs.Rule.{Rule};
@@ -14,7 +16,7 @@ use util::{ascription, bump_ascription, eat, lab, path_must};
 
 // `ty_prec`, or the finding that there is no type.
 // measure: 32 * left + 4
-#[cycle(arg_item_arg_turn_row_item_row_turn_star_factor_star_tail_star_turn_ty_arg_ty_args_ty_arrow_ty_head_ty_inner_ty_must_ty_prec_ty_round_ty_row_ty_rows_ty_seq_ty_step_ty_tail_ty_tuple)]
+#[cycle(ty)]
 pub fn ty_must(
     text: &[u8],
     toks: &[u8],
@@ -39,7 +41,7 @@ pub fn ty_must(
 // `ty_prec`: a type, its arrows and stars where `min` lets them stand.
 // measure: 32 * left + 3
 // unfolds: root.body types.ty_scope
-#[cycle(arg_item_arg_turn_row_item_row_turn_star_factor_star_tail_star_turn_ty_arg_ty_args_ty_arrow_ty_head_ty_inner_ty_must_ty_prec_ty_round_ty_row_ty_rows_ty_seq_ty_step_ty_tail_ty_tuple)]
+#[cycle(ty)]
 pub fn ty_prec(
     text: &[u8],
     toks: &[u8],
@@ -83,7 +85,7 @@ pub fn ty_prec(
 
 // What a type starts with, the kind k being next.
 // measure: 32 * left + 12
-#[cycle(arg_item_arg_turn_row_item_row_turn_star_factor_star_tail_star_turn_ty_arg_ty_args_ty_arrow_ty_head_ty_inner_ty_must_ty_prec_ty_round_ty_row_ty_rows_ty_seq_ty_step_ty_tail_ty_tuple)]
+#[cycle(ty)]
 fn ty_head(
     text: &[u8],
     toks: &[u8],
@@ -117,7 +119,7 @@ fn ty_head(
 // The starts of a type that hold others.
 // measure: 32 * left + 11
 // unfolds: util.end_sep
-#[cycle(arg_item_arg_turn_row_item_row_turn_star_factor_star_tail_star_turn_ty_arg_ty_args_ty_arrow_ty_head_ty_inner_ty_must_ty_prec_ty_round_ty_row_ty_rows_ty_seq_ty_step_ty_tail_ty_tuple)]
+#[cycle(ty)]
 fn ty_inner(
     text: &[u8],
     toks: &[u8],
@@ -151,7 +153,7 @@ fn ty_inner(
 
 // A type that starts with `(`.
 // measure: 32 * left + 10
-#[cycle(arg_item_arg_turn_row_item_row_turn_star_factor_star_tail_star_turn_ty_arg_ty_args_ty_arrow_ty_head_ty_inner_ty_must_ty_prec_ty_round_ty_row_ty_rows_ty_seq_ty_step_ty_tail_ty_tuple)]
+#[cycle(ty)]
 fn ty_round(
     text: &[u8],
     toks: &[u8],
@@ -183,7 +185,7 @@ fn ty_round(
 // `(` and a type; where more follow, the whole sequence.
 // measure: 32 * left + 9
 // unfolds: util.end_sep
-#[cycle(arg_item_arg_turn_row_item_row_turn_star_factor_star_tail_star_turn_ty_arg_ty_args_ty_arrow_ty_head_ty_inner_ty_must_ty_prec_ty_round_ty_row_ty_rows_ty_seq_ty_step_ty_tail_ty_tuple)]
+#[cycle(ty)]
 fn ty_seq(
     text: &[u8],
     toks: &[u8],
@@ -215,7 +217,7 @@ fn ty_seq(
 
 // The type behind `(`.
 // measure: 32 * left + 8
-#[cycle(arg_item_arg_turn_row_item_row_turn_star_factor_star_tail_star_turn_ty_arg_ty_args_ty_arrow_ty_head_ty_inner_ty_must_ty_prec_ty_round_ty_row_ty_rows_ty_seq_ty_step_ty_tail_ty_tuple)]
+#[cycle(ty)]
 fn ty_arg(
     text: &[u8],
     toks: &[u8],
@@ -245,8 +247,8 @@ fn ty_arg(
 
 // The arrows, stars and constructors behind a type that started at `b`.
 // measure: 32 * left + 2
-// advances: ty-step-advances _
-#[cycle(arg_item_arg_turn_row_item_row_turn_star_factor_star_tail_star_turn_ty_arg_ty_args_ty_arrow_ty_head_ty_inner_ty_must_ty_prec_ty_round_ty_row_ty_rows_ty_seq_ty_step_ty_tail_ty_tuple)]
+// advances: ty_step_advances _
+#[cycle(ty)]
 fn ty_tail(
     text: &[u8],
     toks: &[u8],
@@ -274,7 +276,7 @@ fn ty_tail(
 
 // One of them.
 // measure: 32 * left + 1
-#[cycle(arg_item_arg_turn_row_item_row_turn_star_factor_star_tail_star_turn_ty_arg_ty_args_ty_arrow_ty_head_ty_inner_ty_must_ty_prec_ty_round_ty_row_ty_rows_ty_seq_ty_step_ty_tail_ty_tuple)]
+#[cycle(ty)]
 fn ty_step(
     text: &[u8],
     toks: &[u8],
@@ -313,7 +315,7 @@ fn ty_step(
 
 // An arrow and the type behind it.
 // measure: 32 * left
-#[cycle(arg_item_arg_turn_row_item_row_turn_star_factor_star_tail_star_turn_ty_arg_ty_args_ty_arrow_ty_head_ty_inner_ty_must_ty_prec_ty_round_ty_row_ty_rows_ty_seq_ty_step_ty_tail_ty_tuple)]
+#[cycle(ty)]
 fn ty_arrow(
     text: &[u8],
     toks: &[u8],
@@ -338,7 +340,7 @@ fn ty_arrow(
 
 // The factors of a tuple type behind the first.
 // measure: 32 * left
-#[cycle(arg_item_arg_turn_row_item_row_turn_star_factor_star_tail_star_turn_ty_arg_ty_args_ty_arrow_ty_head_ty_inner_ty_must_ty_prec_ty_round_ty_row_ty_rows_ty_seq_ty_step_ty_tail_ty_tuple)]
+#[cycle(ty)]
 fn ty_tuple(
     text: &[u8],
     toks: &[u8],
@@ -395,8 +397,8 @@ fn ty_con(
 
 // The factors of a tuple type.
 // measure: 32 * left + 6
-// advances: star-advances
-#[cycle(arg_item_arg_turn_row_item_row_turn_star_factor_star_tail_star_turn_ty_arg_ty_args_ty_arrow_ty_head_ty_inner_ty_must_ty_prec_ty_round_ty_row_ty_rows_ty_seq_ty_step_ty_tail_ty_tuple)]
+// advances: star_advances
+#[cycle(ty)]
 fn star_tail(
     text: &[u8],
     toks: &[u8],
@@ -423,7 +425,7 @@ fn star_tail(
 
 // One factor, where there is one.
 // measure: 32 * left + 5
-#[cycle(arg_item_arg_turn_row_item_row_turn_star_factor_star_tail_star_turn_ty_arg_ty_args_ty_arrow_ty_head_ty_inner_ty_must_ty_prec_ty_round_ty_row_ty_rows_ty_seq_ty_step_ty_tail_ty_tuple)]
+#[cycle(ty)]
 fn star_turn(
     text: &[u8],
     toks: &[u8],
@@ -446,7 +448,7 @@ fn star_turn(
 
 // `*` and the type behind it.
 // measure: 32 * left + 4
-#[cycle(arg_item_arg_turn_row_item_row_turn_star_factor_star_tail_star_turn_ty_arg_ty_args_ty_arrow_ty_head_ty_inner_ty_must_ty_prec_ty_round_ty_row_ty_rows_ty_seq_ty_step_ty_tail_ty_tuple)]
+#[cycle(ty)]
 fn star_factor(
     text: &[u8],
     toks: &[u8],
@@ -472,8 +474,8 @@ fn star_factor(
 
 // The rows of a record type, up to `}`.
 // measure: 32 * left + 7
-// advances: end-turn-advances true _ _ _ _
-#[cycle(arg_item_arg_turn_row_item_row_turn_star_factor_star_tail_star_turn_ty_arg_ty_args_ty_arrow_ty_head_ty_inner_ty_must_ty_prec_ty_round_ty_row_ty_rows_ty_seq_ty_step_ty_tail_ty_tuple)]
+// advances: end_turn_advances true _ _ _ _
+#[cycle(ty)]
 fn ty_rows(
     text: &[u8],
     toks: &[u8],
@@ -500,7 +502,7 @@ fn ty_rows(
 
 // `}`, or one row.
 // measure: 32 * left + 6
-#[cycle(arg_item_arg_turn_row_item_row_turn_star_factor_star_tail_star_turn_ty_arg_ty_args_ty_arrow_ty_head_ty_inner_ty_must_ty_prec_ty_round_ty_row_ty_rows_ty_seq_ty_step_ty_tail_ty_tuple)]
+#[cycle(ty)]
 fn row_turn(
     text: &[u8],
     toks: &[u8],
@@ -530,7 +532,7 @@ fn row_turn(
 
 // One row and its comma.
 // measure: 32 * left + 5
-#[cycle(arg_item_arg_turn_row_item_row_turn_star_factor_star_tail_star_turn_ty_arg_ty_args_ty_arrow_ty_head_ty_inner_ty_must_ty_prec_ty_round_ty_row_ty_rows_ty_seq_ty_step_ty_tail_ty_tuple)]
+#[cycle(ty)]
 fn row_item(
     text: &[u8],
     toks: &[u8],
@@ -559,7 +561,7 @@ fn row_item(
 
 // A label and its type.
 // measure: 32 * left + 5
-#[cycle(arg_item_arg_turn_row_item_row_turn_star_factor_star_tail_star_turn_ty_arg_ty_args_ty_arrow_ty_head_ty_inner_ty_must_ty_prec_ty_round_ty_row_ty_rows_ty_seq_ty_step_ty_tail_ty_tuple)]
+#[cycle(ty)]
 fn ty_row(
     text: &[u8],
     toks: &[u8],
@@ -580,8 +582,8 @@ fn ty_row(
 
 // The further types of a sequence, up to `)`.
 // measure: 32 * left + 7
-// advances: end-turn-advances true _ _ _ _
-#[cycle(arg_item_arg_turn_row_item_row_turn_star_factor_star_tail_star_turn_ty_arg_ty_args_ty_arrow_ty_head_ty_inner_ty_must_ty_prec_ty_round_ty_row_ty_rows_ty_seq_ty_step_ty_tail_ty_tuple)]
+// advances: end_turn_advances true _ _ _ _
+#[cycle(ty)]
 fn ty_args(
     text: &[u8],
     toks: &[u8],
@@ -608,7 +610,7 @@ fn ty_args(
 
 // `)`, or one type.
 // measure: 32 * left + 6
-#[cycle(arg_item_arg_turn_row_item_row_turn_star_factor_star_tail_star_turn_ty_arg_ty_args_ty_arrow_ty_head_ty_inner_ty_must_ty_prec_ty_round_ty_row_ty_rows_ty_seq_ty_step_ty_tail_ty_tuple)]
+#[cycle(ty)]
 fn arg_turn(
     text: &[u8],
     toks: &[u8],
@@ -638,7 +640,7 @@ fn arg_turn(
 
 // One type and its comma.
 // measure: 32 * left + 5
-#[cycle(arg_item_arg_turn_row_item_row_turn_star_factor_star_tail_star_turn_ty_arg_ty_args_ty_arrow_ty_head_ty_inner_ty_must_ty_prec_ty_round_ty_row_ty_rows_ty_seq_ty_step_ty_tail_ty_tuple)]
+#[cycle(ty)]
 fn arg_item(
     text: &[u8],
     toks: &[u8],

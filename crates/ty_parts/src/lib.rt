@@ -1,4 +1,6 @@
 // Type variables in a row: the part of ty.rs that calls no other rule.
+#![tactic(auto)]
+
 ghost use Rattle.std.specs.Prelude.{◌≡◌, true, ◌<◌};
 ghost use Rattle.grammar.specs.Prog.{Prog};
 ghost use Rattle.grammar.specs.Util as util;
@@ -11,7 +13,7 @@ use parser::{Found, Look, State, TOO_DEEP, at, at_n, bump, close, kind, peek};
 use util::eat;
 
 // The type variables of a sequence, to its `)`.
-// advances: end-turn-advances true _ _ _ _
+// advances: end_turn_advances true _ _ _ _
 fn var_args(
     text: &[u8],
     toks: &[u8],

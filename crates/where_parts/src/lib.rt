@@ -1,4 +1,6 @@
 // The part of dec.rs behind a signature: `where`.
+#![tactic(auto)]
+
 ghost use Rattle.std.specs.Prelude.{◌≡◌, true, suc, ◌<◌};
 ghost use Rattle.grammar.specs.Prog.{Prog};
 ghost use Rattle.grammar.specs.Dec as decl;
@@ -56,7 +58,7 @@ fn where_and(k: u8) -> bool
 
 // What is behind a signature that started at `b`, between `where` and `and`.
 // unfolds: decl.sig_step
-// advances: sig-step-advances
+// advances: sig_step_advances
 fn where_tails(
     text: &[u8],
     toks: &[u8],

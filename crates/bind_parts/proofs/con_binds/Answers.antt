@@ -1,0 +1,117 @@
+-- by tools/prove
+use Rattle.grammar.specs.Util as util
+use Rattle.grammar.specs.Dec as decl
+use Rattle.grammar.specs.SyntaxKind as SK
+use Rattle.laws.specs.Progress.{many_turn_advances}
+use Rattle.parser.specs.Runs.{runs_in, kind_at, kind_off, ok_bumps, ok_marks, small_len, loop_starts, loop_goes, loop_falls, loop_ends}
+use Rattle.parser.specs.Plans.{plan, choose, chosen, in_steps, s_kind, s_true, s_false, s_bump, s_close, s_mark, s_shut, hushed, s_by, s_end}
+use mathlib.Core.Path.{refl}
+use mathlib.Core.Bool.{true}
+use Rattle.bind_parts.proofs.con_binds.Goals as goal
+
+pub loop-s1-init : goal.loop-s1-init
+loop-s1-init c =
+    let pre0 = c.requires in
+    loop_starts pre0
+
+pub refuse-requires : goal.refuse-requires
+refuse-requires c =
+    tt
+
+pub returns-then-left-eq0 : goal.returns-then-left-eq0
+unfolding util.many_turn plan choose chosen hushed
+returns-then-left-eq0 c =
+    let inv = c.loop-s1.invariant in
+    let if1 = c.if-left-eq0.true in
+    let refuse = c.refuse.ensures in
+    loop_ends (many_turn_advances true SK.Bar SK.ConBind decl.con_bind _ _) inv (in_steps inv.ok {n = c.args.left} {b = c.args.b} (s_shut if1 refuse (λ k l. refl)))
+
+pub mark-s2-requires : goal.mark-s2-requires
+mark-s2-requires c =
+    tt
+
+pub con_bind-item-requires : goal.con_bind-item-requires
+con_bind-item-requires c =
+    let inv = c.loop-s1.invariant.ok in
+    let mark = c.mark-s2.ensures in
+    let mark_ok = ok_marks mark inv in
+    mark_ok
+
+pub returns-in-Missing : goal.returns-in-Missing
+unfolding util.many_turn plan choose chosen
+returns-in-Missing c =
+    let inv = c.loop-s1.invariant in
+    let if1 = c.if-left-eq0.false in
+    let mark = c.mark-s2.ensures in
+    let con_bind = c.in-Missing.ensures in
+    loop_ends (many_turn_advances true SK.Bar SK.ConBind decl.con_bind _ _) inv (in_steps inv.ok {n = c.args.left} {b = c.args.b} (s_mark if1 mark (s_by _ (runs_in con_bind) s_end)))
+
+pub at-requires : goal.at-requires
+at-requires c =
+    let con_bind = c.in-At.ensures in
+    let con_bind_ok = con_bind.ok in
+    con_bind_ok.reads
+
+pub bump-s4-requires : goal.bump-s4-requires
+bump-s4-requires c =
+    let con_bind = c.in-At.ensures in
+    let con_bind_ok = con_bind.ok in
+    (con_bind_ok.reads, con_bind_ok.logs)
+
+pub close-s1-requires : goal.close-s1-requires
+close-s1-requires c =
+    let inv = c.loop-s1.invariant.ok in
+    let mark = c.mark-s2.ensures in
+    let mark_ok = ok_marks mark inv in
+    let con_bind = c.in-At.ensures in
+    let con_bind_ok = con_bind.ok in
+    let bump = c.bump-s4.ensures in
+    let bump_ok = ok_bumps bump con_bind_ok in
+    (bump_ok.logs, small_len mark_ok)
+
+pub loop-s1-smaller : goal.loop-s1-smaller
+unfolding util.many_turn plan choose chosen
+loop-s1-smaller c =
+    let inv = c.loop-s1.invariant in
+    let if1 = c.if-left-eq0.false in
+    let mark = c.mark-s2.ensures in
+    let con_bind = c.in-At.ensures in
+    let at = c.at.ensures in
+    let if2 = c.if-at.true in
+    let bump = c.bump-s4.ensures in
+    let close = c.close-s1.ensures in
+    loop_falls (many_turn_advances true SK.Bar SK.ConBind decl.con_bind _ _) (in_steps inv.ok {n = c.args.left} {b = c.args.b} (s_mark if1 mark (s_by _ (runs_in con_bind) (s_kind (s_true _ _ (kind_at _ _ _ _ at if2) (s_bump bump (s_close close s_end)))))))
+
+pub loop-s1-preserved : goal.loop-s1-preserved
+unfolding util.many_turn plan choose chosen
+loop-s1-preserved c =
+    let inv = c.loop-s1.invariant in
+    let if1 = c.if-left-eq0.false in
+    let mark = c.mark-s2.ensures in
+    let con_bind = c.in-At.ensures in
+    let at = c.at.ensures in
+    let if2 = c.if-at.true in
+    let bump = c.bump-s4.ensures in
+    let close = c.close-s1.ensures in
+    loop_goes (many_turn_advances true SK.Bar SK.ConBind decl.con_bind _ _) inv (in_steps inv.ok {n = c.args.left} {b = c.args.b} (s_mark if1 mark (s_by _ (runs_in con_bind) (s_kind (s_true _ _ (kind_at _ _ _ _ at if2) (s_bump bump (s_close close s_end)))))))
+
+pub close-requires : goal.close-requires
+close-requires c =
+    let inv = c.loop-s1.invariant.ok in
+    let mark = c.mark-s2.ensures in
+    let mark_ok = ok_marks mark inv in
+    let con_bind = c.in-At.ensures in
+    let con_bind_ok = con_bind.ok in
+    (con_bind_ok.logs, small_len mark_ok)
+
+pub returns-in-At : goal.returns-in-At
+unfolding util.many_turn plan choose chosen
+returns-in-At c =
+    let inv = c.loop-s1.invariant in
+    let if1 = c.if-left-eq0.false in
+    let mark = c.mark-s2.ensures in
+    let con_bind = c.in-At.ensures in
+    let at = c.at.ensures in
+    let if2 = c.if-at.false in
+    let close2 = c.close.ensures in
+    loop_ends (many_turn_advances true SK.Bar SK.ConBind decl.con_bind _ _) inv (in_steps inv.ok {n = c.args.left} {b = c.args.b} (s_mark if1 mark (s_by _ (runs_in con_bind) (s_kind (s_false _ _ (kind_off _ _ _ _ at if2) (s_close close2 s_end))))))

@@ -1,0 +1,31 @@
+-- by tools/prove
+use Rattle.grammar.specs.Dec as decl
+use Rattle.parser.specs.Runs.{runs_in}
+use Rattle.parser.specs.Plans.{plan, choose, chosen, by_steps, s_by, s_end}
+use Rattle.bind_parts.proofs.dat_bind.Goals as goal
+
+pub ty_name-name-requires : goal.ty_name-name-requires
+ty_name-name-requires c =
+    let pre0 = c.requires in
+    pre0
+
+pub eq_con_binds-s2-requires : goal.eq_con_binds-s2-requires
+eq_con_binds-s2-requires c =
+    let ty_name = c.in-At.ensures in
+    let ty_name_ok = ty_name.ok in
+    ty_name_ok
+
+pub returns-in-Missing : goal.returns-in-Missing
+unfolding decl.dat_bind plan choose chosen
+returns-in-Missing c =
+    let pre0 = c.requires in
+    let ty_name = c.in-Missing.ensures in
+    by_steps pre0 (λ b. s_by _ (runs_in ty_name) s_end)
+
+pub returns-in-At : goal.returns-in-At
+unfolding decl.dat_bind plan choose chosen
+returns-in-At c =
+    let pre0 = c.requires in
+    let ty_name = c.in-At.ensures in
+    let eq_con_binds = c.eq_con_binds-s2.ensures in
+    by_steps pre0 (λ b. s_by _ (runs_in ty_name) (s_by _ (runs_in eq_con_binds) s_end))

@@ -1,0 +1,32 @@
+-- by tools/prove
+use Rattle.grammar.specs.Dec as decl
+use Rattle.parser.specs.Runs.{runs_in, ok_state}
+use Rattle.parser.specs.Plans.{plan, choose, chosen, in_steps, s_close, s_by, settled, s_end}
+use Rattle.dec_parts.proofs.str_path.Goals as goal
+
+pub path_must-got-requires : goal.path_must-got-requires
+path_must-got-requires c =
+    let pre0 = c.requires.0 in
+    pre0
+
+pub state-s1-requires : goal.state-s1-requires
+state-s1-requires c =
+    tt
+
+pub close-requires : goal.close-requires
+close-requires c =
+    let pre1 = c.requires.1 in
+    let path_must = c.path_must-got.ensures in
+    let path_must_ok = path_must.ok in
+    let state = c.state-s1.ensures in
+    let state_ok = ok_state state path_must_ok in
+    (state_ok.logs, pre1)
+
+pub returns : goal.returns
+unfolding decl.str_path plan choose chosen
+returns c =
+    let pre0 = c.requires.0 in
+    let path_must = c.path_must-got.ensures in
+    let state = c.state-s1.ensures in
+    let close = c.close.ensures in
+    in_steps pre0 (s_by _ (settled state (runs_in path_must)) (s_close close s_end))

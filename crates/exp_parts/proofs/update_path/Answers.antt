@@ -1,0 +1,55 @@
+-- by tools/prove
+use Rattle.grammar.specs.Exp as expr
+use Rattle.parser.specs.Runs.{runs_in, ok_marks, ok_state, small_len}
+use Rattle.parser.specs.Plans.{plan, choose, chosen, by_steps, s_close, s_mark, s_shut, hushed, s_by, settled, s_end}
+use mathlib.Core.Path.{refl}
+use Rattle.exp_parts.proofs.update_path.Goals as goal
+
+pub refuse-requires : goal.refuse-requires
+refuse-requires c =
+    tt
+
+pub returns-then-left-eq0 : goal.returns-then-left-eq0
+unfolding expr.update_path plan choose chosen hushed
+returns-then-left-eq0 c =
+    let pre0 = c.requires in
+    let if1 = c.if-left-eq0.true in
+    let refuse = c.refuse.ensures in
+    by_steps pre0 (λ b. s_shut if1 refuse (λ k l. refl))
+
+pub mark-s1-requires : goal.mark-s1-requires
+mark-s1-requires c =
+    tt
+
+pub path_no_infix-got-requires : goal.path_no_infix-got-requires
+path_no_infix-got-requires c =
+    let pre0 = c.requires in
+    let mark = c.mark-s1.ensures in
+    let mark_ok = ok_marks mark pre0 in
+    mark_ok
+
+pub state-s2-requires : goal.state-s2-requires
+state-s2-requires c =
+    tt
+
+pub close-requires : goal.close-requires
+close-requires c =
+    let pre0 = c.requires in
+    let mark = c.mark-s1.ensures in
+    let mark_ok = ok_marks mark pre0 in
+    let path_no_infix = c.path_no_infix-got.ensures in
+    let path_no_infix_ok = path_no_infix.ok in
+    let state = c.state-s2.ensures in
+    let state_ok = ok_state state path_no_infix_ok in
+    (state_ok.logs, small_len mark_ok)
+
+pub returns : goal.returns
+unfolding expr.update_path plan choose chosen
+returns c =
+    let pre0 = c.requires in
+    let if1 = c.if-left-eq0.false in
+    let mark = c.mark-s1.ensures in
+    let path_no_infix = c.path_no_infix-got.ensures in
+    let state = c.state-s2.ensures in
+    let close = c.close.ensures in
+    by_steps pre0 (λ b. s_mark if1 mark (s_by _ (settled state (runs_in path_no_infix)) (s_close close s_end)))

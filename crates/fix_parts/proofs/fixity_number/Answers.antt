@@ -1,0 +1,85 @@
+-- by hand: tools/prove wrote all but the last need, whose tests no code makes: the number was taken apart by `match`
+use Rattle.grammar.specs.Dec as decl
+use Rattle.parser.specs.Runs.{runs_always, ok_tells}
+use Rattle.parser.specs.Plans.{plan, choose, chosen, always, s_says, s_false, s_bump, s_report, s_by, s_end}
+use Rattle.grammar.specs.World.{negative, invalid, valid}
+use Prim.Native.Nat.{ℕ, ◌+◌, ◌-◌}
+use mathlib.Core.Bool.{false}
+use borrow.Author.Tests.{ne_eqb}
+use lib.Dec.{eqb}
+use native.Mathlib.Omega.{arith}
+use mathlib.Core.Path.{◌≡◌}
+use Rattle.fix_parts.proofs.fixity_number.Goals as goal
+
+-- a look gives `valid` more than the number, so neither of the answers that are none
+not_negative : (n : ℕ) → eqb (n + valid) negative ≡ false
+not_negative n = ne_eqb (n + valid) negative (λ e. omega arith)
+
+not_invalid : (n : ℕ) → eqb (n + valid) invalid ≡ false
+not_invalid n = ne_eqb (n + valid) invalid (λ e. omega arith)
+
+itself : (n : ℕ) → n + valid - valid ≡ n
+itself n = omega arith
+
+pub number_at-number-requires : goal.number_at-number-requires
+number_at-number-requires c =
+    let pre0 = c.requires in
+    (pre0.reads, pre0.names)
+
+pub report-s1-requires : goal.report-s1-requires
+report-s1-requires c =
+    let pre0 = c.requires in
+    (pre0.holds, (let few = pre0.reads.few in let inside = pre0.reads.inside in omega arith), omega arith)
+
+pub bump-s2-requires : goal.bump-s2-requires
+bump-s2-requires c =
+    let pre0 = c.requires in
+    let report = c.report-s1.ensures in
+    let report-ok = ok_tells report pre0 in
+    (report-ok.reads, report-ok.logs)
+
+pub report-s1-requires-in-Invalid : goal.report-s1-requires-in-Invalid
+report-s1-requires-in-Invalid c =
+    let pre0 = c.requires in
+    (pre0.holds, (let few = pre0.reads.few in let inside = pre0.reads.inside in omega arith), omega arith)
+
+pub bump-s2-requires-in-Invalid : goal.bump-s2-requires-in-Invalid
+bump-s2-requires-in-Invalid c =
+    let pre0 = c.requires in
+    let report2 = c.report-s1-in-Invalid.ensures in
+    let report2-ok = ok_tells report2 pre0 in
+    (report2-ok.reads, report2-ok.logs)
+
+pub bump-s2-requires-in-Is : goal.bump-s2-requires-in-Is
+bump-s2-requires-in-Is c =
+    let large-fixity = c.large_fixity-s1.ensures in
+    let large-fixity-ok = large-fixity.ok in
+    (large-fixity-ok.reads, large-fixity-ok.logs)
+
+pub returns-in-Negative : goal.returns-in-Negative
+unfolding decl.fixity_number plan choose chosen
+returns-in-Negative c =
+    let pre0 = c.requires in
+    let number_at = c.in-Negative.ensures in
+    let report = c.report-s1.ensures in
+    let bump = c.bump-s2.ensures in
+    always pre0 (λ n b. s_says number_at (s_report report (s_bump bump s_end)))
+
+pub returns-in-Invalid : goal.returns-in-Invalid
+unfolding decl.fixity_number plan choose chosen
+returns-in-Invalid c =
+    let pre0 = c.requires in
+    let number_at = c.in-Invalid.ensures in
+    let report2 = c.report-s1-in-Invalid.ensures in
+    let bump2 = c.bump-s2-in-Invalid.ensures in
+    always pre0 (λ n b. s_says number_at (s_report report2 (s_bump bump2 s_end)))
+
+pub returns-in-Is : goal.returns-in-Is
+unfolding decl.fixity_number plan choose chosen
+returns-in-Is c =
+    let pre0 = c.requires in
+    let number_at = c.in-Is.ensures in
+    let large-fixity = c.large_fixity-s1.ensures in
+    let bump3 = c.bump-s2-in-Is.ensures in
+    let k = c.in-Is.n in
+    always pre0 (λ n b. s_says number_at (s_false _ _ (not_negative k) (s_false _ _ (not_invalid k) (rw (itself k) (s_by _ (runs_always large-fixity) (s_bump bump3 s_end))))))

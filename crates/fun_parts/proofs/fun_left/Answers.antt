@@ -1,0 +1,61 @@
+-- by tools/prove
+use Rattle.grammar.specs.Dec as decl
+use Rattle.parser.specs.Runs.{ok_marks, ok_refused, small_len}
+use Rattle.parser.specs.Plans.{plan, choose, chosen, by_steps, s_mark, s_deep, s_by, s_run, s_end}
+use Rattle.fun_parts.proofs.fun_left.Goals as goal
+
+pub refuse-s1-requires : goal.refuse-s1-requires
+refuse-s1-requires c =
+    tt
+
+pub at_pats-requires : goal.at_pats-requires
+at_pats-requires c =
+    let pre0 = c.requires in
+    let refuse = c.refuse-s1.ensures in
+    let refuse_ok = ok_refused _ refuse pre0 in
+    refuse_ok
+
+pub returns-then-left-eq0 : goal.returns-then-left-eq0
+unfolding decl.fun_left plan choose chosen
+returns-then-left-eq0 c =
+    let pre0 = c.requires in
+    let if1 = c.if-left-eq0.true in
+    let refuse = c.refuse-s1.ensures in
+    let at_pats = c.at_pats.ensures in
+    by_steps pre0 (λ b. s_deep if1 refuse (s_run at_pats s_end))
+
+pub mark-s1-requires : goal.mark-s1-requires
+mark-s1-requires c =
+    tt
+
+pub fun_head-head-requires : goal.fun_head-head-requires
+fun_head-head-requires c =
+    let pre0 = c.requires in
+    let mark = c.mark-s1.ensures in
+    let mark_ok = ok_marks mark pre0 in
+    (mark_ok, small_len mark_ok)
+
+pub at_pats-requires-in-Missing : goal.at_pats-requires-in-Missing
+at_pats-requires-in-Missing c =
+    let fun_head = c.in-Missing.ensures in
+    let fun_head_ok = fun_head.ok in
+    fun_head_ok
+
+pub returns-in-Missing : goal.returns-in-Missing
+unfolding decl.fun_left plan choose chosen
+returns-in-Missing c =
+    let pre0 = c.requires in
+    let if1 = c.if-left-eq0.false in
+    let mark = c.mark-s1.ensures in
+    let fun_head = c.in-Missing.ensures in
+    let at_pats2 = c.at_pats-in-Missing.ensures in
+    by_steps pre0 (λ b. s_mark if1 mark (s_by _ fun_head (s_run at_pats2 s_end)))
+
+pub returns-in-At : goal.returns-in-At
+unfolding decl.fun_left plan choose chosen
+returns-in-At c =
+    let pre0 = c.requires in
+    let if1 = c.if-left-eq0.false in
+    let mark = c.mark-s1.ensures in
+    let fun_head = c.in-At.ensures in
+    by_steps pre0 (λ b. s_mark if1 mark (s_by _ fun_head s_end))

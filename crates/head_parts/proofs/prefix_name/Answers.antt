@@ -1,0 +1,95 @@
+-- by tools/prove
+use Rattle.grammar.specs.Dec as decl
+use Rattle.parser.specs.Runs.{test_true, test_false, ok_tells, small_index}
+use Rattle.parser.specs.Plans.{plan, choose, chosen, always, s_look, s_index, s_fixed, s_true, s_false, s_bump, s_report, s_end}
+use native.Mathlib.Omega.{arith}
+use Rattle.head_parts.proofs.prefix_name.Goals as goal
+
+pub peek-requires : goal.peek-requires
+peek-requires c =
+    let pre0 = c.requires in
+    pre0.reads
+
+pub report-requires : goal.report-requires
+report-requires c =
+    let pre0 = c.requires in
+    (pre0.holds, (let few = pre0.reads.few in let inside = pre0.reads.inside in omega arith), omega arith)
+
+pub returns-in_default : goal.returns-in_default
+unfolding decl.prefix_name plan choose chosen
+returns-in_default c =
+    let pre0 = c.requires in
+    let peek = c.in_default.ensures in
+    let report = c.report.ensures in
+    always pre0 (λ n b. s_look peek (s_report report s_end))
+
+pub name_star-requires : goal.name_star-requires
+name_star-requires c =
+    tt
+
+pub fixity_at-fix-requires : goal.fixity_at-fix-requires
+fixity_at-fix-requires c =
+    let pre0 = c.requires in
+    (pre0.reads, pre0.names, pre0.stands)
+
+pub bump-requires : goal.bump-requires
+bump-requires c =
+    let pre0 = c.requires in
+    (pre0.reads, pre0.logs)
+
+pub returns-in-Nonfix : goal.returns-in-Nonfix
+unfolding decl.prefix_name plan choose chosen
+returns-in-Nonfix c =
+    let pre0 = c.requires in
+    let peek = c.in-Kind.ensures in
+    let name_star = c.name_star.ensures in
+    let if1 = c.if-name_star.true in
+    let fixity_at = c.in-Nonfix.ensures in
+    let bump = c.bump.ensures in
+    always pre0 (λ n b. s_look peek (s_true _ _ (test_true name_star if1) (s_fixed fixity_at (s_bump bump s_end))))
+
+pub index-i-requires : goal.index-i-requires
+index-i-requires c =
+    tt
+
+pub report-s1-requires : goal.report-s1-requires
+report-s1-requires c =
+    let pre0 = c.requires in
+    let index = c.index-i.ensures in
+    let index_small = small_index index pre0 in
+    (pre0.holds, (let few = pre0.reads.few in let inside = pre0.reads.inside in omega arith), omega arith)
+
+pub bump-requires-in-Is : goal.bump-requires-in-Is
+bump-requires-in-Is c =
+    let pre0 = c.requires in
+    let report2 = c.report-s1.ensures in
+    let report2_ok = ok_tells report2 pre0 in
+    (report2_ok.reads, report2_ok.logs)
+
+pub returns-in-Is : goal.returns-in-Is
+unfolding decl.prefix_name plan choose chosen
+returns-in-Is c =
+    let pre0 = c.requires in
+    let peek = c.in-Kind.ensures in
+    let name_star = c.name_star.ensures in
+    let if1 = c.if-name_star.true in
+    let fixity_at = c.in-Is.ensures in
+    let index = c.index-i.ensures in
+    let report2 = c.report-s1.ensures in
+    let bump2 = c.bump-in-Is.ensures in
+    always pre0 (λ n b. s_look peek (s_true _ _ (test_true name_star if1) (s_fixed fixity_at (s_index index (s_report report2 (s_bump bump2 s_end))))))
+
+pub report-requires-2 : goal.report-requires-2
+report-requires-2 c =
+    let pre0 = c.requires in
+    (pre0.holds, (let few = pre0.reads.few in let inside = pre0.reads.inside in omega arith), omega arith)
+
+pub returns : goal.returns
+unfolding decl.prefix_name plan choose chosen
+returns c =
+    let pre0 = c.requires in
+    let peek = c.in-Kind.ensures in
+    let name_star = c.name_star.ensures in
+    let if1 = c.if-name_star.false in
+    let report3 = c.report-2.ensures in
+    always pre0 (λ n b. s_look peek (s_false _ _ (test_false name_star if1) (s_report report3 s_end)))

@@ -1,0 +1,39 @@
+-- by tools/prove
+use Rattle.grammar.specs.Dec as decl
+use Rattle.parser.specs.Plans.{plan, choose, chosen, in_steps, s_close, s_by, s_end}
+use Rattle.sharing_parts.proofs.bare_tail.Goals as goal
+
+pub sharings-more-requires : goal.sharings-more-requires
+sharings-more-requires c =
+    let pre0 = c.requires.0 in
+    pre0
+
+pub close-requires : goal.close-requires
+close-requires c =
+    let pre1 = c.requires.1 in
+    let sharings = c.in-At.ensures in
+    let sharings_ok = sharings.ok in
+    (sharings_ok.logs, pre1)
+
+pub close-requires-in-Missing : goal.close-requires-in-Missing
+close-requires-in-Missing c =
+    let pre1 = c.requires.1 in
+    let sharings = c.in-Missing.ensures in
+    let sharings_ok = sharings.ok in
+    (sharings_ok.logs, pre1)
+
+pub returns-in-At : goal.returns-in-At
+unfolding decl.bare_tail plan choose chosen
+returns-in-At c =
+    let pre0 = c.requires.0 in
+    let sharings = c.in-At.ensures in
+    let close = c.close.ensures in
+    in_steps pre0 (s_by _ sharings (s_close close s_end))
+
+pub returns-in-Missing : goal.returns-in-Missing
+unfolding decl.bare_tail plan choose chosen
+returns-in-Missing c =
+    let pre0 = c.requires.0 in
+    let sharings = c.in-Missing.ensures in
+    let close2 = c.close-in-Missing.ensures in
+    in_steps pre0 (s_by _ sharings (s_close close2 s_end))

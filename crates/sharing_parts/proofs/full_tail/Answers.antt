@@ -1,0 +1,32 @@
+-- by tools/prove
+use Rattle.grammar.specs.Dec as decl
+use Rattle.parser.specs.Runs.{ok_state}
+use Rattle.parser.specs.Plans.{plan, choose, chosen, in_steps, s_close, s_by, settled, s_end}
+use Rattle.sharing_parts.proofs.full_tail.Goals as goal
+
+pub sharings-more-requires : goal.sharings-more-requires
+sharings-more-requires c =
+    let pre0 = c.requires.0 in
+    pre0
+
+pub state-s1-requires : goal.state-s1-requires
+state-s1-requires c =
+    tt
+
+pub close-requires : goal.close-requires
+close-requires c =
+    let pre1 = c.requires.1 in
+    let sharings = c.sharings-more.ensures in
+    let sharings_ok = sharings.ok in
+    let state = c.state-s1.ensures in
+    let state_ok = ok_state state sharings_ok in
+    (state_ok.logs, pre1)
+
+pub returns : goal.returns
+unfolding decl.full_tail plan choose chosen
+returns c =
+    let pre0 = c.requires.0 in
+    let sharings = c.sharings-more.ensures in
+    let state = c.state-s1.ensures in
+    let close = c.close.ensures in
+    in_steps pre0 (s_by _ (settled state sharings) (s_close close s_end))

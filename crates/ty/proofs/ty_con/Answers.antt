@@ -1,0 +1,53 @@
+-- by tools/prove
+use Rattle.grammar.specs.Ty as types
+use Rattle.parser.specs.Runs.{runs_in, ok_marks, ok_state}
+use Rattle.parser.specs.Plans.{plan, choose, chosen, in_steps, s_close, s_mark, s_shut, hushed, s_by, settled, s_end}
+use mathlib.Core.Path.{refl}
+use Rattle.ty.proofs.ty_con.Goals as goal
+
+pub refuse-requires : goal.refuse-requires
+refuse-requires c =
+    tt
+
+pub returns-then-left-eq0 : goal.returns-then-left-eq0
+unfolding types.ty_con plan choose chosen hushed
+returns-then-left-eq0 c =
+    let pre0 = c.requires.0 in
+    let if1 = c.if-left-eq0.true in
+    let refuse = c.refuse.ensures in
+    in_steps pre0 (s_shut if1 refuse (λ k l. refl))
+
+pub mark-requires : goal.mark-requires
+mark-requires c =
+    tt
+
+pub path_must-got-requires : goal.path_must-got-requires
+path_must-got-requires c =
+    let pre0 = c.requires.0 in
+    let mark = c.mark.ensures in
+    let mark_ok = ok_marks mark pre0 in
+    mark_ok
+
+pub state-s1-requires : goal.state-s1-requires
+state-s1-requires c =
+    tt
+
+pub close-requires : goal.close-requires
+close-requires c =
+    let pre1 = c.requires.1 in
+    let path_must = c.path_must-got.ensures in
+    let path_must_ok = path_must.ok in
+    let state = c.state-s1.ensures in
+    let state_ok = ok_state state path_must_ok in
+    (state_ok.logs, pre1)
+
+pub returns : goal.returns
+unfolding types.ty_con plan choose chosen
+returns c =
+    let pre0 = c.requires.0 in
+    let if1 = c.if-left-eq0.false in
+    let mark = c.mark.ensures in
+    let path_must = c.path_must-got.ensures in
+    let state = c.state-s1.ensures in
+    let close = c.close.ensures in
+    in_steps pre0 (s_mark if1 mark (s_by _ (settled state (runs_in path_must)) (s_close close s_end)))

@@ -1,0 +1,134 @@
+-- by tools/prove
+use Rattle.grammar.specs.Dec as decl
+use Rattle.parser.specs.Runs.{runs_in, kind_at, kind_off, ok_bumps, ok_eats, ok_state}
+use Rattle.parser.specs.Plans.{plan, choose, chosen, in_steps, s_kind, s_true, s_false, s_bump, s_close, s_by, s_eats, settled, s_end}
+use native.Mathlib.Omega.{arith}
+use Rattle.where_parts.proofs.where_tail.Goals as goal
+
+pub at-requires : goal.at-requires
+at-requires c =
+    let pre0 = c.requires.0 in
+    pre0.reads
+
+pub bump-s1-requires : goal.bump-s1-requires
+bump-s1-requires c =
+    let pre0 = c.requires.0 in
+    (pre0.reads, pre0.logs)
+
+pub ty_var_seq-vars-requires : goal.ty_var_seq-vars-requires
+ty_var_seq-vars-requires c =
+    let pre0 = c.requires.0 in
+    let bump = c.bump-s1.ensures in
+    let bump_ok = ok_bumps bump pre0 in
+    bump_ok
+
+pub state-s2-requires : goal.state-s2-requires
+state-s2-requires c =
+    tt
+
+pub path_must-name-requires : goal.path_must-name-requires
+path_must-name-requires c =
+    let ty_var_seq = c.ty_var_seq-vars.ensures in
+    let ty_var_seq_ok = ty_var_seq.ok in
+    let state = c.state-s2.ensures in
+    let state_ok = ok_state state ty_var_seq_ok in
+    state_ok
+
+pub state-s3-requires : goal.state-s3-requires
+state-s3-requires c =
+    tt
+
+pub want-s4-requires : goal.want-s4-requires
+want-s4-requires c =
+    let path_must = c.path_must-name.ensures in
+    let path_must_ok = path_must.ok in
+    let state2 = c.state-s3.ensures in
+    let state2_ok = ok_state state2 path_must_ok in
+    (state2_ok.reads, state2_ok.logs, state2_ok.holds, omega arith)
+
+pub ty_must-s5-requires : goal.ty_must-s5-requires
+ty_must-s5-requires c =
+    let path_must = c.path_must-name.ensures in
+    let path_must_ok = path_must.ok in
+    let state2 = c.state-s3.ensures in
+    let state2_ok = ok_state state2 path_must_ok in
+    let want = c.want-s4.ensures in
+    let want_ok = ok_eats want state2_ok in
+    want_ok
+
+pub close-requires : goal.close-requires
+close-requires c =
+    let pre1 = c.requires.1 in
+    let ty_must = c.ty_must-s5.ensures in
+    let ty_must_ok = ty_must.ok in
+    (ty_must_ok.logs, pre1)
+
+pub returns-then-at : goal.returns-then-at
+unfolding decl.where_tail plan choose chosen
+returns-then-at c =
+    let pre0 = c.requires.0 in
+    let at = c.at.ensures in
+    let if1 = c.if-at.true in
+    let bump = c.bump-s1.ensures in
+    let ty_var_seq = c.ty_var_seq-vars.ensures in
+    let state = c.state-s2.ensures in
+    let path_must = c.path_must-name.ensures in
+    let state2 = c.state-s3.ensures in
+    let want = c.want-s4.ensures in
+    let ty_must = c.ty_must-s5.ensures in
+    let close = c.close.ensures in
+    in_steps pre0 (s_kind (s_true _ _ (kind_at _ _ _ _ at if1) (s_bump bump (s_by _ (settled state (runs_in ty_var_seq)) (s_by _ (settled state2 (runs_in path_must)) (s_eats _ _ _ want (s_by _ (runs_in ty_must) (s_close close s_end))))))))
+
+pub path_must-name-requires-2 : goal.path_must-name-requires-2
+path_must-name-requires-2 c =
+    let pre0 = c.requires.0 in
+    pre0
+
+pub state-s1-requires : goal.state-s1-requires
+state-s1-requires c =
+    tt
+
+pub want-s2-requires : goal.want-s2-requires
+want-s2-requires c =
+    let path_must2 = c.path_must-name-2.ensures in
+    let path_must2_ok = path_must2.ok in
+    let state3 = c.state-s1.ensures in
+    let state3_ok = ok_state state3 path_must2_ok in
+    (state3_ok.reads, state3_ok.logs, state3_ok.holds, omega arith)
+
+pub path_must-same-requires : goal.path_must-same-requires
+path_must-same-requires c =
+    let path_must2 = c.path_must-name-2.ensures in
+    let path_must2_ok = path_must2.ok in
+    let state3 = c.state-s1.ensures in
+    let state3_ok = ok_state state3 path_must2_ok in
+    let want2 = c.want-s2.ensures in
+    let want2_ok = ok_eats want2 state3_ok in
+    want2_ok
+
+pub state-s3-requires-2 : goal.state-s3-requires-2
+state-s3-requires-2 c =
+    tt
+
+pub close-requires-2 : goal.close-requires-2
+close-requires-2 c =
+    let pre1 = c.requires.1 in
+    let path_must3 = c.path_must-same.ensures in
+    let path_must3_ok = path_must3.ok in
+    let state4 = c.state-s3-2.ensures in
+    let state4_ok = ok_state state4 path_must3_ok in
+    (state4_ok.logs, pre1)
+
+pub returns : goal.returns
+unfolding decl.where_tail plan choose chosen
+returns c =
+    let pre0 = c.requires.0 in
+    let at = c.at.ensures in
+    let if1 = c.if-at.false in
+    let path_must2 = c.path_must-name-2.ensures in
+    let state3 = c.state-s1.ensures in
+    let want2 = c.want-s2.ensures in
+    let path_must3 = c.path_must-same.ensures in
+    let state4 = c.state-s3-2.ensures in
+    let close2 = c.close-2.ensures in
+    in_steps pre0 (s_kind (s_false _ _ (kind_off _ _ _ _ at if1) (s_by _ (settled state3 (runs_in path_must2)) (s_eats _ _ _ want2 (s_by _ (settled state4 (runs_in path_must3)) (s_close close2 s_end))))))
