@@ -1,13 +1,16 @@
 // Changes, looks and a scope's end on a full table of 256 entries and 1,024 changes. What it finds is held to `stdout`; what it costs is measured from outside, by tools/measure.
+#![tactic(auto)]
+
 ghost use Rattle.std.specs.Prelude.{◌≡◌, ◌≤◌, length};
 ghost use Rattle.sml_fixity.specs.Table.{Stands};
 ghost use Rattle.fixity_bench.specs.Bench.{Grown};
 
 use env_bytes::form::Form;
 use env_bytes::{basis, form};
-use libc::{STDIN_FILENO, STDOUT_FILENO};
+use input::read_full;
 use sml_fixity::table::{Changed, Table};
 use sml_fixity::{Fixity, Infix, table};
+use std::io;
 
 // The names of the text: the first have entries, all but the last are changed.
 const NAMES: usize = 1025;
@@ -90,51 +93,52 @@ fn find_all(text: &[u8], env: &[u8], journal: &[u8], t: Table) -> u64
 }
 
 // Writes a line.
-fn say(what: &[u8], n: u64) {
-    io::write_all(STDOUT_FILENO, what);
-    io::print_decimal(STDOUT_FILENO, n);
-    io::write_all(STDOUT_FILENO, b"\n");
+fn say(rt: &impl Print, what: &[u8], n: u64) -> io::Result<()> {
+    rt.write_all(what)?;
+    println!(rt; "{n}")
 }
 
 // The first `parts` of three: the changes, the looks in the full table, and the scope's end with the looks behind it.
-fn run(text: &[u8], env: &[u8], journal: &mut [u8], parts: usize)
+fn run(rt: &impl Print, text: &[u8], env: &[u8], journal: &mut [u8], parts: usize) -> io::Result<()>
     requires { (length text.now ≡ 8200) × (length journal.old ≡ 8192) }
 {
     let Form::Good(n) = form::form_of(env) else {
-        return;
+        return Ok(());
     };
     let start = table::begin(n);
     if parts < 1 {
-        return;
+        return Ok(());
     }
     let full = change_all(text, env, journal, start);
-    say(b"entries ", full.entries as u64);
-    say(b"changes ", full.changes as u64);
+    say(rt, b"entries ", full.entries as u64)?;
+    say(rt, b"changes ", full.changes as u64)?;
     if parts < 2 {
-        return;
+        return Ok(());
     }
     say(
+        rt,
         b"found in the full table ",
         find_all(text, env, journal, full),
-    );
+    )?;
     if parts < 3 {
-        return;
+        return Ok(());
     }
     let left = table::leave(start, full);
     say(
+        rt,
         b"found behind the scope ",
         find_all(text, env, journal, left),
-    );
+    )
 }
 
 // The input has a byte for each part that is to be run, so that their costs can be told apart.
-fn main() {
-    let mut input = io::buffer();
-    let parts = io::read_full(STDIN_FILENO, &mut input);
+fn main(rt: HostRuntime) -> io::Result<()> {
+    let mut input = [0u8; 4096];
+    let parts = read_full(&mut rt.stdin(), &mut input)?;
     let mut text = [b'f'; 8200];
     let mut env = [0u8; 3072];
     let mut journal = [0u8; 8192];
     fill_text(&mut text);
     fill_env(&text, &mut env);
-    run(&text, &env, &mut journal, parts);
+    run(&rt, &text, &env, &mut journal, parts)
 }

@@ -4,7 +4,7 @@ use Rattle.std.proofs.Common.{arith, length-append}
 use Rattle.std.proofs.Math.Option.{Option, none, some}
 use Rattle.grammar.specs.Env.{Entry, env_of, env_bytes}
 use Rattle.grammar.specs.Tokens.{records_fit, record_count}
-use Rattle.grammar.specs.Nodes.{nodes_of, nodes_bytes, find_bytes}
+use Rattle.grammar.specs.Nodes.{nodes_of, nodes_bytes}
 use Rattle.grammar.specs.World.{World}
 use Rattle.grammar.specs.World.World.{refused, on}
 use Rattle.grammar.specs.Read.{Call, Result, pad, refusal, handed, finish, no_final, no_nodes, bad_env, bad_records, bad_settings, reading, read_with, settings_fit, read}

@@ -1,11 +1,14 @@
 // The replay program: a list of cases with the Rust's answers on standard input, how many answers differ on standard output.
+#![tactic(auto)]
+
 ghost use Rattle.std.specs.Prelude.{◌≡◌, true, ◌≤◌};
 ghost use Rattle.replay_parts.specs.Form.{is_list, case_count, first_case};
 ghost use Rattle.replay_parts.specs.Agree.{differing};
 
-use libc::{STDIN_FILENO, STDOUT_FILENO};
+use input::read_full;
 use replay_parts::form::{FIRST, case_end, is_list, number};
 use run::case_agrees;
+use std::io;
 
 mod run;
 
@@ -28,23 +31,21 @@ fn count_differing(list: &[u8]) -> usize
 }
 
 // Replays a list, and writes what came of it as a line.
-fn replay(list: &[u8])
+fn replay(rt: &impl Print, list: &[u8]) -> io::Result<()>
     requires { is_list list.now ≡ true }
 {
-    io::print_decimal(STDOUT_FILENO, number(list, 0) as u64);
-    io::write_all(STDOUT_FILENO, b" answers, ");
-    io::print_decimal(STDOUT_FILENO, count_differing(list) as u64);
-    io::write_all(STDOUT_FILENO, b" differ\n");
+    print!(rt; "{} answers, ", number(list, 0))?;
+    println!(rt; "{} differ", count_differing(list))
 }
 
 // One byte more than a list may have is asked for, so that a longer input is seen.
-fn main() {
+fn main(rt: HostRuntime) -> io::Result<()> {
     let mut input = [0u8; 131073];
-    let n = io::read_full(STDIN_FILENO, &mut input);
+    let n = read_full(&mut rt.stdin(), &mut input)?;
     let list = &input[..n];
     if is_list(list) {
-        replay(list);
+        replay(&rt, list)
     } else {
-        io::write_all(STDOUT_FILENO, b"bad list\n");
+        rt.write_all(b"bad list\n")
     }
 }

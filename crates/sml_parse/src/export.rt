@@ -1,4 +1,4 @@
-// The entry for other languages: numbers and byte slices, each slice a pointer and a length.
+// The entry for other languages, which crate sml_parse_c exports: numbers and byte slices.
 ghost use Rattle.std.specs.Prelude.{◌≡◌, [], ◌∷◌, length};
 ghost use Rattle.answers.specs.Entry.{call_of, result_from, served};
 
@@ -16,10 +16,8 @@ fn put_used(used: &mut [u64], a: Answer)
 }
 
 // `read`. The answer is document 01's number; the three used lengths, of the nodes, the findings and the final environment, are left in `used`,
-// in that order. In C: `size_t sml_parse_read(const uint8_t *text, size_t text_len, .. toks, .. env, uint64_t depth, uint64_t mode,
-// uint8_t *scratch, size_t scratch_len, .. nodes, .. finds, .. last, uint64_t used[3])`.
-#[unsafe(no_mangle)]
-pub extern "C" fn sml_parse_read(
+// in that order.
+pub fn sml_parse_read(
     text: &[u8],
     toks: &[u8],
     env: &[u8],

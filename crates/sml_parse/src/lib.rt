@@ -1,4 +1,6 @@
 // The parser as it is called: sml-parse's lib.rs, with the tests of what is lent.
+#![tactic(auto)]
+
 ghost use Rattle.std.specs.Prelude.{◌≡◌, ◌≤◌, length};
 ghost use Rattle.grammar.specs.Read.{reading, finish, read};
 ghost use Rattle.sml_fixity.specs.Table.{entries_in};

@@ -76,7 +76,7 @@ fn root_turn(
 }
 
 // All that the file holds.
-// advances: root-turn-advances
+// advances: root_turn_advances
 fn root_turns(
     text: &[u8],
     toks: &[u8],
