@@ -1,4 +1,4 @@
-/* The reader of Standard ML's tokens, target/staticlib/libsml_parse.a (made by `rt staticlib sml_parse`, for x86-64). */
+/* The reader of Standard ML's tokens, target/staticlib/libsml_parse.a (made by `tools/archive`, for x86-64). */
 #ifndef SML_PARSE_H
 #define SML_PARSE_H
 

@@ -7,7 +7,7 @@ use std::process::exit;
 /// The variable that names an archive elsewhere.
 const VARIABLE: &str = "SML_PARSE_ARCHIVE";
 
-/// Where `rt staticlib sml_parse` leaves the archive, from this folder.
+/// Where `tools/archive` leaves the archive, from this folder.
 const USUAL: &str = "../../target/staticlib/libsml_parse.a";
 
 fn fail(message: &str) -> ! {
@@ -22,8 +22,8 @@ fn archive() -> PathBuf {
         Ok(path) if path.ends_with("libsml_parse.a") => path,
         Ok(path) => fail(&format!("{} is not named libsml_parse.a", path.display())),
         Err(_) => fail(&format!(
-            "there is no archive {}\nMake it: run `rt staticlib sml_parse` at the top of the \
-             repository (minutes, the first time).\nOr name one by the variable {VARIABLE}.",
+            "there is no archive {}\nMake it: run `tools/archive` at the top of the repository \
+             (many minutes, the first time).\nOr name one by the variable {VARIABLE}.",
             path.display()
         )),
     }
