@@ -33,7 +33,7 @@ use ty_prec::ARROW;
 use util::{ascription, bump_ascription, bump_if, eat, lab, name_star_eq, want};
 use where_parts::wheres;
 
-// The names of the functions are short because the proofs of a cycle of calls stand in a folder that is named by all of them.
+// The names of the functions are short: the kit that they were written for named the folder of a cycle of calls by all its members.
 
 // The least precedences: with them `pat_prec` and `exp_prec` of the source are its `pat` and `exp_opt`. And the operators that are no names.
 const ANY: PatPrec = PatPrec::Min;
