@@ -4,28 +4,29 @@ use native.Mathlib.Nat.{add-zero}
 use native.Mathlib.Numerals.{add-one}
 use native.Mathlib.Omega.{arith}
 use mathlib.Core.Path.{◌≡◌, refl, ap, ◌∙◌, sym}
-use mathlib.Core.List.{List, [], ◌∷◌, ◌++◌}
-use lib.ListN.{length, get_or, take, drop, set, length-drop, length-set}
-use lib.Seq.{take-add, drop-drop, take-set-le, drop-set-lt, drop-set-add, get_or-drop, length-take-le}
+use mathlib.Core.List.{List, [], ◌∷◌, ◌++◌, append_assoc}
+use lib.ListN.{length, get_or, take, drop, length-drop}
+use lib.Seq.{paste, take-add, drop-drop, get_or-drop, length-take-le}
+use Rattle.std.proofs.lemmas.List.Edits.{length-paste, take-paste, drop-paste}
 use Rattle.grammar.specs.World.{Find}
 use Rattle.grammar.specs.Nodes.{find_bytes}
 use Rattle.grammar.specs.Read.{pad, zeroes}
 use Rattle.parser.specs.View.{chunks, chunk_at, find_of}
 use Rattle.parser.specs.Runs.{length_chunks}
-use Rattle.answers.specs.Entry.{Bytes}
 
--- the last two bytes of eight are cleared
-eight : (xs : List ℕ) → 8 ≤ length xs
-    → take 8 (set (set xs 6 0) 7 0) ≡ get_or xs 0 0 ∷ get_or xs 1 0 ∷ get_or xs 2 0 ∷ get_or xs 3 0 ∷ get_or xs 4 0 ∷ get_or xs 5 0 ∷ 0 ∷ 0 ∷ []
-eight [] h = absurd (omega arith)
-eight (a ∷ []) h = absurd (omega arith)
-eight (a ∷ b ∷ []) h = absurd (omega arith)
-eight (a ∷ b ∷ c ∷ []) h = absurd (omega arith)
-eight (a ∷ b ∷ c ∷ d ∷ []) h = absurd (omega arith)
-eight (a ∷ b ∷ c ∷ d ∷ e ∷ []) h = absurd (omega arith)
-eight (a ∷ b ∷ c ∷ d ∷ e ∷ f ∷ []) h = absurd (omega arith)
-eight (a ∷ b ∷ c ∷ d ∷ e ∷ f ∷ g ∷ []) h = absurd (omega arith)
-eight (a ∷ b ∷ c ∷ d ∷ e ∷ f ∷ g ∷ i ∷ xs) h = refl
+-- What a buffer holds are bytes.
+pub record Bytes (xs : List ℕ) : Type 0 where
+  pub below : (i : ℕ) → get_or xs i 0 < 256
+
+-- the first six bytes
+six : (xs : List ℕ) → 6 ≤ length xs → take 6 xs ≡ get_or xs 0 0 ∷ get_or xs 1 0 ∷ get_or xs 2 0 ∷ get_or xs 3 0 ∷ get_or xs 4 0 ∷ get_or xs 5 0 ∷ []
+six [] h = absurd (omega arith)
+six (a ∷ []) h = absurd (omega arith)
+six (a ∷ b ∷ []) h = absurd (omega arith)
+six (a ∷ b ∷ c ∷ []) h = absurd (omega arith)
+six (a ∷ b ∷ c ∷ d ∷ []) h = absurd (omega arith)
+six (a ∷ b ∷ c ∷ d ∷ e ∷ []) h = absurd (omega arith)
+six (a ∷ b ∷ c ∷ d ∷ e ∷ f ∷ xs) h = refl
 
 -- one finding more
 finds_more : (fs : List Find) (f : Find) → find_bytes (fs ++ (f ∷ [])) ≡ find_bytes fs ++ find_bytes (f ∷ [])
@@ -60,32 +61,33 @@ unfolding find_bytes chunks
 seal_none xs = record { long = refl; front = refl; behind = refl }
 
 module _ (xs ys : List ℕ) (i : ℕ) (bytes : Bytes xs) (fits : 8 * i + 8 ≤ length xs) (s : Sealed xs ys i) where
-  abbrev zs : List ℕ
-  zs = set (set ys (8 * i + 6) 0) (8 * i + 7) 0
-
   -- the next finding, sealed
-  next_bytes : take 8 (drop (8 * i) zs) ≡ find_bytes (chunk_at find_of xs i ∷ [])
+  next_bytes : take 6 (drop (8 * i) ys) ++ (0 ∷ 0 ∷ []) ≡ find_bytes (chunk_at find_of xs i ∷ [])
   next_bytes =
       let r : List ℕ = drop (8 * i) xs in
-      let room : 8 ≤ length r = omega (arith, length-drop (8 * i) xs) in
+      let room : 6 ≤ length r = omega (arith, length-drop (8 * i) xs) in
       let at : (k : ℕ) → get_or r k 0 ≡ get_or xs (8 * i + k) 0 = λ k. get_or-drop (8 * i) xs k 0 in
       let first : get_or r 0 0 ≡ get_or xs (8 * i) 0 = at 0 ∙ ap (λ (k : ℕ). get_or xs k 0) (add-zero (8 * i)) in
-      ap (take 8) (drop-set-add (8 * i) (set ys (8 * i + 6) 0) 7 0
-      ∙ ap (λ (l : List ℕ). set l 7 0) (drop-set-add (8 * i) ys 6 0 ∙ ap (λ (l : List ℕ). set l 6 0) s.behind))
-      ∙ eight r room
+      ap (λ (l : List ℕ). take 6 l ++ (0 ∷ 0 ∷ [])) s.behind
+      ∙ ap (λ (l : List ℕ). l ++ (0 ∷ 0 ∷ [])) (six r room)
       ∙ rw (first, at 1, at 2, at 3, at 4, at 5) (sym (find_bytes_lem _ _ _ _ _ _ (bytes.below (8 * i + 2)) (bytes.below (8 * i + 3)) (bytes.below (8 * i + 4)) (bytes.below (8 * i + 5))))
 
-  pub seal_next : Sealed xs zs (i + 1)
+  pub seal_next : Sealed xs (paste ys (8 * i + 6) (0 ∷ 0 ∷ []) 2) (i + 1)
   unfolding chunks
   seal_next =
-      let e : 8 * (i + 1) ≡ 8 * i + 8 = omega arith in
-      let o : drop (8 * i + 8) ys ≡ drop (8 * i + 8) xs = sym (drop-drop 8 (8 * i) ys) ∙ ap (drop 8) s.behind ∙ drop-drop 8 (8 * i) xs in
+      let b = 8 * i in
+      let l = s.long in
+      let e : 8 * (i + 1) ≡ b + 6 + 2 = omega arith in
+      let e8 : b + 6 + 2 ≡ b + 8 = omega arith in
       record {
-        long = length-set (set ys (8 * i + 6) 0) (8 * i + 7) 0 ∙ length-set ys (8 * i + 6) 0 ∙ s.long;
-        front = rw (e, add-one i) (take-add (8 * i) 8 zs
-            ∙ cc (take-set-le (8 * i) (set ys (8 * i + 6) 0) (8 * i + 7) 0 (omega arith), take-set-le (8 * i) ys (8 * i + 6) 0 (omega arith), s.front, next_bytes)
+        long = length-paste ys (b + 6) (0 ∷ 0 ∷ []) 2 (omega arith) (omega arith) ∙ l;
+        front = rw (e, add-one i) (take-paste ys (b + 6) (0 ∷ 0 ∷ []) 2 (omega arith) (omega arith)
+            ∙ ap (λ (l : List ℕ). l ++ (0 ∷ 0 ∷ [])) (take-add b 6 ys)
+            ∙ append_assoc (take b ys) (take 6 (drop b ys)) (0 ∷ 0 ∷ [])
+            ∙ cc (s.front, next_bytes)
             ∙ sym (finds_more (chunks find_of xs i) (chunk_at find_of xs i)));
-        behind = rw e (drop-set-lt (8 * i + 8) (set ys (8 * i + 6) 0) (8 * i + 7) 0 (omega arith) ∙ drop-set-lt (8 * i + 8) ys (8 * i + 6) 0 (omega arith) ∙ o);
+        behind = rw e (drop-paste ys (b + 6) (0 ∷ 0 ∷ []) 2 (omega arith) (omega arith)
+            ∙ rw e8 (sym (drop-drop 8 b ys) ∙ ap (drop 8) s.behind ∙ drop-drop 8 b xs));
       }
 
 -- the findings that were sealed, and zeroes behind them

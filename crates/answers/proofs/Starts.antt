@@ -8,6 +8,7 @@ use mathlib.Core.Bool.{true, ◌&&◌, and-eq-true_iff}
 use borrow.Author.Tests.{leb-true, eqb-true}
 use lib.Dec.{leb, eqb}
 use lib.ListN.{length}
+use Rattle.std.specs.Prelude.{None}
 use Rattle.grammar.specs.Env.{Entry, env_of}
 use Rattle.grammar.specs.Tokens.{live, lists_fit, record_count}
 use Rattle.grammar.specs.World.World.{on}
@@ -50,11 +51,9 @@ start_state toks scratch finds entries mode at = record {
   room = length scratch / 8;
   found = 0;
   kept = length finds / 8;
-  fixes = 0;
-  entries = entries;
-  changes = 0;
+  fixes = record { len = 0; entries = entries; changes = 0 };
   mode = mode;
-  stop = 0;
+  stop = None;
 }
 
 module _ (text toks env table scratch finds : List ℕ) (entries mode at : ℕ) (t : Tested text toks env entries)

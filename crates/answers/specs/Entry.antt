@@ -1,5 +1,6 @@
 -- What the entry is lent and hands back, as document 01's call and result.
-use Rattle.std.specs.Prelude.{ℕ, ◌≤◌, ◌<◌, ◌≡◌, List, [], Bool, true, false, leb, length, get_or}
+use Rattle.std.specs.Prelude.{ℕ, ◌≤◌, ◌<◌, ◌≡◌, List, [], Bool, true, false, leb, length, get_or, Ok, Err}
+use Rattle.std.specs.Prelude as std
 use Rattle.std.proofs.Common.{ap, le-leb}
 use Rattle.std.proofs.Math.Option.{some}
 use Rattle.std.proofs.lemmas.Bool.{lt-leb}
@@ -7,9 +8,10 @@ use Rattle.grammar.specs.Env.{env_of}
 use Rattle.grammar.specs.Tokens.{lists_fit, records_fit, record_count}
 use Rattle.grammar.specs.Read.{Call, Result, read, pad, zeroes}
 use Rattle.env_bytes.specs.Form.{count_of}
-use Rattle.env_bytes.specs.declared.out.Copied.{Copied}
-use Rattle.env_bytes.specs.declared.out.Copied.TheVariants.{Fits, TooLong}
-use Rattle.answers.specs.declared.Answer.{Answer}
+use Rattle.env_bytes.specs.declared.out.TooLong.{TooLong}
+use Rattle.parser.specs.Refusals.{refusal_number}
+use Rattle.parser.specs.declared.refusal.Refusal.{Refusal}
+use Rattle.answers.specs.declared.Used.{Used}
 
 -- the call of these settings over what is lent, before it
 abbrev pub call_of : (text toks env : List ℕ) (depth mode : ℕ) (scratch nodes finds last : List ℕ) → Call
@@ -29,13 +31,26 @@ call_of text toks env depth mode scratch nodes finds last = record {
 abbrev pub room_of : (scratch nodes finds last : List ℕ) → Call
 room_of scratch nodes finds last = call_of [] [] [] 0 0 scratch nodes finds last
 
+-- what comes back: the used lengths, or why the call is refused
+abbrev pub Answer : Type 0
+Answer = std.Result Used Refusal
+
+-- its number, and the used lengths, which are 0 where the call is refused
+abbrev pub answer_number : Answer → ℕ
+answer_number (Ok u) = 0
+answer_number (Err why) = refusal_number why
+
+abbrev pub used_of : Answer → Used
+used_of (Ok u) = u
+used_of (Err why) = record { nodes = 0; finds = 0; last = 0 }
+
 -- the result: what comes back, and what was lent, after the call
 abbrev pub result_of : Answer → (scratch nodes finds last : List ℕ) → Result
 result_of a scratch nodes finds last = record {
-  answer = a.number;
-  nodes_used = a.nodes;
-  finds_used = a.finds;
-  final_used = a.last;
+  answer = answer_number a;
+  nodes_used = (used_of a).nodes;
+  finds_used = (used_of a).finds;
+  final_used = (used_of a).last;
   scratch = scratch;
   nodes = nodes;
   finds = finds;
@@ -108,16 +123,12 @@ pub record Tested (text toks env : List ℕ) (entries : ℕ) : Type 0 where
   pub records : records_fit (length text) toks (record_count toks) ≡ true
   pub form : count_of (env_of env) ≡ some entries
 
--- What a buffer holds are bytes.
-pub record Bytes (xs : List ℕ) : Type 0 where
-  pub below : (i : ℕ) → get_or xs i 0 < 256
-
 -- The final environment, or that it does not fit.
 pub record Held (bytes last last' : List ℕ) (n : ℕ) : Type 0 where
   pub all : n ≡ length bytes
   pub room : length bytes ≤ length last
   pub now : last' ≡ pad (length last) bytes
 
-abbrev pub Holds : List ℕ → List ℕ → List ℕ → Copied → Type 0
-Holds bytes last last' (Fits n) = Held bytes last last' n
-Holds bytes last last' TooLong = length last < length bytes
+abbrev pub Holds : List ℕ → List ℕ → List ℕ → std.Result ℕ TooLong → Type 0
+Holds bytes last last' (Ok n) = Held bytes last last' n
+Holds bytes last last' (Err e) = length last < length bytes

@@ -1,22 +1,48 @@
 -- Two outcomes of one call are equal: what the public contracts leave open is nothing.
-use Rattle.std.specs.Prelude.{ℕ, ◌≡◌, refl, List, [], ◌∷◌, length, get_or}
+use Rattle.std.specs.Prelude.{ℕ, ◌≡◌, refl, List, [], ◌∷◌, length, get_or, Option, Some, None, Ok, Err}
 use Rattle.std.proofs.Common.{arith, ap, ◌∙◌, sym}
 use Rattle.grammar.specs.Read.{Result}
-use Rattle.answers.specs.Entry.{result_of, result_from}
-use Rattle.answers.specs.declared.Answer.{Answer}
+use Rattle.parser.specs.Refusals.{refusal_number}
+use Rattle.parser.specs.declared.refusal.Refusal.{Refusal}
+use Rattle.parser.specs.declared.refusal.Refusal.TheVariants.{BadSettings, BadRecords, BadEnv, TooDeep, NoScratch, NoNodes, NoFindings, NoFixity, NoFinal, Impossible}
+use Rattle.answers.specs.declared.Used.{Used}
+use Rattle.answers.specs.Entry.{Answer, answer_number, used_of, result_of, result_from}
 
-abbrev made : (k n f l : ℕ) → Answer
-made k n f l = record { number = k; nodes = n; finds = f; last = l }
+-- the refusal of a number, or none
+abbrev refusal_at : ℕ → Option Refusal
+refusal_at n =
+    get_or (None ∷ Some BadSettings ∷ Some BadRecords ∷ Some BadEnv ∷ Some TooDeep ∷ Some NoScratch ∷ Some NoNodes ∷ Some NoFindings ∷ Some NoFixity ∷ Some NoFinal ∷ Some Impossible ∷ []) n None
 
-same_fields : {k n f l k' n' f' l' : ℕ} → k ≡ k' → n ≡ n' → f ≡ f' → l ≡ l' → made k n f l ≡ made k' n' f' l'
-same_fields p q r t = rw (p, q, r, t) refl
+at_number : (why : Refusal) → refusal_at (refusal_number why) ≡ Some why
+at_number BadSettings = refl
+at_number BadRecords = refl
+at_number BadEnv = refl
+at_number TooDeep = refl
+at_number NoScratch = refl
+at_number NoNodes = refl
+at_number NoFindings = refl
+at_number NoFixity = refl
+at_number NoFinal = refl
+at_number Impossible = refl
+
+abbrev made : (n f l : ℕ) → Used
+made n f l = record { nodes = n; finds = f; last = l }
+
+same_fields : {n f l n' f' l' : ℕ} → n ≡ n' → f ≡ f' → l ≡ l' → made n f l ≡ made n' f' l'
+same_fields q r t = rw (q, r, t) refl
+
+same_answers : (a a' : Answer) → answer_number a ≡ answer_number a' → (used_of a).nodes ≡ (used_of a').nodes → (used_of a).finds ≡ (used_of a').finds → (used_of a).last ≡ (used_of a').last → a ≡ a'
+same_answers (Ok u) (Ok u') p q r t = ap Ok (same_fields q r t)
+same_answers (Ok u) (Err why) p q r t = absurd (let e : None ≡ Some why = ap refusal_at p ∙ at_number why in cc)
+same_answers (Err why) (Ok u) p q r t = absurd (let e : None ≡ Some why = ap refusal_at (sym p) ∙ at_number why in cc)
+same_answers (Err why) (Err why') p q r t = let e : Some why ≡ Some why' = sym (at_number why) ∙ ap refusal_at p ∙ at_number why' in cc
 
 -- the buffers are the result's
 module _ (r : Result) (s n f l s' n' f' l' : List ℕ) where
   pub one_read : (a a' : Answer) → result_of a s n f l ≡ r → result_of a' s' n' f' l' ≡ r → (a ≡ a') × (s ≡ s') × (n ≡ n') × (f ≡ f') × (l ≡ l')
   one_read a a' p q =
       let e = p ∙ sym q in (
-        same_fields (ap (λ (r : Result). r.answer) e) (ap (λ (r : Result). r.nodes_used) e) (ap (λ (r : Result). r.finds_used) e) (ap (λ (r : Result). r.final_used) e),
+        same_answers a a' (ap (λ (r : Result). r.answer) e) (ap (λ (r : Result). r.nodes_used) e) (ap (λ (r : Result). r.finds_used) e) (ap (λ (r : Result). r.final_used) e),
         ap (λ (r : Result). r.scratch) e,
         ap (λ (r : Result). r.nodes) e,
         ap (λ (r : Result). r.finds) e,

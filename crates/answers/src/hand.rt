@@ -1,79 +1,58 @@
 // What a call hands out: the nodes, the findings and the final environment, with every other byte cleared.
-ghost use Rattle.std.specs.Prelude.{◌≡◌, ◌+◌, ◌*◌, ◌≤◌, ◌<◌, length, take};
+ghost use Rattle.std.specs.Prelude.{◌≡◌, ◌*◌, ◌≤◌, length};
 ghost use Rattle.grammar.specs.Env.{env_bytes};
 ghost use Rattle.grammar.specs.World.World.{on};
 ghost use Rattle.grammar.specs.Nodes.{find_bytes};
 ghost use Rattle.grammar.specs.Read.{finish, pad};
 ghost use Rattle.sml_fixity.specs.Table.{Stands, table_of};
-ghost use Rattle.parser.specs.View.{Sound, mem, now_of, table_in, chunks, find_of};
+ghost use Rattle.parser.specs.View.{Sound, mem_of, now_of, table_in, chunks, find_of};
 ghost use Rattle.node_count.specs.Log.{log_in};
 ghost use Rattle.nodes.specs.Grown.{Grown};
-ghost use Rattle.answers.specs.Entry.{Bytes, room_of, result_of, Holds};
+ghost use Rattle.answers.specs.Entry.{room_of, result_of, Holds};
 
-use crate::Answer;
 use crate::refusal::refuse_all;
+use crate::{Answer, Used};
 use clearing::clear;
 use env_bytes::out;
-use env_bytes::out::Copied;
+use env_bytes::out::TooLong;
 use node_count::node_count;
 use nodes::write_nodes;
-use parser::State;
+use parser::refusal::Refusal;
+use parser::{Lent, State};
 use sml_fixity::table::Table;
 
-// The answers that are not given before or while reading.
-const READ: usize = 0;
-
-const NO_NODES: usize = 6;
-
-const NO_FINAL: usize = 9;
-
-// Makes the two bytes behind each finding's fields 0.
-fn seal(finds: &mut [u8], found: usize)
-    requires { (8 * found ≤ length finds.old) × Bytes finds.old }
-    ensures { (take (8 * found) finds.new ≡ find_bytes (chunks find_of finds.old found)) × (length finds.new ≡ length finds.old) }
-{
-    let mut i = 0;
-    while i < found {
-        finds[8 * i + 6] = 0;
-        finds[8 * i + 7] = 0;
-        i += 1;
-    }
-}
-
-// The findings as they are handed out.
+// The findings as they are handed out: the two bytes behind each one's fields are 0, and so is the rest.
 fn finish_finds(finds: &mut [u8], found: usize)
     requires { 8 * found ≤ length finds.old }
     ensures { finds.new ≡ pad (length finds.old) (find_bytes (chunks find_of finds.old found)) }
 {
-    seal(finds, found);
+    // By index: a proof knows nothing of what was written through `chunks_exact_mut`.
+    for i in 0..found {
+        finds[8 * i + 6..8 * i + 8].fill(0);
+    }
     clear(finds, 8 * found);
 }
 
 // The final environment as it is handed out, if it fits.
-fn finish_env(text: &[u8], env: &[u8], table: &[u8], last: &mut [u8], t: Table) -> Copied
+fn finish_env(
+    text: &[u8],
+    env: &[u8],
+    table: &[u8],
+    last: &mut [u8],
+    t: Table,
+) -> Result<usize, TooLong>
     requires { Stands text.now env.now table.now t }
     ensures { Holds (env_bytes (table_of text.now env.now table.now t)) last.old last.new result }
 {
-    clear(last, 0);
-    out::copy_out(text, env, table, t, last)
+    let used = out::copy_out(text, env, table, t, last)?;
+    clear(last, used);
+    Ok(used)
 }
 
-// The fixities in force.
-fn in_force(s: State) -> Table
-    ensures { result ≡ table_in s }
-{
-    Table {
-        len: s.fixes,
-        entries: s.entries,
-        changes: s.changes,
-    }
-}
-
-// All that a reading which was not refused hands out, or the answer that it does not fit: the nodes first, then the environment.
+// All that a reading which was not refused hands out, or the answer that it does not fit: the nodes first, then the environment. The buffers stay four:
+// with them in one struct, each contract would say besides that they are still those that were lent.
 pub fn hand_out(
-    text: &[u8],
-    toks: &[u8],
-    env: &[u8],
+    lent: Lent,
     table: &[u8],
     scratch: &mut [u8],
     nodes: &mut [u8],
@@ -81,23 +60,23 @@ pub fn hand_out(
     last: &mut [u8],
     s: State,
 ) -> Answer
-    requires { Sound (mem text.now toks.now env.now table.now scratch.old finds.old s) × Grown (log_in scratch.old s.len) }
-    ensures { result_of result scratch.new nodes.new finds.new last.new ≡ finish (room_of scratch.old nodes.old finds.old last.old) (on (now_of (mem text.now toks.now env.now table.now scratch.old finds.old s))) }
+    requires { Sound (mem_of lent table.now scratch.old finds.old s) × Grown (log_in scratch.old s.len) }
+    ensures { result_of result scratch.new nodes.new finds.new last.new ≡ finish (room_of scratch.old nodes.old finds.old last.old) (on (now_of (mem_of lent.entry table.now scratch.old finds.old s))) }
 {
-    let count = node_count(scratch, s.len);
+    let log = 8 * s.len;
+    let count = node_count(&scratch[..log]);
     if nodes.len() < 4 * count {
-        return refuse_all(scratch, nodes, finds, last, NO_NODES);
+        return refuse_all(scratch, nodes, finds, last, Refusal::NoNodes);
     }
-    let Copied::Fits(used) = finish_env(text, env, table, last, in_force(s)) else {
-        return refuse_all(scratch, nodes, finds, last, NO_FINAL);
+    let Ok(last_used) = finish_env(lent.text, lent.env, table, last, s.fixes) else {
+        return refuse_all(scratch, nodes, finds, last, Refusal::NoFinal);
     };
-    write_nodes(scratch, s.len, nodes, count);
+    write_nodes(&mut scratch[..log], nodes, count);
     finish_finds(finds, s.found);
     clear(scratch, 0);
-    Answer {
-        number: READ,
+    Ok(Used {
         nodes: 4 * count,
         finds: 8 * s.found,
-        last: used,
-    }
+        last: last_used,
+    })
 }

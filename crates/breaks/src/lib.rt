@@ -1,49 +1,28 @@
 // Whether an infix name ends a climb: util.rs, `should_break`.
 #![tactic(auto)]
 
-ghost use Rattle.std.specs.Prelude.{◌≡◌, Bool, not, eqb};
+ghost use Rattle.std.specs.Prelude.{◌≡◌, Bool};
 ghost use Rattle.grammar.specs.Util as util;
-ghost use Rattle.sml_fixity.specs.Fix.{assoc_of, infix_of};
-ghost use Rattle.parser.specs.View.{Sound, mem, out_state, out_val};
+ghost use Rattle.sml_fixity.specs.Fix.{infix_of};
+ghost use Rattle.parser.specs.View.{Sound, mem_of, out_state, out_val};
 ghost use Rattle.parser.specs.Runs.{Always};
 
-use parser::{Found, NO_NAME, State, finding, report};
+use parser::finding::ErrorKind;
+use parser::{Found, Lent, State, report};
 use sml_fixity::{Assoc, Infix};
 
 // Equal precedence with unlike association.
 fn tie(op: Infix, min: Infix) -> bool
     ensures { result ≡ util.tie (infix_of op) (infix_of min) }
 {
-    let x = op.assoc;
-    let y = min.assoc;
-    if op.prec == min.prec {
-        return unlike(x, y);
-    }
-    false
-}
-
-// Whether two associations differ.
-fn unlike(x: Assoc, y: Assoc) -> bool
-    ensures { result ≡ not (eqb (assoc_of x) (assoc_of y)) }
-{
-    match x {
-        Assoc::Left => match y {
-            Assoc::Left => false,
-            Assoc::Right => true,
-        },
-        Assoc::Right => match y {
-            Assoc::Left => true,
-            Assoc::Right => false,
-        },
-    }
+    op.prec == min.prec && op.assoc != min.assoc
 }
 
 // Whether the next name binds weaker than `min`, or as strong where `min` associates to the left.
 fn weaker(op: Infix, min: Infix) -> bool
     ensures { result ≡ util.weaker (infix_of op) (infix_of min) }
 {
-    let y = min.assoc;
-    match y {
+    match min.assoc {
         Assoc::Left => op.prec <= min.prec,
         Assoc::Right => op.prec < min.prec,
     }
@@ -51,9 +30,7 @@ fn weaker(op: Infix, min: Infix) -> bool
 
 // Whether the infix name `op`, which is next, ends the climb in which the right side of `min` is open.
 pub fn should_break(
-    text: &[u8],
-    toks: &[u8],
-    env: &[u8],
+    lent: Lent,
     table: &[u8],
     scratch: &mut [u8],
     finds: &mut [u8],
@@ -61,15 +38,11 @@ pub fn should_break(
     min: Infix,
     s: State,
 ) -> Found
-    requires { Sound (mem text.now toks.now env.now table.now scratch.old finds.old s) }
-    ensures { (g : Bool) → Always (util.should_break {g = g} (infix_of op) (infix_of min)) (mem text.now toks.now env.now table.now scratch.old finds.old s) (mem text.now toks.now env.now table.now scratch.new finds.new (out_state result)) (out_val result) }
+    requires { Sound (mem_of lent table.now scratch.old finds.old s) }
+    ensures { (g : Bool) → Always (util.should_break {g = g} (infix_of op) (infix_of min)) (mem_of lent.entry table.now scratch.old finds.old s) (mem_of lent.entry table.now scratch.new finds.new (out_state result)) (out_val result) }
 {
     if tie(op, min) {
-        return Found::Missing(report(finds, finding::SAME_FIXITY_DIFF_ASSOC, 0, NO_NAME, s));
+        return Err(report(finds, ErrorKind::SameFixityDiffAssoc, s));
     }
-    if weaker(op, min) {
-        Found::At(s)
-    } else {
-        Found::Missing(s)
-    }
+    if weaker(op, min) { Ok(s) } else { Err(s) }
 }

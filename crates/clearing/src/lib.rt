@@ -8,9 +8,6 @@ ghost use Rattle.grammar.specs.Read.{zeroes};
 pub fn clear(b: &mut [u8], kept: usize)
     ensures { b.new ≡ take kept b.old ++ zeroes (length (drop kept b.old)) }
 {
-    let mut at = kept;
-    while at < b.len() {
-        b[at] = 0;
-        at += 1;
-    }
+    let kept = kept.min(b.len());
+    b[kept..].fill(0);
 }

@@ -3,10 +3,13 @@
 
 ghost use Rattle.std.specs.Prelude.{◌<◌};
 ghost use Rattle.grammar.specs.Dec as decl;
-ghost use Rattle.parser.specs.View.{Sound, mem, err_of, out_state, out_val};
+ghost use Rattle.parser.specs.Nodes.{node_number};
+ghost use Rattle.parser.specs.View.{Sound, mem_of, err_of, out_state, out_val};
 ghost use Rattle.parser.specs.Runs.{Runs, RunsIn};
 
-use parser::{Found, InfixErr, NO_NAME, State, at, bump, close, finding, kind, report};
+use parser::finding::{ErrorKind, Expected};
+use parser::node::Node;
+use parser::{Found, InfixErr, Lent, State, at, bump, close, either, kind, report};
 use pat::{pat_must, pat_prec};
 use pat_prec::PatPrec;
 use ty_parts::ty_var_seq;
@@ -17,53 +20,47 @@ const ANY: PatPrec = PatPrec::Min;
 
 // `val` or `fun`, and the type variables behind it.
 pub fn bump_vars(
-    text: &[u8],
-    toks: &[u8],
-    env: &[u8],
+    lent: Lent,
     table: &[u8],
     scratch: &mut [u8],
     finds: &mut [u8],
     left: usize,
     s: State,
 ) -> State
-    requires { Sound (mem text.now toks.now env.now table.now scratch.old finds.old s) }
-    ensures { Runs left decl.bump_vars (mem text.now toks.now env.now table.now scratch.old finds.old s) (mem text.now toks.now env.now table.now scratch.new finds.new result) 0 }
+    requires { Sound (mem_of lent table.now scratch.old finds.old s) }
+    ensures { Runs left decl.bump_vars (mem_of lent.entry table.now scratch.old finds.old s) (mem_of lent.entry table.now scratch.new finds.new result) 0 }
 {
-    let s1 = bump(toks, scratch, s);
-    let vars = ty_var_seq(text, toks, env, table, scratch, finds, left, s1);
-    vars.state()
+    let s1 = bump(lent.toks, scratch, s);
+    let vars = ty_var_seq(lent, table, scratch, finds, left, s1);
+    either(vars)
 }
 
 // The start of a functor application.
 pub fn app_start(
-    text: &[u8],
-    toks: &[u8],
-    env: &[u8],
+    lent: Lent,
     table: &[u8],
     scratch: &mut [u8],
     finds: &mut [u8],
     left: usize,
     s: State,
 ) -> State
-    requires { Sound (mem text.now toks.now env.now table.now scratch.old finds.old s) }
-    ensures { Runs left decl.app_start (mem text.now toks.now env.now table.now scratch.old finds.old s) (mem text.now toks.now env.now table.now scratch.new finds.new result) 0 }
+    requires { Sound (mem_of lent table.now scratch.old finds.old s) }
+    ensures { Runs left decl.app_start (mem_of lent.entry table.now scratch.old finds.old s) (mem_of lent.entry table.now scratch.new finds.new result) 0 }
 {
-    let s1 = bump(toks, scratch, s);
-    want(toks, scratch, finds, kind::LROUND, s1)
+    let s1 = bump(lent.toks, scratch, s);
+    want(lent.toks, scratch, finds, kind::LROUND, s1)
 }
 
 // Where something ends: the kinds of the token and of the node.
 #[derive(Clone, Copy)]
 pub struct Ending {
     pub end: u8,
-    pub node: u8,
+    pub node: Node,
 }
 
 // The end of what ends at a token, and its node.
 pub fn end_node(
-    text: &[u8],
-    toks: &[u8],
-    env: &[u8],
+    lent: Lent,
     table: &[u8],
     scratch: &mut [u8],
     finds: &mut [u8],
@@ -72,18 +69,16 @@ pub fn end_node(
     b: usize,
     s: State,
 ) -> State
-    requires { Sound (mem text.now toks.now env.now table.now scratch.old finds.old s) × (b < 4294967296) × (q.end < 128) }
-    ensures { RunsIn left b (decl.ended q.end q.node) (mem text.now toks.now env.now table.now scratch.old finds.old s) (mem text.now toks.now env.now table.now scratch.new finds.new result) 1 }
+    requires { Sound (mem_of lent table.now scratch.old finds.old s) × (b < 4294967296) × (q.end < 128) }
+    ensures { RunsIn left b (decl.ended q.end (node_number q.node)) (mem_of lent.entry table.now scratch.old finds.old s) (mem_of lent.entry table.now scratch.new finds.new result) 1 }
 {
-    let s1 = want(toks, scratch, finds, q.end, s);
+    let s1 = want(lent.toks, scratch, finds, q.end, s);
     close(scratch, q.node, b, s1)
 }
 
 // A structure that is a path.
 pub fn str_path(
-    text: &[u8],
-    toks: &[u8],
-    env: &[u8],
+    lent: Lent,
     table: &[u8],
     scratch: &mut [u8],
     finds: &mut [u8],
@@ -91,19 +86,17 @@ pub fn str_path(
     b: usize,
     s: State,
 ) -> Found
-    requires { Sound (mem text.now toks.now env.now table.now scratch.old finds.old s) × (b < 4294967296) }
-    ensures { RunsIn left b decl.str_path (mem text.now toks.now env.now table.now scratch.old finds.old s) (mem text.now toks.now env.now table.now scratch.new finds.new (out_state result)) (out_val result) }
+    requires { Sound (mem_of lent table.now scratch.old finds.old s) × (b < 4294967296) }
+    ensures { RunsIn left b decl.str_path (mem_of lent.entry table.now scratch.old finds.old s) (mem_of lent.entry table.now scratch.new finds.new (out_state result)) (out_val result) }
 {
-    let got = path_must(text, toks, env, table, scratch, finds, left, s);
-    let s1 = got.state();
-    Found::At(close(scratch, kind::PATH_STR_EXP, b, s1))
+    let got = path_must(lent, table, scratch, finds, left, s);
+    let s1 = either(got);
+    Ok(close(scratch, Node::PathStrExp, b, s1))
 }
 
 // Behind `val`: a pattern, or `rec` and a pattern.
 pub fn rec_pat(
-    text: &[u8],
-    toks: &[u8],
-    env: &[u8],
+    lent: Lent,
     table: &[u8],
     scratch: &mut [u8],
     finds: &mut [u8],
@@ -111,19 +104,17 @@ pub fn rec_pat(
     e: InfixErr,
     s: State,
 ) -> Found
-    requires { Sound (mem text.now toks.now env.now table.now scratch.old finds.old s) }
-    ensures { Runs left (decl.rec_pat (err_of e)) (mem text.now toks.now env.now table.now scratch.old finds.old s) (mem text.now toks.now env.now table.now scratch.new finds.new (out_state result)) (out_val result) }
+    requires { Sound (mem_of lent table.now scratch.old finds.old s) }
+    ensures { Runs left (decl.rec_pat (err_of e)) (mem_of lent.entry table.now scratch.old finds.old s) (mem_of lent.entry table.now scratch.new finds.new (out_state result)) (out_val result) }
 {
-    if at(toks, kind::REC_KW, s) {
-        let s1 = bump(toks, scratch, s);
-        let s2 = pat_must(text, toks, env, table, scratch, finds, left, ANY, e, s1);
-        return Found::At(s2);
+    if at(lent.toks, kind::REC_KW, s) {
+        let s1 = bump(lent.toks, scratch, s);
+        let s2 = pat_must(lent, table, scratch, finds, left, ANY, e, s1);
+        return Ok(s2);
     }
-    let got = pat_prec(text, toks, env, table, scratch, finds, left, ANY, e, s);
+    let got = pat_prec(lent, table, scratch, finds, left, ANY, e, s);
     match got {
-        Found::At(s1) => Found::At(s1),
-        Found::Missing(s1) => {
-            Found::Missing(report(finds, finding::EXPECTED, finding::PAT, NO_NAME, s1))
-        }
+        Ok(s1) => Ok(s1),
+        Err(s1) => Err(report(finds, ErrorKind::Expected(Expected::Pat), s1)),
     }
 }

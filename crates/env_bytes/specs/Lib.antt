@@ -1,3 +1,4 @@
 pub mod Basis
 pub mod Form
 pub mod Out
+pub mod Names

@@ -1,72 +1,46 @@
 // The test of an environment's byte form: whether bytes are entries in the order of their names, and how many.
-ghost use Rattle.std.specs.Prelude.{◌≡◌, ◌<◌, length, get_or, drop};
+ghost use Rattle.std.specs.Prelude.{◌≡◌};
 ghost use Rattle.grammar.specs.Bytes.{before};
-ghost use Rattle.grammar.specs.Env.{entry_fits, env_of};
-ghost use Rattle.env_bytes.specs.Form.{count_of, form_of};
+ghost use Rattle.grammar.specs.Env.{env_of};
+ghost use Rattle.env_bytes.specs.Form.{count_of, form_of, Splits};
 
-// What the test answers: the number of entries, if bytes have the form.
-#[derive(Clone, Copy)]
-pub enum Form {
-    Bad,
-    Good(usize),
-}
-
-// Whether a name comes before another, by bytes; a prefix comes first.
-pub fn before(a: &[u8], b: &[u8]) -> bool
+// Whether a name comes before another, by bytes; a prefix comes first. It is no `a < b`, with which a copy of a full table took 1.3 to 1.6 times the instructions.
+pub(crate) fn before(a: &[u8], b: &[u8]) -> bool
     ensures { result ≡ before a.now b.now }
 {
-    let mut i = 0;
-    while i < a.len() {
-        if b.len() <= i {
-            return false;
-        }
+    for i in 0..a.len().min(b.len()) {
         if a[i] != b[i] {
             return a[i] < b[i];
         }
-        i += 1;
     }
-    i < b.len()
+    a.len() < b.len()
 }
 
-// Whether bytes start with a whole entry whose name is behind `last`.
-fn entry_fits(last: &[u8], bytes: &[u8]) -> bool
-    requires { 0 < length bytes.now }
-    ensures { result ≡ entry_fits last.now (get_or bytes.now 0 0) (drop 1 bytes.now) }
+// The entry that bytes start with, if it is whole: its name, its fixity's bytes, and the bytes behind it.
+pub(crate) fn split_entry(bytes: &[u8]) -> Option<(&[u8], &[u8; 3], &[u8])>
+    ensures { Splits bytes.now result }
 {
-    let n = bytes[0] as usize;
-    if n < 1 {
-        return false;
-    }
-    if bytes.len() < n + 4 {
-        return false;
-    }
-    let start = 1;
-    let end = n + 1;
-    if !before(last, &bytes[start..end]) {
-        return false;
-    }
-    bytes[n + 3] <= 1
+    let (n, behind) = bytes.split_first()?;
+    let (name, behind) = behind.split_at_checked(*n as usize)?;
+    let (fixity, behind) = behind.split_first_chunk::<3>()?;
+    Some((name, fixity, behind))
 }
 
-// Answer 3's test. The last name is env[start..end], and the next entry is at `at`.
-pub fn form_of(env: &[u8]) -> Form
+// Answer 3's test: how many entries the bytes are, if they have the form. The bytes `left` are to have theirs after `last`.
+pub fn form_of(env: &[u8]) -> Option<usize>
     ensures { count_of (env_of env.now) ≡ form_of result }
 {
-    let mut count: usize = 0;
-    let mut start: usize = 0;
-    let mut end: usize = 0;
-    let mut at: usize = 0;
-    while at < env.len() {
-        if count == 256 {
-            return Form::Bad;
+    let mut last: &[u8] = &[];
+    let mut left = env;
+    let mut count = 0;
+    while !left.is_empty() {
+        let (name, fixity, behind) = split_entry(left)?;
+        if count == 256 || !before(last, name) || 1 < fixity[2] {
+            return None;
         }
-        if !entry_fits(&env[start..end], &env[at..]) {
-            return Form::Bad;
-        }
-        start = at + 1;
-        end = start + env[at] as usize;
-        at = end + 3;
+        last = name;
+        left = behind;
         count += 1;
     }
-    Form::Good(count)
+    Some(count)
 }

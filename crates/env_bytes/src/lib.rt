@@ -3,4 +3,5 @@
 
 pub mod basis;
 pub mod form;
+mod names;
 pub mod out;

@@ -1,4 +1,5 @@
 // Expressions and declarations: exp.rs and dec.rs, the functions that call one another.
+// Its loops over turns are the source's closures over the parser: one small loop per use (document 01).
 #![tactic(auto)]
 
 ghost use Rattle.std.specs.Prelude.{◌≡◌, Bool, true, false, ℕ, suc, ◌+◌, ◌-◌, ◌*◌, ◌<◌};
@@ -7,7 +8,8 @@ ghost use Rattle.grammar.specs.Rule.{Rule};
 ghost use Rattle.grammar.specs.Util as util;
 ghost use Rattle.grammar.specs.Exp as expr;
 ghost use Rattle.grammar.specs.Dec as decl;
-ghost use Rattle.parser.specs.View.{Sound, mem, err_of, out_state, out_val};
+ghost use Rattle.parser.specs.Nodes.{node_number};
+ghost use Rattle.parser.specs.View.{Sound, mem_of, err_of, out_state, out_val};
 ghost use Rattle.parser.specs.Runs.{Always, Runs, RunsIn};
 ghost use Rattle.exp_prec.specs.Prec.{prec_of};
 
@@ -18,18 +20,17 @@ use exp_parts::{keyword, leaf, paren_end, record_start, starts, starts_arg};
 use exp_prec::{ExpPrec, is_ascribed, is_handle, node_of, should_break_exp};
 use fun_parts::fun_left;
 use leaf_parts::leaf_dec;
-use parser::{
-    Found, InfixErr, Look, NO_NAME, State, TOO_DEEP, at, at_n, bump, close, finding, kind, peek,
-    report,
-};
+use parser::finding::{ErrorKind, Expected};
+use parser::node::Node;
+use parser::refusal::Refusal;
+use parser::{Found, InfixErr, Lent, State, at, at_n, bump, close, either, kind, peek, report};
 use pat::pat_prec;
 use pat_prec::PatPrec;
 use scopes::leave;
 use sharing_parts::{bare_tail, full_tail};
-use sml_fixity::Fixity;
 use texts::fixity_at;
 use ty::{of_ty, ty_annotation, ty_must};
-use ty_prec::ARROW;
+use ty_prec::TyPrec;
 use util::{ascription, bump_ascription, bump_if, eat, lab, name_star_eq, want};
 use where_parts::wheres;
 
@@ -53,136 +54,136 @@ const NO: InfixErr = InfixErr::No;
 
 const YES: InfixErr = InfixErr::Yes;
 
-// The arguments of `end_sep`, and the node around it. The kind of what it wraps names the closure.
+// The arguments of `end_sep`, and the node around it. The kind of what it wraps names the closure (document 01).
 #[derive(Clone, Copy)]
 pub struct EndSep {
-    pub wrap: u8,
+    pub wrap: Node,
     pub sep: u8,
     pub end: u8,
-    pub node: u8,
+    pub node: Node,
 }
 
 // Rows of a record, the elements of a list, expressions in parentheses, and those of a `let`.
 const ROWS: EndSep = EndSep {
-    wrap: kind::EXP_ROW,
+    wrap: Node::ExpRow,
     sep: kind::COMMA,
     end: kind::RCURLY,
-    node: kind::RECORD_EXP,
+    node: Node::RecordExp,
 };
 
 const LST: EndSep = EndSep {
-    wrap: kind::EXP_ARG,
+    wrap: Node::ExpArg,
     sep: kind::COMMA,
     end: kind::RSQUARE,
-    node: kind::LIST_EXP,
+    node: Node::ListExp,
 };
 
 const SEQS: EndSep = EndSep {
-    wrap: kind::EXP_IN_SEQ,
+    wrap: Node::ExpInSeq,
     sep: kind::SEMICOLON,
     end: kind::RROUND,
-    node: kind::SEQ_EXP,
+    node: Node::SeqExp,
 };
 
 const TUPS: EndSep = EndSep {
-    wrap: kind::EXP_ARG,
+    wrap: Node::ExpArg,
     sep: kind::COMMA,
     end: kind::RROUND,
-    node: kind::TUPLE_EXP,
+    node: Node::TupleExp,
 };
 
 const INS: EndSep = EndSep {
-    wrap: kind::EXP_IN_SEQ,
+    wrap: Node::ExpInSeq,
     sep: kind::SEMICOLON,
     end: kind::END_KW,
-    node: kind::LET_EXP,
+    node: Node::LetExp,
 };
 
-// The arguments of `many_sep`, and the node around it. The kind of what it wraps names the closure.
+// The arguments of `many_sep`, and the node around it. The kind of what it wraps names the closure (document 01).
 #[derive(Clone, Copy)]
 pub struct ManySep {
     pub sep: u8,
-    pub wrap: u8,
-    pub node: u8,
+    pub wrap: Node,
+    pub node: Node,
 }
 
 const MATCH: ManySep = ManySep {
     sep: kind::BAR,
-    wrap: kind::ARM,
-    node: kind::MATCHER,
+    wrap: Node::Arm,
+    node: Node::Matcher,
 };
 
 const VALS: ManySep = ManySep {
     sep: kind::AND_KW,
-    wrap: kind::VAL_BIND,
-    node: kind::VAL_DEC,
+    wrap: Node::ValBind,
+    node: Node::ValDec,
 };
 
 const FUNS: ManySep = ManySep {
     sep: kind::AND_KW,
-    wrap: kind::FUN_BIND,
-    node: kind::FUN_DEC,
+    wrap: Node::FunBind,
+    node: Node::FunDec,
 };
 
 const CASES: ManySep = ManySep {
     sep: kind::BAR,
-    wrap: kind::FUN_BIND_CASE,
-    node: kind::FUN_BIND,
+    wrap: Node::FunBindCase,
+    node: Node::FunBind,
 };
 
 const EXNS: ManySep = ManySep {
     sep: kind::AND_KW,
-    wrap: kind::EX_BIND,
-    node: kind::EX_DEC,
+    wrap: Node::ExBind,
+    node: Node::ExDec,
 };
 
 const STRS: ManySep = ManySep {
     sep: kind::AND_KW,
-    wrap: kind::STR_BIND,
-    node: kind::STRUCTURE_DEC,
+    wrap: Node::StrBind,
+    node: Node::StructureDec,
 };
 
 const SIGS: ManySep = ManySep {
     sep: kind::AND_KW,
-    wrap: kind::SIG_BIND,
-    node: kind::SIGNATURE_DEC,
+    wrap: Node::SigBind,
+    node: Node::SignatureDec,
 };
 
 const FCTS: ManySep = ManySep {
     sep: kind::AND_KW,
-    wrap: kind::FUNCTOR_BIND,
-    node: kind::FUNCTOR_DEC,
+    wrap: Node::FunctorBind,
+    node: Node::FunctorDec,
 };
 
 // Where structures, signatures and declarations end.
 const STRUCT: Ending = Ending {
     end: kind::END_KW,
-    node: kind::STRUCT_STR_EXP,
+    node: Node::StructStrExp,
 };
 
 const STR_LET: Ending = Ending {
     end: kind::END_KW,
-    node: kind::LET_STR_EXP,
+    node: Node::LetStrExp,
 };
 
 const APPLIED: Ending = Ending {
     end: kind::RROUND,
-    node: kind::APP_STR_EXP,
+    node: Node::AppStrExp,
 };
 
 const SIG: Ending = Ending {
     end: kind::END_KW,
-    node: kind::SIG_SIG_EXP,
+    node: Node::SigSigExp,
 };
 
 const ABSTYPE: Ending = Ending {
     end: kind::END_KW,
-    node: kind::ABSTYPE_DEC,
+    node: Node::AbstypeDec,
 };
 
 const LOCAL: Ending = Ending {
     end: kind::END_KW,
-    node: kind::LOCAL_DEC,
+    node: Node::LocalDec,
 };
 
 // The tokens before an expression.
@@ -195,17 +196,15 @@ const DO: u8 = kind::DO_KW;
 const EQ_GT: u8 = kind::EQ_GT;
 
 // The node of `maybe_semi_sep`, which names the closure: declarations with their tails, or single ones.
-const DECS: u8 = kind::DEC;
+const DECS: Node = Node::Dec;
 
-const INSEQ: u8 = kind::DEC_IN_SEQ;
+const INSEQ: Node = Node::DecInSeq;
 
 // `exp_prec`, or the finding that there is no expression.
 // measure: 64 * left + 6
 #[cycle(exp_dec)]
 fn exp(
-    text: &[u8],
-    toks: &[u8],
-    env: &[u8],
+    lent: Lent,
     table: &mut [u8; 8192],
     scratch: &mut [u8],
     finds: &mut [u8],
@@ -213,13 +212,13 @@ fn exp(
     min: ExpPrec,
     s: State,
 ) -> State
-    requires { Sound (mem text.now toks.now env.now table.old scratch.old finds.old s) }
-    ensures { Runs left (expr.exp_must (prec_of min)) (mem text.now toks.now env.now table.old scratch.old finds.old s) (mem text.now toks.now env.now table.new scratch.new finds.new result) 0 }
+    requires { Sound (mem_of lent table.old scratch.old finds.old s) }
+    ensures { Runs left (expr.exp_must (prec_of min)) (mem_of lent.entry table.old scratch.old finds.old s) (mem_of lent.entry table.new scratch.new finds.new result) 0 }
 {
-    let got = pre(text, toks, env, table, scratch, finds, left, min, s);
+    let got = pre(lent, table, scratch, finds, left, min, s);
     match got {
-        Found::At(s1) => s1,
-        Found::Missing(s1) => report(finds, finding::EXPECTED, finding::EXP, NO_NAME, s1),
+        Ok(s1) => s1,
+        Err(s1) => report(finds, ErrorKind::Expected(Expected::Exp), s1),
     }
 }
 
@@ -229,9 +228,7 @@ fn exp(
 // shuts: expr.exp_rest expr.at_exp
 #[cycle(exp_dec)]
 fn pre(
-    text: &[u8],
-    toks: &[u8],
-    env: &[u8],
+    lent: Lent,
     table: &mut [u8; 8192],
     scratch: &mut [u8],
     finds: &mut [u8],
@@ -239,32 +236,30 @@ fn pre(
     min: ExpPrec,
     s: State,
 ) -> Found
-    requires { Sound (mem text.now toks.now env.now table.old scratch.old finds.old s) }
-    ensures { Runs left (Prog.call (Rule.exp_prec (prec_of min))) (mem text.now toks.now env.now table.old scratch.old finds.old s) (mem text.now toks.now env.now table.new scratch.new finds.new (out_state result)) (out_val result) }
+    requires { Sound (mem_of lent table.old scratch.old finds.old s) }
+    ensures { Runs left (Prog.call (Rule.exp_prec (prec_of min))) (mem_of lent.entry table.old scratch.old finds.old s) (mem_of lent.entry table.new scratch.new finds.new (out_state result)) (out_val result) }
 {
-    let Look::Kind(k) = peek(toks, s) else {
-        return Found::Missing(s);
+    let Some(k) = peek(lent.toks, s) else {
+        return Err(s);
     };
     if left == 0 {
-        return Found::Missing(s.refuse(TOO_DEEP));
+        return Err(s.refuse(Refusal::TooDeep));
     }
     let b = s.len;
     let s1 = s.mark();
     if starts(k) {
-        let s2 = keyword(text, toks, env, table, scratch, finds, k, min, s1);
-        let s3 = kw(text, toks, env, table, scratch, finds, left - 1, k, b, s2);
-        return Found::At(s3);
+        let s2 = keyword(lent, table, scratch, finds, k, min, s1);
+        let s3 = kw(lent, table, scratch, finds, left - 1, k, b, s2);
+        return Ok(s3);
     }
-    rst(text, toks, env, table, scratch, finds, left, min, b, s1)
+    rst(lent, table, scratch, finds, left, min, b, s1)
 }
 
 // What is behind a keyword that starts an expression, to the end of its node.
 // measure: 64 * left + 8
 #[cycle(exp_dec)]
 fn kw(
-    text: &[u8],
-    toks: &[u8],
-    env: &[u8],
+    lent: Lent,
     table: &mut [u8; 8192],
     scratch: &mut [u8],
     finds: &mut [u8],
@@ -273,38 +268,36 @@ fn kw(
     b: usize,
     s: State,
 ) -> State
-    requires { Sound (mem text.now toks.now env.now table.old scratch.old finds.old s) × (b < 4294967296) }
-    ensures { RunsIn left b (expr.keyed (suc k)) (mem text.now toks.now env.now table.old scratch.old finds.old s) (mem text.now toks.now env.now table.new scratch.new finds.new result) 0 }
+    requires { Sound (mem_of lent table.old scratch.old finds.old s) × (b < 4294967296) }
+    ensures { RunsIn left b (expr.keyed (suc k)) (mem_of lent.entry table.old scratch.old finds.old s) (mem_of lent.entry table.new scratch.new finds.new result) 0 }
 {
     if k == kind::FN_KW {
-        let s1 = mat(text, toks, env, table, scratch, finds, left, s);
-        return close(scratch, kind::FN_EXP, b, s1);
+        let s1 = mat(lent, table, scratch, finds, left, s);
+        return close(scratch, Node::FnExp, b, s1);
     }
-    let s1 = exp(text, toks, env, table, scratch, finds, left, MIN, s);
+    let s1 = exp(lent, table, scratch, finds, left, MIN, s);
     if k == kind::RAISE_KW {
-        return close(scratch, kind::RAISE_EXP, b, s1);
+        return close(scratch, Node::RaiseExp, b, s1);
     }
     if k == kind::IF_KW {
-        let s2 = we(text, toks, env, table, scratch, finds, left, THEN, s1);
-        let s3 = we(text, toks, env, table, scratch, finds, left, ELSE, s2);
-        return close(scratch, kind::IF_EXP, b, s3);
+        let s2 = we(lent, table, scratch, finds, left, THEN, s1);
+        let s3 = we(lent, table, scratch, finds, left, ELSE, s2);
+        return close(scratch, Node::IfExp, b, s3);
     }
     if k == kind::WHILE_KW {
-        let s2 = we(text, toks, env, table, scratch, finds, left, DO, s1);
-        return close(scratch, kind::WHILE_EXP, b, s2);
+        let s2 = we(lent, table, scratch, finds, left, DO, s1);
+        return close(scratch, Node::WhileExp, b, s2);
     }
-    let s2 = want(toks, scratch, finds, kind::OF_KW, s1);
-    let s3 = mat(text, toks, env, table, scratch, finds, left, s2);
-    close(scratch, kind::CASE_EXP, b, s3)
+    let s2 = want(lent.toks, scratch, finds, kind::OF_KW, s1);
+    let s3 = mat(lent, table, scratch, finds, left, s2);
+    close(scratch, Node::CaseExp, b, s3)
 }
 
 // A token of the kind `k`, and an expression.
 // measure: 64 * left + 7
 #[cycle(exp_dec)]
 fn we(
-    text: &[u8],
-    toks: &[u8],
-    env: &[u8],
+    lent: Lent,
     table: &mut [u8; 8192],
     scratch: &mut [u8],
     finds: &mut [u8],
@@ -312,11 +305,11 @@ fn we(
     k: u8,
     s: State,
 ) -> State
-    requires { Sound (mem text.now toks.now env.now table.old scratch.old finds.old s) × (k < 128) }
-    ensures { Runs left (expr.want_exp k) (mem text.now toks.now env.now table.old scratch.old finds.old s) (mem text.now toks.now env.now table.new scratch.new finds.new result) 0 }
+    requires { Sound (mem_of lent table.old scratch.old finds.old s) × (k < 128) }
+    ensures { Runs left (expr.want_exp k) (mem_of lent.entry table.old scratch.old finds.old s) (mem_of lent.entry table.new scratch.new finds.new result) 0 }
 {
-    let s1 = want(toks, scratch, finds, k, s);
-    exp(text, toks, env, table, scratch, finds, left, MIN, s1)
+    let s1 = want(lent.toks, scratch, finds, k, s);
+    exp(lent, table, scratch, finds, left, MIN, s1)
 }
 
 // An atomic expression, and the arguments and operators behind it.
@@ -324,9 +317,7 @@ fn we(
 // unfolds: expr.at_exp
 #[cycle(exp_dec)]
 fn rst(
-    text: &[u8],
-    toks: &[u8],
-    env: &[u8],
+    lent: Lent,
     table: &mut [u8; 8192],
     scratch: &mut [u8],
     finds: &mut [u8],
@@ -335,23 +326,23 @@ fn rst(
     b: usize,
     s: State,
 ) -> Found
-    requires { Sound (mem text.now toks.now env.now table.old scratch.old finds.old s) × (b < 4294967296) }
-    ensures { RunsIn left b (expr.exp_rest (prec_of min)) (mem text.now toks.now env.now table.old scratch.old finds.old s) (mem text.now toks.now env.now table.new scratch.new finds.new (out_state result)) (out_val result) }
+    requires { Sound (mem_of lent table.old scratch.old finds.old s) × (b < 4294967296) }
+    ensures { RunsIn left b (expr.exp_rest (prec_of min)) (mem_of lent.entry table.old scratch.old finds.old s) (mem_of lent.entry table.new scratch.new finds.new (out_state result)) (out_val result) }
 {
-    let Look::Kind(k) = peek(toks, s) else {
-        return Found::Missing(s);
+    let Some(k) = peek(lent.toks, s) else {
+        return Err(s);
     };
     if left == 0 {
-        return Found::Missing(s.refuse(TOO_DEEP));
+        return Err(s.refuse(Refusal::TooDeep));
     }
     let s1 = s.mark();
     let c = s1.len;
-    let head = atm(text, toks, env, table, scratch, finds, left - 1, k, c, s1);
+    let head = atm(lent, table, scratch, finds, left - 1, k, c, s1);
     match head {
-        Found::Missing(s2) => Found::Missing(s2),
-        Found::At(s2) => {
-            let s3 = ops(text, toks, env, table, scratch, finds, left, min, b, s2);
-            Found::At(s3)
+        Err(s2) => Err(s2),
+        Ok(s2) => {
+            let s3 = ops(lent, table, scratch, finds, left, min, b, s2);
+            Ok(s3)
         }
     }
 }
@@ -361,9 +352,7 @@ fn rst(
 // advances: exp_step_advances _
 #[cycle(exp_dec)]
 fn ops(
-    text: &[u8],
-    toks: &[u8],
-    env: &[u8],
+    lent: Lent,
     table: &mut [u8; 8192],
     scratch: &mut [u8],
     finds: &mut [u8],
@@ -372,15 +361,15 @@ fn ops(
     b: usize,
     s: State,
 ) -> State
-    requires { Sound (mem text.now toks.now env.now table.old scratch.old finds.old s) × (b < 4294967296) }
-    ensures { RunsIn left b (Prog.loop (expr.exp_step (prec_of min))) (mem text.now toks.now env.now table.old scratch.old finds.old s) (mem text.now toks.now env.now table.new scratch.new finds.new result) 0 }
+    requires { Sound (mem_of lent table.old scratch.old finds.old s) × (b < 4294967296) }
+    ensures { RunsIn left b (Prog.loop (expr.exp_step (prec_of min))) (mem_of lent.entry table.old scratch.old finds.old s) (mem_of lent.entry table.new scratch.new finds.new result) 0 }
 {
     let mut s1 = s;
     loop {
-        let turn = stp(text, toks, env, table, scratch, finds, left, min, b, s1);
+        let turn = stp(lent, table, scratch, finds, left, min, b, s1);
         match turn {
-            Found::At(s2) => s1 = s2,
-            Found::Missing(s2) => return s2,
+            Ok(s2) => s1 = s2,
+            Err(s2) => return s2,
         }
     }
 }
@@ -389,9 +378,7 @@ fn ops(
 // measure: 64 * left + 2
 #[cycle(exp_dec)]
 fn stp(
-    text: &[u8],
-    toks: &[u8],
-    env: &[u8],
+    lent: Lent,
     table: &mut [u8; 8192],
     scratch: &mut [u8],
     finds: &mut [u8],
@@ -400,40 +387,38 @@ fn stp(
     b: usize,
     s: State,
 ) -> Found
-    requires { Sound (mem text.now toks.now env.now table.old scratch.old finds.old s) × (b < 4294967296) }
-    ensures { RunsIn left b (expr.exp_step (prec_of min)) (mem text.now toks.now env.now table.old scratch.old finds.old s) (mem text.now toks.now env.now table.new scratch.new finds.new (out_state result)) (out_val result) }
+    requires { Sound (mem_of lent table.old scratch.old finds.old s) × (b < 4294967296) }
+    ensures { RunsIn left b (expr.exp_step (prec_of min)) (mem_of lent.entry table.old scratch.old finds.old s) (mem_of lent.entry table.new scratch.new finds.new (out_state result)) (out_val result) }
 {
-    let Look::Kind(k) = peek(toks, s) else {
-        return Found::Missing(s);
+    let Some(k) = peek(lent.toks, s) else {
+        return Err(s);
     };
     if name_star_eq(k) {
-        return id(text, toks, env, table, scratch, finds, left, min, b, s);
+        return id(lent, table, scratch, finds, left, min, b, s);
     }
     if ascription(k) {
-        return opr(text, toks, env, table, scratch, finds, left, TYP, min, b, s);
+        return opr(lent, table, scratch, finds, left, TYP, min, b, s);
     }
     if k == kind::ANDALSO_KW {
-        return opr(text, toks, env, table, scratch, finds, left, AND, min, b, s);
+        return opr(lent, table, scratch, finds, left, AND, min, b, s);
     }
     if k == kind::ORELSE_KW {
-        return opr(text, toks, env, table, scratch, finds, left, OR, min, b, s);
+        return opr(lent, table, scratch, finds, left, OR, min, b, s);
     }
     if k == kind::HANDLE_KW {
-        return opr(text, toks, env, table, scratch, finds, left, HDL, min, b, s);
+        return opr(lent, table, scratch, finds, left, HDL, min, b, s);
     }
     if starts_arg(k) {
-        return Found::At(app(text, toks, env, table, scratch, finds, left, b, s));
+        return Ok(app(lent, table, scratch, finds, left, b, s));
     }
-    Found::Missing(s)
+    Err(s)
 }
 
 // A name: an argument, or an infix operator.
 // measure: 64 * left + 1
 #[cycle(exp_dec)]
 fn id(
-    text: &[u8],
-    toks: &[u8],
-    env: &[u8],
+    lent: Lent,
     table: &mut [u8; 8192],
     scratch: &mut [u8],
     finds: &mut [u8],
@@ -442,18 +427,18 @@ fn id(
     b: usize,
     s: State,
 ) -> Found
-    requires { Sound (mem text.now toks.now env.now table.old scratch.old finds.old s) × (b < 4294967296) }
-    ensures { RunsIn left b (expr.name_step (prec_of min)) (mem text.now toks.now env.now table.old scratch.old finds.old s) (mem text.now toks.now env.now table.new scratch.new finds.new (out_state result)) (out_val result) }
+    requires { Sound (mem_of lent table.old scratch.old finds.old s) × (b < 4294967296) }
+    ensures { RunsIn left b (expr.name_step (prec_of min)) (mem_of lent.entry table.old scratch.old finds.old s) (mem_of lent.entry table.new scratch.new finds.new (out_state result)) (out_val result) }
 {
-    let fix = fixity_at(text, toks, env, table, 0, s);
+    let fix = fixity_at(lent, table, 0, s);
     match fix {
-        Fixity::Nonfix => {
-            let s1 = app(text, toks, env, table, scratch, finds, left, b, s);
-            Found::At(s1)
+        None => {
+            let s1 = app(lent, table, scratch, finds, left, b, s);
+            Ok(s1)
         }
-        Fixity::Is(i) => {
+        Some(i) => {
             let op = ExpPrec::Infix(i);
-            opr(text, toks, env, table, scratch, finds, left, op, min, b, s)
+            opr(lent, table, scratch, finds, left, op, min, b, s)
         }
     }
 }
@@ -462,9 +447,7 @@ fn id(
 // measure: 64 * left
 #[cycle(exp_dec)]
 fn opr(
-    text: &[u8],
-    toks: &[u8],
-    env: &[u8],
+    lent: Lent,
     table: &mut [u8; 8192],
     scratch: &mut [u8],
     finds: &mut [u8],
@@ -474,20 +457,20 @@ fn opr(
     b: usize,
     s: State,
 ) -> Found
-    requires { Sound (mem text.now toks.now env.now table.old scratch.old finds.old s) × (b < 4294967296) }
-    ensures { RunsIn left b (expr.climb (prec_of op) (prec_of min)) (mem text.now toks.now env.now table.old scratch.old finds.old s) (mem text.now toks.now env.now table.new scratch.new finds.new (out_state result)) (out_val result) }
+    requires { Sound (mem_of lent table.old scratch.old finds.old s) × (b < 4294967296) }
+    ensures { RunsIn left b (expr.climb (prec_of op) (prec_of min)) (mem_of lent.entry table.old scratch.old finds.old s) (mem_of lent.entry table.new scratch.new finds.new (out_state result)) (out_val result) }
 {
-    let ends = should_break_exp(text, toks, env, table, scratch, finds, op, min, s);
+    let ends = should_break_exp(lent, table, scratch, finds, op, min, s);
     match ends {
-        Found::At(s1) => Found::Missing(s1),
-        Found::Missing(s1) => {
+        Ok(s1) => Err(s1),
+        Err(s1) => {
             if left == 0 {
-                return Found::At(s1.refuse(TOO_DEEP));
+                return Ok(s1.refuse(Refusal::TooDeep));
             }
             let s2 = s1.mark();
-            let s3 = bump(toks, scratch, s2);
-            let s4 = rhs(text, toks, env, table, scratch, finds, left - 1, op, b, s3);
-            Found::At(s4)
+            let s3 = bump(lent.toks, scratch, s2);
+            let s4 = rhs(lent, table, scratch, finds, left - 1, op, b, s3);
+            Ok(s4)
         }
     }
 }
@@ -497,9 +480,7 @@ fn opr(
 // rewrites: node_of
 #[cycle(exp_dec)]
 fn rhs(
-    text: &[u8],
-    toks: &[u8],
-    env: &[u8],
+    lent: Lent,
     table: &mut [u8; 8192],
     scratch: &mut [u8],
     finds: &mut [u8],
@@ -508,18 +489,18 @@ fn rhs(
     b: usize,
     s: State,
 ) -> State
-    requires { Sound (mem text.now toks.now env.now table.old scratch.old finds.old s) × (b < 4294967296) }
-    ensures { RunsIn left b (expr.right_side (prec_of op)) (mem text.now toks.now env.now table.old scratch.old finds.old s) (mem text.now toks.now env.now table.new scratch.new finds.new result) 0 }
+    requires { Sound (mem_of lent table.old scratch.old finds.old s) × (b < 4294967296) }
+    ensures { RunsIn left b (expr.right_side (prec_of op)) (mem_of lent.entry table.old scratch.old finds.old s) (mem_of lent.entry table.new scratch.new finds.new result) 0 }
 {
     if is_ascribed(op) {
-        let s1 = ty_must(text, toks, env, table, scratch, finds, left, ARROW, s);
-        return close(scratch, kind::TYPED_EXP, b, s1);
+        let s1 = ty_must(lent, table, scratch, finds, left, TyPrec::Arrow, s);
+        return close(scratch, Node::TypedExp, b, s1);
     }
     if is_handle(op) {
-        let s1 = mat(text, toks, env, table, scratch, finds, left, s);
-        return close(scratch, kind::HANDLE_EXP, b, s1);
+        let s1 = mat(lent, table, scratch, finds, left, s);
+        return close(scratch, Node::HandleExp, b, s1);
     }
-    let s1 = exp(text, toks, env, table, scratch, finds, left, op, s);
+    let s1 = exp(lent, table, scratch, finds, left, op, s);
     let node = node_of(op);
     close(scratch, node, b, s1)
 }
@@ -528,9 +509,7 @@ fn rhs(
 // measure: 64 * left
 #[cycle(exp_dec)]
 fn app(
-    text: &[u8],
-    toks: &[u8],
-    env: &[u8],
+    lent: Lent,
     table: &mut [u8; 8192],
     scratch: &mut [u8],
     finds: &mut [u8],
@@ -538,15 +517,15 @@ fn app(
     b: usize,
     s: State,
 ) -> State
-    requires { Sound (mem text.now toks.now env.now table.old scratch.old finds.old s) × (b < 4294967296) }
-    ensures { RunsIn left b (expr.app_exp {g = false}) (mem text.now toks.now env.now table.old scratch.old finds.old s) (mem text.now toks.now env.now table.new scratch.new finds.new result) 0 }
+    requires { Sound (mem_of lent table.old scratch.old finds.old s) × (b < 4294967296) }
+    ensures { RunsIn left b (expr.app_exp {g = false}) (mem_of lent.entry table.old scratch.old finds.old s) (mem_of lent.entry table.new scratch.new finds.new result) 0 }
 {
     if left == 0 {
-        return s.refuse(TOO_DEEP);
+        return s.refuse(Refusal::TooDeep);
     }
     let s1 = s.mark();
-    let s2 = arg(text, toks, env, table, scratch, finds, left - 1, s1);
-    close(scratch, kind::APP_EXP, b, s2)
+    let s2 = arg(lent, table, scratch, finds, left - 1, s1);
+    close(scratch, Node::AppExp, b, s2)
 }
 
 // `at_exp`, or the finding that there is no expression.
@@ -554,30 +533,28 @@ fn app(
 // unfolds: expr.at_exp
 #[cycle(exp_dec)]
 fn arg(
-    text: &[u8],
-    toks: &[u8],
-    env: &[u8],
+    lent: Lent,
     table: &mut [u8; 8192],
     scratch: &mut [u8],
     finds: &mut [u8],
     left: usize,
     s: State,
 ) -> State
-    requires { Sound (mem text.now toks.now env.now table.old scratch.old finds.old s) }
-    ensures { Runs left expr.at_exp_must (mem text.now toks.now env.now table.old scratch.old finds.old s) (mem text.now toks.now env.now table.new scratch.new finds.new result) 0 }
+    requires { Sound (mem_of lent table.old scratch.old finds.old s) }
+    ensures { Runs left expr.at_exp_must (mem_of lent.entry table.old scratch.old finds.old s) (mem_of lent.entry table.new scratch.new finds.new result) 0 }
 {
-    let Look::Kind(k) = peek(toks, s) else {
-        return report(finds, finding::EXPECTED, finding::EXP, NO_NAME, s);
+    let Some(k) = peek(lent.toks, s) else {
+        return report(finds, ErrorKind::Expected(Expected::Exp), s);
     };
     if left == 0 {
-        return s.refuse(TOO_DEEP);
+        return s.refuse(Refusal::TooDeep);
     }
     let s1 = s.mark();
     let b = s1.len;
-    let got = atm(text, toks, env, table, scratch, finds, left - 1, k, b, s1);
+    let got = atm(lent, table, scratch, finds, left - 1, k, b, s1);
     match got {
-        Found::At(s2) => s2,
-        Found::Missing(s2) => report(finds, finding::EXPECTED, finding::EXP, NO_NAME, s2),
+        Ok(s2) => s2,
+        Err(s2) => report(finds, ErrorKind::Expected(Expected::Exp), s2),
     }
 }
 
@@ -586,9 +563,7 @@ fn arg(
 // unfolds: expr.end_closure util.choose
 #[cycle(exp_dec)]
 fn atm(
-    text: &[u8],
-    toks: &[u8],
-    env: &[u8],
+    lent: Lent,
     table: &mut [u8; 8192],
     scratch: &mut [u8],
     finds: &mut [u8],
@@ -597,30 +572,30 @@ fn atm(
     b: usize,
     s: State,
 ) -> Found
-    requires { Sound (mem text.now toks.now env.now table.old scratch.old finds.old s) × (b < 4294967296) }
-    ensures { RunsIn left b (expr.at_exp_head (suc k)) (mem text.now toks.now env.now table.old scratch.old finds.old s) (mem text.now toks.now env.now table.new scratch.new finds.new (out_state result)) (out_val result) }
+    requires { Sound (mem_of lent table.old scratch.old finds.old s) × (b < 4294967296) }
+    ensures { RunsIn left b (expr.at_exp_head (suc k)) (mem_of lent.entry table.old scratch.old finds.old s) (mem_of lent.entry table.new scratch.new finds.new (out_state result)) (out_val result) }
 {
     if k == kind::LCURLY {
-        let s1 = record_start(text, toks, env, table, scratch, finds, left, s);
-        let s2 = cl(text, toks, env, table, scratch, finds, left, ROWS, b, s1);
-        return Found::At(s2);
+        let s1 = record_start(lent, table, scratch, finds, left, s);
+        let s2 = cl(lent, table, scratch, finds, left, ROWS, b, s1);
+        return Ok(s2);
     }
     if k == kind::HASH {
-        return hs(text, toks, env, table, scratch, finds, left, b, s);
+        return hs(lent, table, scratch, finds, left, b, s);
     }
     if k == kind::LROUND {
-        let s1 = bump(toks, scratch, s);
-        return rnd(text, toks, env, table, scratch, finds, left, b, s1);
+        let s1 = bump(lent.toks, scratch, s);
+        return rnd(lent, table, scratch, finds, left, b, s1);
     }
     if k == kind::LSQUARE {
-        let s1 = bump(toks, scratch, s);
-        let s2 = cl(text, toks, env, table, scratch, finds, left, LST, b, s1);
-        return Found::At(s2);
+        let s1 = bump(lent.toks, scratch, s);
+        let s2 = cl(lent, table, scratch, finds, left, LST, b, s1);
+        return Ok(s2);
     }
     if k == kind::LET_KW {
-        return lex(text, toks, env, table, scratch, finds, left, b, s);
+        return lex(lent, table, scratch, finds, left, b, s);
     }
-    leaf(text, toks, env, table, scratch, finds, left, k, b, s)
+    leaf(lent, table, scratch, finds, left, k, b, s)
 }
 
 // `#`: a vector, or a selector.
@@ -628,9 +603,7 @@ fn atm(
 // unfolds: expr.end_closure util.choose
 #[cycle(exp_dec)]
 fn hs(
-    text: &[u8],
-    toks: &[u8],
-    env: &[u8],
+    lent: Lent,
     table: &mut [u8; 8192],
     scratch: &mut [u8],
     finds: &mut [u8],
@@ -638,22 +611,22 @@ fn hs(
     b: usize,
     s: State,
 ) -> Found
-    requires { Sound (mem text.now toks.now env.now table.old scratch.old finds.old s) × (b < 4294967296) }
-    ensures { RunsIn left b expr.hash_exp (mem text.now toks.now env.now table.old scratch.old finds.old s) (mem text.now toks.now env.now table.new scratch.new finds.new (out_state result)) (out_val result) }
+    requires { Sound (mem_of lent table.old scratch.old finds.old s) × (b < 4294967296) }
+    ensures { RunsIn left b expr.hash_exp (mem_of lent.entry table.old scratch.old finds.old s) (mem_of lent.entry table.new scratch.new finds.new (out_state result)) (out_val result) }
 {
-    let s1 = bump(toks, scratch, s);
-    if at(toks, kind::LSQUARE, s1) {
+    let s1 = bump(lent.toks, scratch, s);
+    if at(lent.toks, kind::LSQUARE, s1) {
         if left == 0 {
-            return Found::At(s1.refuse(TOO_DEEP));
+            return Ok(s1.refuse(Refusal::TooDeep));
         }
         let s2 = s1.mark();
         let c = s2.len;
-        let s3 = bump(toks, scratch, s2);
-        let s4 = cl(text, toks, env, table, scratch, finds, left - 1, LST, c, s3);
-        return Found::At(close(scratch, kind::VECTOR_EXP, b, s4));
+        let s3 = bump(lent.toks, scratch, s2);
+        let s4 = cl(lent, table, scratch, finds, left - 1, LST, c, s3);
+        return Ok(close(scratch, Node::VectorExp, b, s4));
     }
-    let s2 = lab(toks, scratch, finds, s1);
-    Found::At(close(scratch, kind::SELECTOR_EXP, b, s2))
+    let s2 = lab(lent.toks, scratch, finds, s1);
+    Ok(close(scratch, Node::SelectorExp, b, s2))
 }
 
 // `at_exp_l_round`: what is behind `(`.
@@ -662,9 +635,7 @@ fn hs(
 // shuts: expr.paren_end
 #[cycle(exp_dec)]
 fn rnd(
-    text: &[u8],
-    toks: &[u8],
-    env: &[u8],
+    lent: Lent,
     table: &mut [u8; 8192],
     scratch: &mut [u8],
     finds: &mut [u8],
@@ -672,44 +643,42 @@ fn rnd(
     b: usize,
     s: State,
 ) -> Found
-    requires { Sound (mem text.now toks.now env.now table.old scratch.old finds.old s) × (b < 4294967296) }
-    ensures { RunsIn left b expr.at_exp_l_round (mem text.now toks.now env.now table.old scratch.old finds.old s) (mem text.now toks.now env.now table.new scratch.new finds.new (out_state result)) (out_val result) }
+    requires { Sound (mem_of lent table.old scratch.old finds.old s) × (b < 4294967296) }
+    ensures { RunsIn left b expr.at_exp_l_round (mem_of lent.entry table.old scratch.old finds.old s) (mem_of lent.entry table.new scratch.new finds.new (out_state result)) (out_val result) }
 {
-    if at(toks, kind::RROUND, s) {
-        let s1 = bump(toks, scratch, s);
-        return Found::At(close(scratch, kind::TUPLE_EXP, b, s1));
+    if at(lent.toks, kind::RROUND, s) {
+        let s1 = bump(lent.toks, scratch, s);
+        return Ok(close(scratch, Node::TupleExp, b, s1));
     }
     if left == 0 {
-        return Found::At(s.refuse(TOO_DEEP));
+        return Ok(s.refuse(Refusal::TooDeep));
     }
     let s1 = s.mark();
     let c = s1.len;
-    let s2 = exp(text, toks, env, table, scratch, finds, left - 1, MIN, s1);
-    let Look::Kind(k) = peek(toks, s2) else {
-        return paren_end(text, toks, env, table, scratch, finds, left, b, s2);
+    let s2 = exp(lent, table, scratch, finds, left - 1, MIN, s1);
+    let Some(k) = peek(lent.toks, s2) else {
+        return paren_end(lent, table, scratch, finds, left, b, s2);
     };
     if k == kind::SEMICOLON {
-        let s3 = bump(toks, scratch, s2);
-        let s4 = close(scratch, kind::EXP_IN_SEQ, c, s3);
-        let s5 = cl(text, toks, env, table, scratch, finds, left, SEQS, b, s4);
-        return Found::At(s5);
+        let s3 = bump(lent.toks, scratch, s2);
+        let s4 = close(scratch, Node::ExpInSeq, c, s3);
+        let s5 = cl(lent, table, scratch, finds, left, SEQS, b, s4);
+        return Ok(s5);
     }
     if k == kind::COMMA {
-        let s3 = bump(toks, scratch, s2);
-        let s4 = close(scratch, kind::EXP_ARG, c, s3);
-        let s5 = cl(text, toks, env, table, scratch, finds, left, TUPS, b, s4);
-        return Found::At(s5);
+        let s3 = bump(lent.toks, scratch, s2);
+        let s4 = close(scratch, Node::ExpArg, c, s3);
+        let s5 = cl(lent, table, scratch, finds, left, TUPS, b, s4);
+        return Ok(s5);
     }
-    paren_end(text, toks, env, table, scratch, finds, left, b, s2)
+    paren_end(lent, table, scratch, finds, left, b, s2)
 }
 
 // `let`, whose fixities end with it.
 // measure: 64 * left + 4
 #[cycle(exp_dec)]
 fn lex(
-    text: &[u8],
-    toks: &[u8],
-    env: &[u8],
+    lent: Lent,
     table: &mut [u8; 8192],
     scratch: &mut [u8],
     finds: &mut [u8],
@@ -717,12 +686,12 @@ fn lex(
     b: usize,
     s: State,
 ) -> Found
-    requires { Sound (mem text.now toks.now env.now table.old scratch.old finds.old s) × (b < 4294967296) }
-    ensures { RunsIn left b expr.let_exp (mem text.now toks.now env.now table.old scratch.old finds.old s) (mem text.now toks.now env.now table.new scratch.new finds.new (out_state result)) (out_val result) }
+    requires { Sound (mem_of lent table.old scratch.old finds.old s) × (b < 4294967296) }
+    ensures { RunsIn left b expr.let_exp (mem_of lent.entry table.old scratch.old finds.old s) (mem_of lent.entry table.new scratch.new finds.new (out_state result)) (out_val result) }
 {
-    let s1 = bump(toks, scratch, s);
-    let s2 = bdy(text, toks, env, table, scratch, finds, left, b, s1);
-    Found::At(leave(scratch, kind::LET_EXP, b, s1, s2))
+    let s1 = bump(lent.toks, scratch, s);
+    let s2 = bdy(lent, table, scratch, finds, left, b, s1);
+    Ok(leave(scratch, Node::LetExp, b, s1, s2))
 }
 
 // What stands between `let` and `end`.
@@ -730,9 +699,7 @@ fn lex(
 // unfolds: util.end_sep expr.end_closure util.choose
 #[cycle(exp_dec)]
 fn bdy(
-    text: &[u8],
-    toks: &[u8],
-    env: &[u8],
+    lent: Lent,
     table: &mut [u8; 8192],
     scratch: &mut [u8],
     finds: &mut [u8],
@@ -740,13 +707,13 @@ fn bdy(
     b: usize,
     s: State,
 ) -> State
-    requires { Sound (mem text.now toks.now env.now table.old scratch.old finds.old s) }
-    ensures { RunsIn left b expr.let_body (mem text.now toks.now env.now table.old scratch.old finds.old s) (mem text.now toks.now env.now table.new scratch.new finds.new result) 0 }
+    requires { Sound (mem_of lent table.old scratch.old finds.old s) }
+    ensures { RunsIn left b expr.let_body (mem_of lent.entry table.old scratch.old finds.old s) (mem_of lent.entry table.new scratch.new finds.new result) 0 }
 {
-    let got = dec(text, toks, env, table, scratch, finds, left, YES, s);
-    let s1 = got.state();
-    let s2 = want(toks, scratch, finds, kind::IN_KW, s1);
-    sep(text, toks, env, table, scratch, finds, left, INS, b, s2)
+    let got = dec(lent, table, scratch, finds, left, YES, s);
+    let s1 = either(got);
+    let s2 = want(lent.toks, scratch, finds, kind::IN_KW, s1);
+    sep(lent, table, scratch, finds, left, INS, b, s2)
 }
 
 // `end_sep`, to the end of the node around it.
@@ -754,9 +721,7 @@ fn bdy(
 // unfolds: util.end_sep
 #[cycle(exp_dec)]
 fn cl(
-    text: &[u8],
-    toks: &[u8],
-    env: &[u8],
+    lent: Lent,
     table: &mut [u8; 8192],
     scratch: &mut [u8],
     finds: &mut [u8],
@@ -765,10 +730,10 @@ fn cl(
     b: usize,
     s: State,
 ) -> State
-    requires { Sound (mem text.now toks.now env.now table.old scratch.old finds.old s) × (b < 4294967296) × (q.end < 128) }
-    ensures { RunsIn left b (util.end_sep_node {g = true} q.wrap q.sep q.end q.node (expr.end_closure q.wrap)) (mem text.now toks.now env.now table.old scratch.old finds.old s) (mem text.now toks.now env.now table.new scratch.new finds.new result) 0 }
+    requires { Sound (mem_of lent table.old scratch.old finds.old s) × (b < 4294967296) × (q.end < 128) }
+    ensures { RunsIn left b (util.end_sep_node {g = true} (node_number q.wrap) q.sep q.end (node_number q.node) (expr.end_closure (node_number q.wrap))) (mem_of lent.entry table.old scratch.old finds.old s) (mem_of lent.entry table.new scratch.new finds.new result) 0 }
 {
-    let s1 = sep(text, toks, env, table, scratch, finds, left, q, b, s);
+    let s1 = sep(lent, table, scratch, finds, left, q, b, s);
     close(scratch, q.node, b, s1)
 }
 
@@ -778,9 +743,7 @@ fn cl(
 // advances: end_turn_advances true _ _ _ _
 #[cycle(exp_dec)]
 fn sep(
-    text: &[u8],
-    toks: &[u8],
-    env: &[u8],
+    lent: Lent,
     table: &mut [u8; 8192],
     scratch: &mut [u8],
     finds: &mut [u8],
@@ -789,30 +752,30 @@ fn sep(
     b: usize,
     s: State,
 ) -> State
-    requires { Sound (mem text.now toks.now env.now table.old scratch.old finds.old s) × (q.end < 128) }
-    ensures { RunsIn left b (Prog.loop (util.end_turn {g = true} q.wrap q.sep q.end (expr.end_closure q.wrap))) (mem text.now toks.now env.now table.old scratch.old finds.old s) (mem text.now toks.now env.now table.new scratch.new finds.new result) 0 }
+    requires { Sound (mem_of lent table.old scratch.old finds.old s) × (q.end < 128) }
+    ensures { RunsIn left b (Prog.loop (util.end_turn {g = true} (node_number q.wrap) q.sep q.end (expr.end_closure (node_number q.wrap)))) (mem_of lent.entry table.old scratch.old finds.old s) (mem_of lent.entry table.new scratch.new finds.new result) 0 }
 {
     let mut s1 = s;
     loop {
-        if at(toks, q.end, s1) {
-            return bump(toks, scratch, s1);
+        if at(lent.toks, q.end, s1) {
+            return bump(lent.toks, scratch, s1);
         }
         if left == 0 {
-            let s2 = s1.refuse(TOO_DEEP);
-            let got = eat(toks, scratch, finds, q.end, s2);
-            return got.state();
+            let s2 = s1.refuse(Refusal::TooDeep);
+            let got = eat(lent.toks, scratch, finds, q.end, s2);
+            return either(got);
         }
         let s2 = s1.mark();
         let c = s2.len;
-        let s3 = cel(text, toks, env, table, scratch, finds, left - 1, q, s2);
-        if at(toks, q.sep, s3) {
-            let s4 = bump(toks, scratch, s3);
+        let s3 = cel(lent, table, scratch, finds, left - 1, q, s2);
+        if at(lent.toks, q.sep, s3) {
+            let s4 = bump(lent.toks, scratch, s3);
             s1 = close(scratch, q.wrap, c, s4);
             continue;
         }
         let s4 = close(scratch, q.wrap, c, s3);
-        let got = eat(toks, scratch, finds, q.end, s4);
-        return got.state();
+        let got = eat(lent.toks, scratch, finds, q.end, s4);
+        return either(got);
     }
 }
 
@@ -822,9 +785,7 @@ fn sep(
 // unfolds: expr.exp_row
 #[cycle(exp_dec)]
 fn cel(
-    text: &[u8],
-    toks: &[u8],
-    env: &[u8],
+    lent: Lent,
     table: &mut [u8; 8192],
     scratch: &mut [u8],
     finds: &mut [u8],
@@ -832,41 +793,41 @@ fn cel(
     q: EndSep,
     s: State,
 ) -> State
-    requires { Sound (mem text.now toks.now env.now table.old scratch.old finds.old s) }
-    ensures { Runs left (expr.end_closure q.wrap) (mem text.now toks.now env.now table.old scratch.old finds.old s) (mem text.now toks.now env.now table.new scratch.new finds.new result) 0 }
+    requires { Sound (mem_of lent table.old scratch.old finds.old s) }
+    ensures { Runs left (expr.end_closure (node_number q.wrap)) (mem_of lent.entry table.old scratch.old finds.old s) (mem_of lent.entry table.new scratch.new finds.new result) 0 }
 {
-    if q.wrap == kind::EXP_ROW {
-        let s1 = lab(toks, scratch, finds, s);
-        return eq(text, toks, env, table, scratch, finds, left, s1);
+    match q.wrap {
+        Node::ExpRow => {
+            let s1 = lab(lent.toks, scratch, finds, s);
+            eq(lent, table, scratch, finds, left, s1)
+        }
+        _ => exp(lent, table, scratch, finds, left, MIN, s),
     }
-    exp(text, toks, env, table, scratch, finds, left, MIN, s)
 }
 
 // `eq_exp`: `=` and an expression, where they are next.
 // measure: 64 * left
 #[cycle(exp_dec)]
 fn eq(
-    text: &[u8],
-    toks: &[u8],
-    env: &[u8],
+    lent: Lent,
     table: &mut [u8; 8192],
     scratch: &mut [u8],
     finds: &mut [u8],
     left: usize,
     s: State,
 ) -> State
-    requires { Sound (mem text.now toks.now env.now table.old scratch.old finds.old s) }
-    ensures { Runs left (expr.eq_exp {g = true}) (mem text.now toks.now env.now table.old scratch.old finds.old s) (mem text.now toks.now env.now table.new scratch.new finds.new result) 0 }
+    requires { Sound (mem_of lent table.old scratch.old finds.old s) }
+    ensures { Runs left (expr.eq_exp {g = true}) (mem_of lent.entry table.old scratch.old finds.old s) (mem_of lent.entry table.new scratch.new finds.new result) 0 }
 {
-    if at(toks, kind::EQ, s) {
+    if at(lent.toks, kind::EQ, s) {
         if left == 0 {
-            return s.refuse(TOO_DEEP);
+            return s.refuse(Refusal::TooDeep);
         }
         let s1 = s.mark();
         let b = s1.len;
-        let s2 = bump(toks, scratch, s1);
-        let s3 = exp(text, toks, env, table, scratch, finds, left - 1, MIN, s2);
-        return close(scratch, kind::EQ_EXP, b, s3);
+        let s2 = bump(lent.toks, scratch, s1);
+        let s3 = exp(lent, table, scratch, finds, left - 1, MIN, s2);
+        return close(scratch, Node::EqExp, b, s3);
     }
     s
 }
@@ -876,37 +837,23 @@ fn eq(
 // unfolds: decl.many_closure util.choose
 #[cycle(exp_dec)]
 fn mat(
-    text: &[u8],
-    toks: &[u8],
-    env: &[u8],
+    lent: Lent,
     table: &mut [u8; 8192],
     scratch: &mut [u8],
     finds: &mut [u8],
     left: usize,
     s: State,
 ) -> State
-    requires { Sound (mem text.now toks.now env.now table.old scratch.old finds.old s) }
-    ensures { Runs left (expr.matcher {g = true}) (mem text.now toks.now env.now table.old scratch.old finds.old s) (mem text.now toks.now env.now table.new scratch.new finds.new result) 0 }
+    requires { Sound (mem_of lent table.old scratch.old finds.old s) }
+    ensures { Runs left (expr.matcher {g = true}) (mem_of lent.entry table.old scratch.old finds.old s) (mem_of lent.entry table.new scratch.new finds.new result) 0 }
 {
     if left == 0 {
-        return s.refuse(TOO_DEEP);
+        return s.refuse(Refusal::TooDeep);
     }
     let s1 = s.mark();
     let b = s1.len;
-    let s2 = bump_if(toks, scratch, kind::BAR, s1);
-    bd(
-        text,
-        toks,
-        env,
-        table,
-        scratch,
-        finds,
-        left - 1,
-        MATCH,
-        YES,
-        b,
-        s2,
-    )
+    let s2 = bump_if(lent.toks, scratch, kind::BAR, s1);
+    bd(lent, table, scratch, finds, left - 1, MATCH, YES, b, s2)
 }
 
 // `many_sep`, to the end of the node around it.
@@ -914,9 +861,7 @@ fn mat(
 // unfolds: util.many_sep
 #[cycle(exp_dec)]
 fn bd(
-    text: &[u8],
-    toks: &[u8],
-    env: &[u8],
+    lent: Lent,
     table: &mut [u8; 8192],
     scratch: &mut [u8],
     finds: &mut [u8],
@@ -926,10 +871,10 @@ fn bd(
     b: usize,
     s: State,
 ) -> State
-    requires { Sound (mem text.now toks.now env.now table.old scratch.old finds.old s) × (b < 4294967296) }
-    ensures { RunsIn left b (util.many_sep_node {g = true} q.sep q.wrap q.node (decl.many_closure q.wrap (err_of e))) (mem text.now toks.now env.now table.old scratch.old finds.old s) (mem text.now toks.now env.now table.new scratch.new finds.new result) 0 }
+    requires { Sound (mem_of lent table.old scratch.old finds.old s) × (b < 4294967296) }
+    ensures { RunsIn left b (util.many_sep_node {g = true} q.sep (node_number q.wrap) (node_number q.node) (decl.many_closure (node_number q.wrap) (err_of e))) (mem_of lent.entry table.old scratch.old finds.old s) (mem_of lent.entry table.new scratch.new finds.new result) 0 }
 {
-    let s1 = mny(text, toks, env, table, scratch, finds, left, q, e, b, s);
+    let s1 = mny(lent, table, scratch, finds, left, q, e, b, s);
     close(scratch, q.node, b, s1)
 }
 
@@ -938,9 +883,7 @@ fn bd(
 // advances: many_turn_advances true _ _ _
 #[cycle(exp_dec)]
 fn mny(
-    text: &[u8],
-    toks: &[u8],
-    env: &[u8],
+    lent: Lent,
     table: &mut [u8; 8192],
     scratch: &mut [u8],
     finds: &mut [u8],
@@ -950,22 +893,22 @@ fn mny(
     b: usize,
     s: State,
 ) -> State
-    requires { Sound (mem text.now toks.now env.now table.old scratch.old finds.old s) }
-    ensures { RunsIn left b (Prog.loop (util.many_turn {g = true} q.sep q.wrap (decl.many_closure q.wrap (err_of e)))) (mem text.now toks.now env.now table.old scratch.old finds.old s) (mem text.now toks.now env.now table.new scratch.new finds.new result) 0 }
+    requires { Sound (mem_of lent table.old scratch.old finds.old s) }
+    ensures { RunsIn left b (Prog.loop (util.many_turn {g = true} q.sep (node_number q.wrap) (decl.many_closure (node_number q.wrap) (err_of e)))) (mem_of lent.entry table.old scratch.old finds.old s) (mem_of lent.entry table.new scratch.new finds.new result) 0 }
 {
     let mut s1 = s;
     loop {
         if left == 0 {
-            return s1.refuse(TOO_DEEP);
+            return s1.refuse(Refusal::TooDeep);
         }
         let s2 = s1.mark();
         let c = s2.len;
-        let got = itm(text, toks, env, table, scratch, finds, left - 1, q, e, s2);
+        let got = itm(lent, table, scratch, finds, left - 1, q, e, s2);
         match got {
-            Found::Missing(s3) => return s3,
-            Found::At(s3) => {
-                if at(toks, q.sep, s3) {
-                    let s4 = bump(toks, scratch, s3);
+            Err(s3) => return s3,
+            Ok(s3) => {
+                if at(lent.toks, q.sep, s3) {
+                    let s4 = bump(lent.toks, scratch, s3);
                     s1 = close(scratch, q.wrap, c, s4);
                     continue;
                 }
@@ -980,9 +923,7 @@ fn mny(
 // chooses: q.wrap
 #[cycle(exp_dec)]
 fn itm(
-    text: &[u8],
-    toks: &[u8],
-    env: &[u8],
+    lent: Lent,
     table: &mut [u8; 8192],
     scratch: &mut [u8],
     finds: &mut [u8],
@@ -991,58 +932,44 @@ fn itm(
     e: InfixErr,
     s: State,
 ) -> Found
-    requires { Sound (mem text.now toks.now env.now table.old scratch.old finds.old s) }
-    ensures { Runs left (decl.many_closure q.wrap (err_of e)) (mem text.now toks.now env.now table.old scratch.old finds.old s) (mem text.now toks.now env.now table.new scratch.new finds.new (out_state result)) (out_val result) }
+    requires { Sound (mem_of lent table.old scratch.old finds.old s) }
+    ensures { Runs left (decl.many_closure (node_number q.wrap) (err_of e)) (mem_of lent.entry table.old scratch.old finds.old s) (mem_of lent.entry table.new scratch.new finds.new (out_state result)) (out_val result) }
 {
-    if q.wrap == kind::ARM {
-        return arm(text, toks, env, table, scratch, finds, left, s);
+    match q.wrap {
+        Node::Arm => arm(lent, table, scratch, finds, left, s),
+        Node::ValBind => vl(lent, table, scratch, finds, left, e, s),
+        Node::FunBind => fun(lent, table, scratch, finds, left, e, s),
+        Node::FunBindCase => cs(lent, table, scratch, finds, left, e, s),
+        Node::ExBind => ex(lent, table, scratch, finds, left, s),
+        Node::StrBind => stb(lent, table, scratch, finds, left, s),
+        Node::SigBind => sgb(lent, table, scratch, finds, left, s),
+        _ => fct(lent, table, scratch, finds, left, s),
     }
-    if q.wrap == kind::VAL_BIND {
-        return vl(text, toks, env, table, scratch, finds, left, e, s);
-    }
-    if q.wrap == kind::FUN_BIND {
-        return fun(text, toks, env, table, scratch, finds, left, e, s);
-    }
-    if q.wrap == kind::FUN_BIND_CASE {
-        return cs(text, toks, env, table, scratch, finds, left, e, s);
-    }
-    if q.wrap == kind::EX_BIND {
-        return ex(text, toks, env, table, scratch, finds, left, s);
-    }
-    if q.wrap == kind::STR_BIND {
-        return stb(text, toks, env, table, scratch, finds, left, s);
-    }
-    if q.wrap == kind::SIG_BIND {
-        return sgb(text, toks, env, table, scratch, finds, left, s);
-    }
-    fct(text, toks, env, table, scratch, finds, left, s)
 }
 
 // An arm: a pattern and an expression.
 // measure: 64 * left + 8
 #[cycle(exp_dec)]
 fn arm(
-    text: &[u8],
-    toks: &[u8],
-    env: &[u8],
+    lent: Lent,
     table: &mut [u8; 8192],
     scratch: &mut [u8],
     finds: &mut [u8],
     left: usize,
     s: State,
 ) -> Found
-    requires { Sound (mem text.now toks.now env.now table.old scratch.old finds.old s) }
-    ensures { Runs left expr.arm (mem text.now toks.now env.now table.old scratch.old finds.old s) (mem text.now toks.now env.now table.new scratch.new finds.new (out_state result)) (out_val result) }
+    requires { Sound (mem_of lent table.old scratch.old finds.old s) }
+    ensures { Runs left expr.arm (mem_of lent.entry table.old scratch.old finds.old s) (mem_of lent.entry table.new scratch.new finds.new (out_state result)) (out_val result) }
 {
-    let got = pat_prec(text, toks, env, table, scratch, finds, left, ANY, YES, s);
+    let got = pat_prec(lent, table, scratch, finds, left, ANY, YES, s);
     match got {
-        Found::Missing(s1) => {
-            let s2 = report(finds, finding::EXPECTED, finding::PAT, NO_NAME, s1);
-            Found::Missing(s2)
+        Err(s1) => {
+            let s2 = report(finds, ErrorKind::Expected(Expected::Pat), s1);
+            Err(s2)
         }
-        Found::At(s1) => {
-            let s2 = we(text, toks, env, table, scratch, finds, left, EQ_GT, s1);
-            Found::At(s2)
+        Ok(s1) => {
+            let s2 = we(lent, table, scratch, finds, left, EQ_GT, s1);
+            Ok(s2)
         }
     }
 }
@@ -1051,9 +978,7 @@ fn arm(
 // measure: 64 * left + 1
 #[cycle(exp_dec)]
 fn vl(
-    text: &[u8],
-    toks: &[u8],
-    env: &[u8],
+    lent: Lent,
     table: &mut [u8; 8192],
     scratch: &mut [u8],
     finds: &mut [u8],
@@ -1061,15 +986,15 @@ fn vl(
     e: InfixErr,
     s: State,
 ) -> Found
-    requires { Sound (mem text.now toks.now env.now table.old scratch.old finds.old s) }
-    ensures { Runs left (decl.val_bind (err_of e)) (mem text.now toks.now env.now table.old scratch.old finds.old s) (mem text.now toks.now env.now table.new scratch.new finds.new (out_state result)) (out_val result) }
+    requires { Sound (mem_of lent table.old scratch.old finds.old s) }
+    ensures { Runs left (decl.val_bind (err_of e)) (mem_of lent.entry table.old scratch.old finds.old s) (mem_of lent.entry table.new scratch.new finds.new (out_state result)) (out_val result) }
 {
-    let got = rec_pat(text, toks, env, table, scratch, finds, left, e, s);
+    let got = rec_pat(lent, table, scratch, finds, left, e, s);
     match got {
-        Found::Missing(s1) => Found::Missing(s1),
-        Found::At(s1) => {
-            let s2 = eq(text, toks, env, table, scratch, finds, left, s1);
-            Found::At(s2)
+        Err(s1) => Err(s1),
+        Ok(s1) => {
+            let s2 = eq(lent, table, scratch, finds, left, s1);
+            Ok(s2)
         }
     }
 }
@@ -1079,9 +1004,7 @@ fn vl(
 // unfolds: util.many_sep decl.many_closure util.choose
 #[cycle(exp_dec)]
 fn fun(
-    text: &[u8],
-    toks: &[u8],
-    env: &[u8],
+    lent: Lent,
     table: &mut [u8; 8192],
     scratch: &mut [u8],
     finds: &mut [u8],
@@ -1089,24 +1012,20 @@ fn fun(
     e: InfixErr,
     s: State,
 ) -> Found
-    requires { Sound (mem text.now toks.now env.now table.old scratch.old finds.old s) }
-    ensures { Runs left (decl.fun_bind (err_of e)) (mem text.now toks.now env.now table.old scratch.old finds.old s) (mem text.now toks.now env.now table.new scratch.new finds.new (out_state result)) (out_val result) }
+    requires { Sound (mem_of lent table.old scratch.old finds.old s) }
+    ensures { Runs left (decl.fun_bind (err_of e)) (mem_of lent.entry table.old scratch.old finds.old s) (mem_of lent.entry table.new scratch.new finds.new (out_state result)) (out_val result) }
 {
     let b = s.len;
-    let s1 = bump_if(toks, scratch, kind::BAR, s);
-    let s2 = mny(
-        text, toks, env, table, scratch, finds, left, CASES, e, b, s1,
-    );
-    Found::At(s2)
+    let s1 = bump_if(lent.toks, scratch, kind::BAR, s);
+    let s2 = mny(lent, table, scratch, finds, left, CASES, e, b, s1);
+    Ok(s2)
 }
 
 // A case of a function.
 // measure: 64 * left + 1
 #[cycle(exp_dec)]
 fn cs(
-    text: &[u8],
-    toks: &[u8],
-    env: &[u8],
+    lent: Lent,
     table: &mut [u8; 8192],
     scratch: &mut [u8],
     finds: &mut [u8],
@@ -1114,43 +1033,41 @@ fn cs(
     e: InfixErr,
     s: State,
 ) -> Found
-    requires { Sound (mem text.now toks.now env.now table.old scratch.old finds.old s) }
-    ensures { Runs left (decl.fun_case (err_of e)) (mem text.now toks.now env.now table.old scratch.old finds.old s) (mem text.now toks.now env.now table.new scratch.new finds.new (out_state result)) (out_val result) }
+    requires { Sound (mem_of lent table.old scratch.old finds.old s) }
+    ensures { Runs left (decl.fun_case (err_of e)) (mem_of lent.entry table.old scratch.old finds.old s) (mem_of lent.entry table.new scratch.new finds.new (out_state result)) (out_val result) }
 {
-    let s1 = fun_left(text, toks, env, table, scratch, finds, left, e, s);
-    let got = ty_annotation(text, toks, env, table, scratch, finds, left, s1);
-    let s2 = got.state();
-    let s3 = eq(text, toks, env, table, scratch, finds, left, s2);
-    Found::At(s3)
+    let s1 = fun_left(lent, table, scratch, finds, left, e, s);
+    let got = ty_annotation(lent, table, scratch, finds, left, s1);
+    let s2 = either(got);
+    let s3 = eq(lent, table, scratch, finds, left, s2);
+    Ok(s3)
 }
 
 // An exception.
 // measure: 64 * left + 1
 #[cycle(exp_dec)]
 fn ex(
-    text: &[u8],
-    toks: &[u8],
-    env: &[u8],
+    lent: Lent,
     table: &mut [u8; 8192],
     scratch: &mut [u8],
     finds: &mut [u8],
     left: usize,
     s: State,
 ) -> Found
-    requires { Sound (mem text.now toks.now env.now table.old scratch.old finds.old s) }
-    ensures { Runs left decl.ex_bind (mem text.now toks.now env.now table.old scratch.old finds.old s) (mem text.now toks.now env.now table.new scratch.new finds.new (out_state result)) (out_val result) }
+    requires { Sound (mem_of lent table.old scratch.old finds.old s) }
+    ensures { Runs left decl.ex_bind (mem_of lent.entry table.old scratch.old finds.old s) (mem_of lent.entry table.new scratch.new finds.new (out_state result)) (out_val result) }
 {
-    let name = op_name(text, toks, env, table, scratch, finds, s);
+    let name = op_name(lent, table, scratch, finds, s);
     match name {
-        Found::Missing(s1) => Found::Missing(s1),
-        Found::At(s1) => {
-            let typed = of_ty(text, toks, env, table, scratch, finds, left, s1);
+        Err(s1) => Err(s1),
+        Ok(s1) => {
+            let typed = of_ty(lent, table, scratch, finds, left, s1);
             match typed {
-                Found::Missing(s2) => {
-                    let s3 = eq(text, toks, env, table, scratch, finds, left, s2);
-                    Found::At(s3)
+                Err(s2) => {
+                    let s3 = eq(lent, table, scratch, finds, left, s2);
+                    Ok(s3)
                 }
-                Found::At(s2) => Found::At(s2),
+                Ok(s2) => Ok(s2),
             }
         }
     }
@@ -1160,34 +1077,32 @@ fn ex(
 // measure: 64 * left + 2
 #[cycle(exp_dec)]
 fn stb(
-    text: &[u8],
-    toks: &[u8],
-    env: &[u8],
+    lent: Lent,
     table: &mut [u8; 8192],
     scratch: &mut [u8],
     finds: &mut [u8],
     left: usize,
     s: State,
 ) -> Found
-    requires { Sound (mem text.now toks.now env.now table.old scratch.old finds.old s) }
-    ensures { Runs left decl.str_bind (mem text.now toks.now env.now table.old scratch.old finds.old s) (mem text.now toks.now env.now table.new scratch.new finds.new (out_state result)) (out_val result) }
+    requires { Sound (mem_of lent table.old scratch.old finds.old s) }
+    ensures { Runs left decl.str_bind (mem_of lent.entry table.old scratch.old finds.old s) (mem_of lent.entry table.new scratch.new finds.new (out_state result)) (out_val result) }
 {
-    let name = eat(toks, scratch, finds, kind::NAME, s);
+    let name = eat(lent.toks, scratch, finds, kind::NAME, s);
     match name {
-        Found::Missing(s1) => Found::Missing(s1),
-        Found::At(s1) => {
-            let s2 = aso(text, toks, env, table, scratch, finds, left, s1);
-            if at(toks, kind::EQ, s2) {
+        Err(s1) => Err(s1),
+        Ok(s1) => {
+            let s2 = aso(lent, table, scratch, finds, left, s1);
+            if at(lent.toks, kind::EQ, s2) {
                 if left == 0 {
-                    return Found::At(s2.refuse(TOO_DEEP));
+                    return Ok(s2.refuse(Refusal::TooDeep));
                 }
                 let s3 = s2.mark();
                 let b = s3.len;
-                let s4 = bump(toks, scratch, s3);
-                let s5 = stm(text, toks, env, table, scratch, finds, left - 1, s4);
-                return Found::At(close(scratch, kind::EQ_STR_EXP, b, s5));
+                let s4 = bump(lent.toks, scratch, s3);
+                let s5 = stm(lent, table, scratch, finds, left - 1, s4);
+                return Ok(close(scratch, Node::EqStrExp, b, s5));
             }
-            Found::At(s2)
+            Ok(s2)
         }
     }
 }
@@ -1196,25 +1111,23 @@ fn stb(
 // measure: 64 * left + 2
 #[cycle(exp_dec)]
 fn sgb(
-    text: &[u8],
-    toks: &[u8],
-    env: &[u8],
+    lent: Lent,
     table: &mut [u8; 8192],
     scratch: &mut [u8],
     finds: &mut [u8],
     left: usize,
     s: State,
 ) -> Found
-    requires { Sound (mem text.now toks.now env.now table.old scratch.old finds.old s) }
-    ensures { Runs left decl.sig_bind (mem text.now toks.now env.now table.old scratch.old finds.old s) (mem text.now toks.now env.now table.new scratch.new finds.new (out_state result)) (out_val result) }
+    requires { Sound (mem_of lent table.old scratch.old finds.old s) }
+    ensures { Runs left decl.sig_bind (mem_of lent.entry table.old scratch.old finds.old s) (mem_of lent.entry table.new scratch.new finds.new (out_state result)) (out_val result) }
 {
-    let name = eat(toks, scratch, finds, kind::NAME, s);
+    let name = eat(lent.toks, scratch, finds, kind::NAME, s);
     match name {
-        Found::Missing(s1) => Found::Missing(s1),
-        Found::At(s1) => {
-            let s2 = want(toks, scratch, finds, kind::EQ, s1);
-            let s3 = sgm(text, toks, env, table, scratch, finds, left, s2);
-            Found::At(s3)
+        Err(s1) => Err(s1),
+        Ok(s1) => {
+            let s2 = want(lent.toks, scratch, finds, kind::EQ, s1);
+            let s3 = sgm(lent, table, scratch, finds, left, s2);
+            Ok(s3)
         }
     }
 }
@@ -1223,29 +1136,27 @@ fn sgb(
 // measure: 64 * left + 4
 #[cycle(exp_dec)]
 fn fct(
-    text: &[u8],
-    toks: &[u8],
-    env: &[u8],
+    lent: Lent,
     table: &mut [u8; 8192],
     scratch: &mut [u8],
     finds: &mut [u8],
     left: usize,
     s: State,
 ) -> Found
-    requires { Sound (mem text.now toks.now env.now table.old scratch.old finds.old s) }
-    ensures { Runs left decl.functor_bind (mem text.now toks.now env.now table.old scratch.old finds.old s) (mem text.now toks.now env.now table.new scratch.new finds.new (out_state result)) (out_val result) }
+    requires { Sound (mem_of lent table.old scratch.old finds.old s) }
+    ensures { Runs left decl.functor_bind (mem_of lent.entry table.old scratch.old finds.old s) (mem_of lent.entry table.new scratch.new finds.new (out_state result)) (out_val result) }
 {
-    let name = eat(toks, scratch, finds, kind::NAME, s);
+    let name = eat(lent.toks, scratch, finds, kind::NAME, s);
     match name {
-        Found::Missing(s1) => Found::Missing(s1),
-        Found::At(s1) => {
-            let s2 = want(toks, scratch, finds, kind::LROUND, s1);
-            let s3 = pa(text, toks, env, table, scratch, finds, left, s2);
-            let s4 = want(toks, scratch, finds, kind::RROUND, s3);
-            let s5 = aso(text, toks, env, table, scratch, finds, left, s4);
-            let s6 = want(toks, scratch, finds, kind::EQ, s5);
-            let s7 = stm(text, toks, env, table, scratch, finds, left, s6);
-            Found::At(s7)
+        Err(s1) => Err(s1),
+        Ok(s1) => {
+            let s2 = want(lent.toks, scratch, finds, kind::LROUND, s1);
+            let s3 = pa(lent, table, scratch, finds, left, s2);
+            let s4 = want(lent.toks, scratch, finds, kind::RROUND, s3);
+            let s5 = aso(lent, table, scratch, finds, left, s4);
+            let s6 = want(lent.toks, scratch, finds, kind::EQ, s5);
+            let s7 = stm(lent, table, scratch, finds, left, s6);
+            Ok(s7)
         }
     }
 }
@@ -1254,31 +1165,29 @@ fn fct(
 // measure: 64 * left + 3
 #[cycle(exp_dec)]
 fn pa(
-    text: &[u8],
-    toks: &[u8],
-    env: &[u8],
+    lent: Lent,
     table: &mut [u8; 8192],
     scratch: &mut [u8],
     finds: &mut [u8],
     left: usize,
     s: State,
 ) -> State
-    requires { Sound (mem text.now toks.now env.now table.old scratch.old finds.old s) }
-    ensures { Runs left decl.functor_arg (mem text.now toks.now env.now table.old scratch.old finds.old s) (mem text.now toks.now env.now table.new scratch.new finds.new result) 0 }
+    requires { Sound (mem_of lent table.old scratch.old finds.old s) }
+    ensures { Runs left decl.functor_arg (mem_of lent.entry table.old scratch.old finds.old s) (mem_of lent.entry table.new scratch.new finds.new result) 0 }
 {
-    if at(toks, kind::NAME, s) {
+    if at(lent.toks, kind::NAME, s) {
         if left == 0 {
-            return s.refuse(TOO_DEEP);
+            return s.refuse(Refusal::TooDeep);
         }
         let s1 = s.mark();
         let b = s1.len;
-        let s2 = bump(toks, scratch, s1);
-        let s3 = bump_ascription(toks, scratch, s2);
-        let s4 = sgm(text, toks, env, table, scratch, finds, left - 1, s3);
-        return close(scratch, kind::FUNCTOR_ARG_NAME_SIG_EXP, b, s4);
+        let s2 = bump(lent.toks, scratch, s1);
+        let s3 = bump_ascription(lent.toks, scratch, s2);
+        let s4 = sgm(lent, table, scratch, finds, left - 1, s3);
+        return close(scratch, Node::FunctorArgNameSigExp, b, s4);
     }
-    let got = dec(text, toks, env, table, scratch, finds, left, NO, s);
-    got.state()
+    let got = dec(lent, table, scratch, finds, left, NO, s);
+    either(got)
 }
 
 // `dec`: declarations.
@@ -1286,9 +1195,7 @@ fn pa(
 // unfolds: root.body decl.decs util.maybe_semi_sep decl.semi_closure util.choose
 #[cycle(exp_dec)]
 pub fn dec(
-    text: &[u8],
-    toks: &[u8],
-    env: &[u8],
+    lent: Lent,
     table: &mut [u8; 8192],
     scratch: &mut [u8],
     finds: &mut [u8],
@@ -1296,16 +1203,16 @@ pub fn dec(
     e: InfixErr,
     s: State,
 ) -> Found
-    requires { Sound (mem text.now toks.now env.now table.old scratch.old finds.old s) }
-    ensures { Runs left (Prog.call (Rule.dec (err_of e))) (mem text.now toks.now env.now table.old scratch.old finds.old s) (mem text.now toks.now env.now table.new scratch.new finds.new (out_state result)) (out_val result) }
+    requires { Sound (mem_of lent table.old scratch.old finds.old s) }
+    ensures { Runs left (Prog.call (Rule.dec (err_of e))) (mem_of lent.entry table.old scratch.old finds.old s) (mem_of lent.entry table.new scratch.new finds.new (out_state result)) (out_val result) }
 {
     let b = s.len;
-    let turn = sem(text, toks, env, table, scratch, finds, left, DECS, e, s);
+    let turn = sem(lent, table, scratch, finds, left, DECS, e, s);
     match turn {
-        Found::Missing(s1) => Found::Missing(s1),
-        Found::At(s1) => {
-            let s2 = seq(text, toks, env, table, scratch, finds, left, DECS, e, b, s1);
-            Found::At(s2)
+        Err(s1) => Err(s1),
+        Ok(s1) => {
+            let s2 = seq(lent, table, scratch, finds, left, DECS, e, b, s1);
+            Ok(s2)
         }
     }
 }
@@ -1315,27 +1222,25 @@ pub fn dec(
 // advances: semi_turn_advances g _ _
 #[cycle(exp_dec)]
 fn seq(
-    text: &[u8],
-    toks: &[u8],
-    env: &[u8],
+    lent: Lent,
     table: &mut [u8; 8192],
     scratch: &mut [u8],
     finds: &mut [u8],
     left: usize,
-    w: u8,
+    w: Node,
     e: InfixErr,
     b: usize,
     s: State,
 ) -> State
-    requires { Sound (mem text.now toks.now env.now table.old scratch.old finds.old s) }
-    ensures { (g : Bool) → RunsIn left b (Prog.loop (util.semi_turn {g = g} w (decl.semi_closure w (err_of e)))) (mem text.now toks.now env.now table.old scratch.old finds.old s) (mem text.now toks.now env.now table.new scratch.new finds.new result) 0 }
+    requires { Sound (mem_of lent table.old scratch.old finds.old s) }
+    ensures { (g : Bool) → RunsIn left b (Prog.loop (util.semi_turn {g = g} (node_number w) (decl.semi_closure (node_number w) (err_of e)))) (mem_of lent.entry table.old scratch.old finds.old s) (mem_of lent.entry table.new scratch.new finds.new result) 0 }
 {
     let mut s1 = s;
     loop {
-        let turn = sem(text, toks, env, table, scratch, finds, left, w, e, s1);
+        let turn = sem(lent, table, scratch, finds, left, w, e, s1);
         match turn {
-            Found::At(s2) => s1 = s2,
-            Found::Missing(s2) => return s2,
+            Ok(s2) => s1 = s2,
+            Err(s2) => return s2,
         }
     }
 }
@@ -1344,31 +1249,29 @@ fn seq(
 // measure: 64 * left
 #[cycle(exp_dec)]
 fn sem(
-    text: &[u8],
-    toks: &[u8],
-    env: &[u8],
+    lent: Lent,
     table: &mut [u8; 8192],
     scratch: &mut [u8],
     finds: &mut [u8],
     left: usize,
-    w: u8,
+    w: Node,
     e: InfixErr,
     s: State,
 ) -> Found
-    requires { Sound (mem text.now toks.now env.now table.old scratch.old finds.old s) }
-    ensures { (g : Bool) → Runs left (util.semi_turn {g = g} w (decl.semi_closure w (err_of e))) (mem text.now toks.now env.now table.old scratch.old finds.old s) (mem text.now toks.now env.now table.new scratch.new finds.new (out_state result)) (out_val result) }
+    requires { Sound (mem_of lent table.old scratch.old finds.old s) }
+    ensures { (g : Bool) → Runs left (util.semi_turn {g = g} (node_number w) (decl.semi_closure (node_number w) (err_of e))) (mem_of lent.entry table.old scratch.old finds.old s) (mem_of lent.entry table.new scratch.new finds.new (out_state result)) (out_val result) }
 {
     if left == 0 {
-        return Found::Missing(s.refuse(TOO_DEEP));
+        return Err(s.refuse(Refusal::TooDeep));
     }
     let s1 = s.mark();
     let b = s1.len;
-    let got = pt(text, toks, env, table, scratch, finds, left - 1, w, e, s1);
+    let got = pt(lent, table, scratch, finds, left - 1, w, e, s1);
     match got {
-        Found::Missing(s2) => Found::Missing(s2),
-        Found::At(s2) => {
-            let s3 = bump_if(toks, scratch, kind::SEMICOLON, s2);
-            Found::At(close(scratch, w, b, s3))
+        Err(s2) => Err(s2),
+        Ok(s2) => {
+            let s3 = bump_if(lent.toks, scratch, kind::SEMICOLON, s2);
+            Ok(close(scratch, w, b, s3))
         }
     }
 }
@@ -1378,24 +1281,22 @@ fn sem(
 // chooses: w
 #[cycle(exp_dec)]
 fn pt(
-    text: &[u8],
-    toks: &[u8],
-    env: &[u8],
+    lent: Lent,
     table: &mut [u8; 8192],
     scratch: &mut [u8],
     finds: &mut [u8],
     left: usize,
-    w: u8,
+    w: Node,
     e: InfixErr,
     s: State,
 ) -> Found
-    requires { Sound (mem text.now toks.now env.now table.old scratch.old finds.old s) }
-    ensures { Runs left (decl.semi_closure w (err_of e)) (mem text.now toks.now env.now table.old scratch.old finds.old s) (mem text.now toks.now env.now table.new scratch.new finds.new (out_state result)) (out_val result) }
+    requires { Sound (mem_of lent table.old scratch.old finds.old s) }
+    ensures { Runs left (decl.semi_closure (node_number w) (err_of e)) (mem_of lent.entry table.old scratch.old finds.old s) (mem_of lent.entry table.new scratch.new finds.new (out_state result)) (out_val result) }
 {
-    if w == kind::DEC {
-        return tl(text, toks, env, table, scratch, finds, left, e, s);
+    match w {
+        Node::Dec => tl(lent, table, scratch, finds, left, e, s),
+        _ => one(lent, table, scratch, finds, left, e, s),
     }
-    one(text, toks, env, table, scratch, finds, left, e, s)
 }
 
 // `dec_with_tail`: its node stands also where it is empty.
@@ -1403,9 +1304,7 @@ fn pt(
 // unfolds: util.maybe_semi_sep decl.semi_closure util.choose
 #[cycle(exp_dec)]
 fn tl(
-    text: &[u8],
-    toks: &[u8],
-    env: &[u8],
+    lent: Lent,
     table: &mut [u8; 8192],
     scratch: &mut [u8],
     finds: &mut [u8],
@@ -1413,22 +1312,22 @@ fn tl(
     e: InfixErr,
     s: State,
 ) -> Found
-    requires { Sound (mem text.now toks.now env.now table.old scratch.old finds.old s) }
-    ensures { Runs left (decl.dec_with_tail {g = true} (err_of e)) (mem text.now toks.now env.now table.old scratch.old finds.old s) (mem text.now toks.now env.now table.new scratch.new finds.new (out_state result)) (out_val result) }
+    requires { Sound (mem_of lent table.old scratch.old finds.old s) }
+    ensures { Runs left (decl.dec_with_tail {g = true} (err_of e)) (mem_of lent.entry table.old scratch.old finds.old s) (mem_of lent.entry table.new scratch.new finds.new (out_state result)) (out_val result) }
 {
     if left == 0 {
-        return Found::Missing(s.refuse(TOO_DEEP));
+        return Err(s.refuse(Refusal::TooDeep));
     }
     let n = left - 1;
     let s1 = s.mark();
     let b = s1.len;
-    let turn = sem(text, toks, env, table, scratch, finds, n, INSEQ, e, s1);
+    let turn = sem(lent, table, scratch, finds, n, INSEQ, e, s1);
     match turn {
-        Found::Missing(s2) => bare_tail(text, toks, env, table, scratch, finds, n, b, s2),
-        Found::At(s2) => {
-            let s3 = seq(text, toks, env, table, scratch, finds, n, INSEQ, e, b, s2);
-            let s4 = full_tail(text, toks, env, table, scratch, finds, n, b, s3);
-            Found::At(s4)
+        Err(s2) => bare_tail(lent, table, scratch, finds, n, b, s2),
+        Ok(s2) => {
+            let s3 = seq(lent, table, scratch, finds, n, INSEQ, e, b, s2);
+            let s4 = full_tail(lent, table, scratch, finds, n, b, s3);
+            Ok(s4)
         }
     }
 }
@@ -1438,9 +1337,7 @@ fn tl(
 // unfolds: decl.dec_head
 #[cycle(exp_dec)]
 fn one(
-    text: &[u8],
-    toks: &[u8],
-    env: &[u8],
+    lent: Lent,
     table: &mut [u8; 8192],
     scratch: &mut [u8],
     finds: &mut [u8],
@@ -1448,22 +1345,22 @@ fn one(
     e: InfixErr,
     s: State,
 ) -> Found
-    requires { Sound (mem text.now toks.now env.now table.old scratch.old finds.old s) }
-    ensures { Runs left (decl.dec_one {g = true} (err_of e)) (mem text.now toks.now env.now table.old scratch.old finds.old s) (mem text.now toks.now env.now table.new scratch.new finds.new (out_state result)) (out_val result) }
+    requires { Sound (mem_of lent table.old scratch.old finds.old s) }
+    ensures { Runs left (decl.dec_one {g = true} (err_of e)) (mem_of lent.entry table.old scratch.old finds.old s) (mem_of lent.entry table.new scratch.new finds.new (out_state result)) (out_val result) }
 {
-    let Look::Kind(k) = peek(toks, s) else {
-        return Found::Missing(s);
+    let Some(k) = peek(lent.toks, s) else {
+        return Err(s);
     };
     if left == 0 {
-        return Found::Missing(s.refuse(TOO_DEEP));
+        return Err(s.refuse(Refusal::TooDeep));
     }
     let n = left - 1;
     let s1 = s.mark();
     let b = s1.len;
-    let got = leaf_dec(text, toks, env, table, scratch, finds, n, k, b, s1);
+    let got = leaf_dec(lent, table, scratch, finds, n, k, b, s1);
     match got {
-        Found::At(s2) => Found::At(s2),
-        Found::Missing(s2) => cor(text, toks, env, table, scratch, finds, n, k, e, b, s2),
+        Ok(s2) => Ok(s2),
+        Err(s2) => cor(lent, table, scratch, finds, n, k, e, b, s2),
     }
 }
 
@@ -1472,9 +1369,7 @@ fn one(
 // unfolds: decl.many_closure util.choose
 #[cycle(exp_dec)]
 fn cor(
-    text: &[u8],
-    toks: &[u8],
-    env: &[u8],
+    lent: Lent,
     table: &mut [u8; 8192],
     scratch: &mut [u8],
     finds: &mut [u8],
@@ -1484,30 +1379,30 @@ fn cor(
     b: usize,
     s: State,
 ) -> Found
-    requires { Sound (mem text.now toks.now env.now table.old scratch.old finds.old s) × (b < 4294967296) }
-    ensures { RunsIn left b (decl.core_dec (suc k) (err_of e)) (mem text.now toks.now env.now table.old scratch.old finds.old s) (mem text.now toks.now env.now table.new scratch.new finds.new (out_state result)) (out_val result) }
+    requires { Sound (mem_of lent table.old scratch.old finds.old s) × (b < 4294967296) }
+    ensures { RunsIn left b (decl.core_dec (suc k) (err_of e)) (mem_of lent.entry table.old scratch.old finds.old s) (mem_of lent.entry table.new scratch.new finds.new (out_state result)) (out_val result) }
 {
     if k == kind::VAL_KW {
-        let s1 = bump_vars(text, toks, env, table, scratch, finds, left, s);
-        let s2 = bd(text, toks, env, table, scratch, finds, left, VALS, e, b, s1);
-        return Found::At(s2);
+        let s1 = bump_vars(lent, table, scratch, finds, left, s);
+        let s2 = bd(lent, table, scratch, finds, left, VALS, e, b, s1);
+        return Ok(s2);
     }
     if k == kind::FUN_KW {
-        let s1 = bump_vars(text, toks, env, table, scratch, finds, left, s);
-        let s2 = bd(text, toks, env, table, scratch, finds, left, FUNS, e, b, s1);
-        return Found::At(s2);
+        let s1 = bump_vars(lent, table, scratch, finds, left, s);
+        let s2 = bd(lent, table, scratch, finds, left, FUNS, e, b, s1);
+        return Ok(s2);
     }
     if k == kind::EXCEPTION_KW {
-        let s1 = bump(toks, scratch, s);
-        let s2 = bd(text, toks, env, table, scratch, finds, left, EXNS, e, b, s1);
-        return Found::At(s2);
+        let s1 = bump(lent.toks, scratch, s);
+        let s2 = bd(lent, table, scratch, finds, left, EXNS, e, b, s1);
+        return Ok(s2);
     }
     if k == kind::DO_KW {
-        let s1 = bump(toks, scratch, s);
-        let s2 = exp(text, toks, env, table, scratch, finds, left, MIN, s1);
-        return Found::At(close(scratch, kind::DO_DEC, b, s2));
+        let s1 = bump(lent.toks, scratch, s);
+        let s2 = exp(lent, table, scratch, finds, left, MIN, s1);
+        return Ok(close(scratch, Node::DoDec, b, s2));
     }
-    mds(text, toks, env, table, scratch, finds, left, k, e, b, s)
+    mds(lent, table, scratch, finds, left, k, e, b, s)
 }
 
 // Those of structures, signatures and functors, `include`, and what `oth` reads.
@@ -1515,9 +1410,7 @@ fn cor(
 // unfolds: decl.many_closure util.choose
 #[cycle(exp_dec)]
 fn mds(
-    text: &[u8],
-    toks: &[u8],
-    env: &[u8],
+    lent: Lent,
     table: &mut [u8; 8192],
     scratch: &mut [u8],
     finds: &mut [u8],
@@ -1527,39 +1420,37 @@ fn mds(
     b: usize,
     s: State,
 ) -> Found
-    requires { Sound (mem text.now toks.now env.now table.old scratch.old finds.old s) × (b < 4294967296) }
-    ensures { RunsIn left b (decl.module_dec (suc k) (err_of e)) (mem text.now toks.now env.now table.old scratch.old finds.old s) (mem text.now toks.now env.now table.new scratch.new finds.new (out_state result)) (out_val result) }
+    requires { Sound (mem_of lent table.old scratch.old finds.old s) × (b < 4294967296) }
+    ensures { RunsIn left b (decl.module_dec (suc k) (err_of e)) (mem_of lent.entry table.old scratch.old finds.old s) (mem_of lent.entry table.new scratch.new finds.new (out_state result)) (out_val result) }
 {
     if k == kind::STRUCTURE_KW {
-        let s1 = bump(toks, scratch, s);
-        let s2 = bd(text, toks, env, table, scratch, finds, left, STRS, e, b, s1);
-        return Found::At(s2);
+        let s1 = bump(lent.toks, scratch, s);
+        let s2 = bd(lent, table, scratch, finds, left, STRS, e, b, s1);
+        return Ok(s2);
     }
     if k == kind::SIGNATURE_KW {
-        let s1 = bump(toks, scratch, s);
-        let s2 = bd(text, toks, env, table, scratch, finds, left, SIGS, e, b, s1);
-        return Found::At(s2);
+        let s1 = bump(lent.toks, scratch, s);
+        let s2 = bd(lent, table, scratch, finds, left, SIGS, e, b, s1);
+        return Ok(s2);
     }
     if k == kind::FUNCTOR_KW {
-        let s1 = bump(toks, scratch, s);
-        let s2 = bd(text, toks, env, table, scratch, finds, left, FCTS, e, b, s1);
-        return Found::At(s2);
+        let s1 = bump(lent.toks, scratch, s);
+        let s2 = bd(lent, table, scratch, finds, left, FCTS, e, b, s1);
+        return Ok(s2);
     }
     if k == kind::INCLUDE_KW {
-        let s1 = bump(toks, scratch, s);
-        let s2 = ic(text, toks, env, table, scratch, finds, left, b, s1);
-        return Found::At(close(scratch, kind::INCLUDE_DEC, b, s2));
+        let s1 = bump(lent.toks, scratch, s);
+        let s2 = ic(lent, table, scratch, finds, left, b, s1);
+        return Ok(close(scratch, Node::IncludeDec, b, s2));
     }
-    oth(text, toks, env, table, scratch, finds, left, k, e, b, s)
+    oth(lent, table, scratch, finds, left, k, e, b, s)
 }
 
 // `abstype`, whose fixities reach what follows, `local`, and an expression.
 // measure: 64 * left + 6
 #[cycle(exp_dec)]
 fn oth(
-    text: &[u8],
-    toks: &[u8],
-    env: &[u8],
+    lent: Lent,
     table: &mut [u8; 8192],
     scratch: &mut [u8],
     finds: &mut [u8],
@@ -1569,23 +1460,23 @@ fn oth(
     b: usize,
     s: State,
 ) -> Found
-    requires { Sound (mem text.now toks.now env.now table.old scratch.old finds.old s) × (b < 4294967296) }
-    ensures { RunsIn left b (decl.other_dec (suc k) (err_of e)) (mem text.now toks.now env.now table.old scratch.old finds.old s) (mem text.now toks.now env.now table.new scratch.new finds.new (out_state result)) (out_val result) }
+    requires { Sound (mem_of lent table.old scratch.old finds.old s) × (b < 4294967296) }
+    ensures { RunsIn left b (decl.other_dec (suc k) (err_of e)) (mem_of lent.entry table.old scratch.old finds.old s) (mem_of lent.entry table.new scratch.new finds.new (out_state result)) (out_val result) }
 {
     if k == kind::ABSTYPE_KW {
-        let s1 = abs_head(text, toks, env, table, scratch, finds, left, b, s);
-        let got = dec(text, toks, env, table, scratch, finds, left, e, s1);
-        let s2 = got.state();
-        let end = end_node(text, toks, env, table, scratch, finds, left, ABSTYPE, b, s2);
-        return Found::At(end);
+        let s1 = abs_head(lent, table, scratch, finds, left, b, s);
+        let got = dec(lent, table, scratch, finds, left, e, s1);
+        let s2 = either(got);
+        let end = end_node(lent, table, scratch, finds, left, ABSTYPE, b, s2);
+        return Ok(end);
     }
     if k == kind::LOCAL_KW {
-        return lo(text, toks, env, table, scratch, finds, left, e, b, s);
+        return lo(lent, table, scratch, finds, left, e, b, s);
     }
-    let got = pre(text, toks, env, table, scratch, finds, left, MIN, s);
+    let got = pre(lent, table, scratch, finds, left, MIN, s);
     match got {
-        Found::Missing(s1) => Found::Missing(s1),
-        Found::At(s1) => Found::At(close(scratch, kind::EXP_DEC, b, s1)),
+        Err(s1) => Err(s1),
+        Ok(s1) => Ok(close(scratch, Node::ExpDec, b, s1)),
     }
 }
 
@@ -1593,9 +1484,7 @@ fn oth(
 // measure: 64 * left + 1
 #[cycle(exp_dec)]
 fn lo(
-    text: &[u8],
-    toks: &[u8],
-    env: &[u8],
+    lent: Lent,
     table: &mut [u8; 8192],
     scratch: &mut [u8],
     finds: &mut [u8],
@@ -1604,20 +1493,20 @@ fn lo(
     b: usize,
     s: State,
 ) -> Found
-    requires { Sound (mem text.now toks.now env.now table.old scratch.old finds.old s) × (b < 4294967296) }
-    ensures { RunsIn left b (decl.local_dec (err_of e)) (mem text.now toks.now env.now table.old scratch.old finds.old s) (mem text.now toks.now env.now table.new scratch.new finds.new (out_state result)) (out_val result) }
+    requires { Sound (mem_of lent table.old scratch.old finds.old s) × (b < 4294967296) }
+    ensures { RunsIn left b (decl.local_dec (err_of e)) (mem_of lent.entry table.old scratch.old finds.old s) (mem_of lent.entry table.new scratch.new finds.new (out_state result)) (out_val result) }
 {
     if left == 0 {
-        let s1 = s.refuse(TOO_DEEP);
-        return end(text, toks, env, table, scratch, finds, left, e, b, s1);
+        let s1 = s.refuse(Refusal::TooDeep);
+        return end(lent, table, scratch, finds, left, e, b, s1);
     }
     let s1 = s.mark();
     let c = s1.len;
-    let s2 = bump(toks, scratch, s1);
-    let got = dec(text, toks, env, table, scratch, finds, left - 1, e, s2);
-    let s3 = got.state();
-    let s4 = leave(scratch, kind::LOCAL_DEC_HD, c, s2, s3);
-    end(text, toks, env, table, scratch, finds, left, e, b, s4)
+    let s2 = bump(lent.toks, scratch, s1);
+    let got = dec(lent, table, scratch, finds, left - 1, e, s2);
+    let s3 = either(got);
+    let s4 = leave(scratch, Node::LocalDecHd, c, s2, s3);
+    end(lent, table, scratch, finds, left, e, b, s4)
 }
 
 // Its second part, from `in` to `end`.
@@ -1625,9 +1514,7 @@ fn lo(
 // shuts: decl.ended util.want util.eat
 #[cycle(exp_dec)]
 fn end(
-    text: &[u8],
-    toks: &[u8],
-    env: &[u8],
+    lent: Lent,
     table: &mut [u8; 8192],
     scratch: &mut [u8],
     finds: &mut [u8],
@@ -1636,42 +1523,40 @@ fn end(
     b: usize,
     s: State,
 ) -> Found
-    requires { Sound (mem text.now toks.now env.now table.old scratch.old finds.old s) × (b < 4294967296) }
-    ensures { RunsIn left b (decl.local_tail (err_of e)) (mem text.now toks.now env.now table.old scratch.old finds.old s) (mem text.now toks.now env.now table.new scratch.new finds.new (out_state result)) (out_val result) }
+    requires { Sound (mem_of lent table.old scratch.old finds.old s) × (b < 4294967296) }
+    ensures { RunsIn left b (decl.local_tail (err_of e)) (mem_of lent.entry table.old scratch.old finds.old s) (mem_of lent.entry table.new scratch.new finds.new (out_state result)) (out_val result) }
 {
     if left == 0 {
-        return Found::At(s.refuse(TOO_DEEP));
+        return Ok(s.refuse(Refusal::TooDeep));
     }
     let s1 = s.mark();
     let c = s1.len;
-    let s2 = want(toks, scratch, finds, kind::IN_KW, s1);
-    let got = dec(text, toks, env, table, scratch, finds, left - 1, e, s2);
-    let s3 = got.state();
-    let s4 = close(scratch, kind::LOCAL_DEC_TL, c, s3);
-    let end = end_node(text, toks, env, table, scratch, finds, left, LOCAL, b, s4);
-    Found::At(end)
+    let s2 = want(lent.toks, scratch, finds, kind::IN_KW, s1);
+    let got = dec(lent, table, scratch, finds, left - 1, e, s2);
+    let s3 = either(got);
+    let s4 = close(scratch, Node::LocalDecTl, c, s3);
+    let end = end_node(lent, table, scratch, finds, left, LOCAL, b, s4);
+    Ok(end)
 }
 
 // `str_exp`, or the finding that there is no structure.
 // measure: 64 * left + 2
 #[cycle(exp_dec)]
 fn stm(
-    text: &[u8],
-    toks: &[u8],
-    env: &[u8],
+    lent: Lent,
     table: &mut [u8; 8192],
     scratch: &mut [u8],
     finds: &mut [u8],
     left: usize,
     s: State,
 ) -> State
-    requires { Sound (mem text.now toks.now env.now table.old scratch.old finds.old s) }
-    ensures { Runs left decl.str_must (mem text.now toks.now env.now table.old scratch.old finds.old s) (mem text.now toks.now env.now table.new scratch.new finds.new result) 0 }
+    requires { Sound (mem_of lent table.old scratch.old finds.old s) }
+    ensures { Runs left decl.str_must (mem_of lent.entry table.old scratch.old finds.old s) (mem_of lent.entry table.new scratch.new finds.new result) 0 }
 {
-    let got = stx(text, toks, env, table, scratch, finds, left, s);
+    let got = stx(lent, table, scratch, finds, left, s);
     match got {
-        Found::At(s1) => s1,
-        Found::Missing(s1) => report(finds, finding::EXPECTED, finding::STR_EXP, NO_NAME, s1),
+        Ok(s1) => s1,
+        Err(s1) => report(finds, ErrorKind::Expected(Expected::StrExp), s1),
     }
 }
 
@@ -1679,22 +1564,20 @@ fn stm(
 // measure: 64 * left + 1
 #[cycle(exp_dec)]
 fn sgm(
-    text: &[u8],
-    toks: &[u8],
-    env: &[u8],
+    lent: Lent,
     table: &mut [u8; 8192],
     scratch: &mut [u8],
     finds: &mut [u8],
     left: usize,
     s: State,
 ) -> State
-    requires { Sound (mem text.now toks.now env.now table.old scratch.old finds.old s) }
-    ensures { Runs left decl.sig_must (mem text.now toks.now env.now table.old scratch.old finds.old s) (mem text.now toks.now env.now table.new scratch.new finds.new result) 0 }
+    requires { Sound (mem_of lent table.old scratch.old finds.old s) }
+    ensures { Runs left decl.sig_must (mem_of lent.entry table.old scratch.old finds.old s) (mem_of lent.entry table.new scratch.new finds.new result) 0 }
 {
-    let got = sgx(text, toks, env, table, scratch, finds, left, s);
+    let got = sgx(lent, table, scratch, finds, left, s);
     match got {
-        Found::At(s1) => s1,
-        Found::Missing(s1) => report(finds, finding::EXPECTED, finding::SIG_EXP, NO_NAME, s1),
+        Ok(s1) => s1,
+        Err(s1) => report(finds, ErrorKind::Expected(Expected::SigExp), s1),
     }
 }
 
@@ -1702,49 +1585,45 @@ fn sgm(
 // measure: 64 * left
 #[cycle(exp_dec)]
 fn asc(
-    text: &[u8],
-    toks: &[u8],
-    env: &[u8],
+    lent: Lent,
     table: &mut [u8; 8192],
     scratch: &mut [u8],
     finds: &mut [u8],
     left: usize,
     s: State,
 ) -> State
-    requires { Sound (mem text.now toks.now env.now table.old scratch.old finds.old s) }
-    ensures { Runs left (decl.ascription_tail {g = true}) (mem text.now toks.now env.now table.old scratch.old finds.old s) (mem text.now toks.now env.now table.new scratch.new finds.new result) 0 }
+    requires { Sound (mem_of lent table.old scratch.old finds.old s) }
+    ensures { Runs left (decl.ascription_tail {g = true}) (mem_of lent.entry table.old scratch.old finds.old s) (mem_of lent.entry table.new scratch.new finds.new result) 0 }
 {
     if left == 0 {
-        return s.refuse(TOO_DEEP);
+        return s.refuse(Refusal::TooDeep);
     }
     let s1 = s.mark();
     let b = s1.len;
-    let s2 = bump(toks, scratch, s1);
-    let s3 = sgm(text, toks, env, table, scratch, finds, left - 1, s2);
-    close(scratch, kind::ASCRIPTION_TAIL, b, s3)
+    let s2 = bump(lent.toks, scratch, s1);
+    let s3 = sgm(lent, table, scratch, finds, left - 1, s2);
+    close(scratch, Node::AscriptionTail, b, s3)
 }
 
 // The same, where an ascription is next.
 // measure: 64 * left + 1
 #[cycle(exp_dec)]
 fn aso(
-    text: &[u8],
-    toks: &[u8],
-    env: &[u8],
+    lent: Lent,
     table: &mut [u8; 8192],
     scratch: &mut [u8],
     finds: &mut [u8],
     left: usize,
     s: State,
 ) -> State
-    requires { Sound (mem text.now toks.now env.now table.old scratch.old finds.old s) }
-    ensures { Runs left (decl.ascription_opt {g = true}) (mem text.now toks.now env.now table.old scratch.old finds.old s) (mem text.now toks.now env.now table.new scratch.new finds.new result) 0 }
+    requires { Sound (mem_of lent table.old scratch.old finds.old s) }
+    ensures { Runs left (decl.ascription_opt {g = true}) (mem_of lent.entry table.old scratch.old finds.old s) (mem_of lent.entry table.new scratch.new finds.new result) 0 }
 {
-    let Look::Kind(k) = peek(toks, s) else {
+    let Some(k) = peek(lent.toks, s) else {
         return s;
     };
     if ascription(k) {
-        return asc(text, toks, env, table, scratch, finds, left, s);
+        return asc(lent, table, scratch, finds, left, s);
     }
     s
 }
@@ -1754,32 +1633,30 @@ fn aso(
 // unfolds: root.body decl.str_scope
 #[cycle(exp_dec)]
 fn stx(
-    text: &[u8],
-    toks: &[u8],
-    env: &[u8],
+    lent: Lent,
     table: &mut [u8; 8192],
     scratch: &mut [u8],
     finds: &mut [u8],
     left: usize,
     s: State,
 ) -> Found
-    requires { Sound (mem text.now toks.now env.now table.old scratch.old finds.old s) }
-    ensures { Runs left (Prog.call Rule.str_exp) (mem text.now toks.now env.now table.old scratch.old finds.old s) (mem text.now toks.now env.now table.new scratch.new finds.new (out_state result)) (out_val result) }
+    requires { Sound (mem_of lent table.old scratch.old finds.old s) }
+    ensures { Runs left (Prog.call Rule.str_exp) (mem_of lent.entry table.old scratch.old finds.old s) (mem_of lent.entry table.new scratch.new finds.new (out_state result)) (out_val result) }
 {
-    let Look::Kind(k) = peek(toks, s) else {
-        return Found::Missing(s);
+    let Some(k) = peek(lent.toks, s) else {
+        return Err(s);
     };
     if left == 0 {
-        return Found::Missing(s.refuse(TOO_DEEP));
+        return Err(s.refuse(Refusal::TooDeep));
     }
     let b = s.len;
     let s1 = s.mark();
-    let head = sth(text, toks, env, table, scratch, finds, left - 1, k, b, s1);
+    let head = sth(lent, table, scratch, finds, left - 1, k, b, s1);
     match head {
-        Found::Missing(s2) => Found::Missing(s2),
-        Found::At(s2) => {
-            let s3 = stt(text, toks, env, table, scratch, finds, left, b, s2);
-            Found::At(s3)
+        Err(s2) => Err(s2),
+        Ok(s2) => {
+            let s3 = stt(lent, table, scratch, finds, left, b, s2);
+            Ok(s3)
         }
     }
 }
@@ -1788,9 +1665,7 @@ fn stx(
 // measure: 64 * left + 4
 #[cycle(exp_dec)]
 fn sth(
-    text: &[u8],
-    toks: &[u8],
-    env: &[u8],
+    lent: Lent,
     table: &mut [u8; 8192],
     scratch: &mut [u8],
     finds: &mut [u8],
@@ -1799,31 +1674,31 @@ fn sth(
     b: usize,
     s: State,
 ) -> Found
-    requires { Sound (mem text.now toks.now env.now table.old scratch.old finds.old s) × (b < 4294967296) }
-    ensures { RunsIn left b (decl.str_head (suc k)) (mem text.now toks.now env.now table.old scratch.old finds.old s) (mem text.now toks.now env.now table.new scratch.new finds.new (out_state result)) (out_val result) }
+    requires { Sound (mem_of lent table.old scratch.old finds.old s) × (b < 4294967296) }
+    ensures { RunsIn left b (decl.str_head (suc k)) (mem_of lent.entry table.old scratch.old finds.old s) (mem_of lent.entry table.new scratch.new finds.new (out_state result)) (out_val result) }
 {
     if k == kind::STRUCT_KW {
-        let s1 = bump(toks, scratch, s);
-        let got = dec(text, toks, env, table, scratch, finds, left, YES, s1);
-        let s2 = got.state();
+        let s1 = bump(lent.toks, scratch, s);
+        let got = dec(lent, table, scratch, finds, left, YES, s1);
+        let s2 = either(got);
         let s3 = s1.give_back(s2);
-        let end = end_node(text, toks, env, table, scratch, finds, left, STRUCT, b, s3);
-        return Found::At(end);
+        let end = end_node(lent, table, scratch, finds, left, STRUCT, b, s3);
+        return Ok(end);
     }
     if k == kind::LET_KW {
-        let s1 = bump(toks, scratch, s);
-        let s2 = slt(text, toks, env, table, scratch, finds, left, s1);
+        let s1 = bump(lent.toks, scratch, s);
+        let s2 = slt(lent, table, scratch, finds, left, s1);
         let s3 = s1.give_back(s2);
-        let end = end_node(text, toks, env, table, scratch, finds, left, STR_LET, b, s3);
-        return Found::At(end);
+        let end = end_node(lent, table, scratch, finds, left, STR_LET, b, s3);
+        return Ok(end);
     }
     if k == kind::NAME {
-        if at_n(toks, 1, kind::LROUND, s) {
-            return fap(text, toks, env, table, scratch, finds, left, b, s);
+        if at_n(lent.toks, 1, kind::LROUND, s) {
+            return fap(lent, table, scratch, finds, left, b, s);
         }
-        return str_path(text, toks, env, table, scratch, finds, left, b, s);
+        return str_path(lent, table, scratch, finds, left, b, s);
     }
-    Found::Missing(s)
+    Err(s)
 }
 
 // A functor application. The fixities of declarations as its argument end with it.
@@ -1831,9 +1706,7 @@ fn sth(
 // shuts: decl.ended util.want util.eat
 #[cycle(exp_dec)]
 fn fap(
-    text: &[u8],
-    toks: &[u8],
-    env: &[u8],
+    lent: Lent,
     table: &mut [u8; 8192],
     scratch: &mut [u8],
     finds: &mut [u8],
@@ -1841,28 +1714,28 @@ fn fap(
     b: usize,
     s: State,
 ) -> Found
-    requires { Sound (mem text.now toks.now env.now table.old scratch.old finds.old s) × (b < 4294967296) }
-    ensures { RunsIn left b decl.str_app (mem text.now toks.now env.now table.old scratch.old finds.old s) (mem text.now toks.now env.now table.new scratch.new finds.new (out_state result)) (out_val result) }
+    requires { Sound (mem_of lent table.old scratch.old finds.old s) × (b < 4294967296) }
+    ensures { RunsIn left b decl.str_app (mem_of lent.entry table.old scratch.old finds.old s) (mem_of lent.entry table.new scratch.new finds.new (out_state result)) (out_val result) }
 {
-    let s1 = app_start(text, toks, env, table, scratch, finds, left, s);
+    let s1 = app_start(lent, table, scratch, finds, left, s);
     if left == 0 {
-        return Found::At(s1.refuse(TOO_DEEP));
+        return Ok(s1.refuse(Refusal::TooDeep));
     }
     let s2 = s1.mark();
     let c = s2.len;
-    let found = stx(text, toks, env, table, scratch, finds, left - 1, s2);
+    let found = stx(lent, table, scratch, finds, left - 1, s2);
     match found {
-        Found::At(s3) => {
-            let s4 = close(scratch, kind::APP_STR_EXP_ARG_STR_EXP, c, s3);
-            let end = end_node(text, toks, env, table, scratch, finds, left, APPLIED, b, s4);
-            Found::At(end)
+        Ok(s3) => {
+            let s4 = close(scratch, Node::AppStrExpArgStrExp, c, s3);
+            let end = end_node(lent, table, scratch, finds, left, APPLIED, b, s4);
+            Ok(end)
         }
-        Found::Missing(s3) => {
-            let got = dec(text, toks, env, table, scratch, finds, left, YES, s3);
-            let s4 = got.state();
+        Err(s3) => {
+            let got = dec(lent, table, scratch, finds, left, YES, s3);
+            let s4 = either(got);
             let s5 = s3.give_back(s4);
-            let end = end_node(text, toks, env, table, scratch, finds, left, APPLIED, b, s5);
-            Found::At(end)
+            let end = end_node(lent, table, scratch, finds, left, APPLIED, b, s5);
+            Ok(end)
         }
     }
 }
@@ -1871,22 +1744,20 @@ fn fap(
 // measure: 64 * left + 3
 #[cycle(exp_dec)]
 fn slt(
-    text: &[u8],
-    toks: &[u8],
-    env: &[u8],
+    lent: Lent,
     table: &mut [u8; 8192],
     scratch: &mut [u8],
     finds: &mut [u8],
     left: usize,
     s: State,
 ) -> State
-    requires { Sound (mem text.now toks.now env.now table.old scratch.old finds.old s) }
-    ensures { Runs left decl.str_let (mem text.now toks.now env.now table.old scratch.old finds.old s) (mem text.now toks.now env.now table.new scratch.new finds.new result) 0 }
+    requires { Sound (mem_of lent table.old scratch.old finds.old s) }
+    ensures { Runs left decl.str_let (mem_of lent.entry table.old scratch.old finds.old s) (mem_of lent.entry table.new scratch.new finds.new result) 0 }
 {
-    let got = dec(text, toks, env, table, scratch, finds, left, YES, s);
-    let s1 = got.state();
-    let s2 = want(toks, scratch, finds, kind::IN_KW, s1);
-    stm(text, toks, env, table, scratch, finds, left, s2)
+    let got = dec(lent, table, scratch, finds, left, YES, s);
+    let s1 = either(got);
+    let s2 = want(lent.toks, scratch, finds, kind::IN_KW, s1);
+    stm(lent, table, scratch, finds, left, s2)
 }
 
 // The ascriptions behind a structure that started at `b`.
@@ -1894,9 +1765,7 @@ fn slt(
 // advances: str_step_advances
 #[cycle(exp_dec)]
 fn stt(
-    text: &[u8],
-    toks: &[u8],
-    env: &[u8],
+    lent: Lent,
     table: &mut [u8; 8192],
     scratch: &mut [u8],
     finds: &mut [u8],
@@ -1904,22 +1773,22 @@ fn stt(
     b: usize,
     s: State,
 ) -> State
-    requires { Sound (mem text.now toks.now env.now table.old scratch.old finds.old s) × (b < 4294967296) }
-    ensures { RunsIn left b (Prog.loop decl.str_step) (mem text.now toks.now env.now table.old scratch.old finds.old s) (mem text.now toks.now env.now table.new scratch.new finds.new result) 0 }
+    requires { Sound (mem_of lent table.old scratch.old finds.old s) × (b < 4294967296) }
+    ensures { RunsIn left b (Prog.loop decl.str_step) (mem_of lent.entry table.old scratch.old finds.old s) (mem_of lent.entry table.new scratch.new finds.new result) 0 }
 {
     let mut s1 = s;
     loop {
-        let Look::Kind(k) = peek(toks, s1) else {
+        let Some(k) = peek(lent.toks, s1) else {
             return s1;
         };
         if ascription(k) {
             if left == 0 {
-                s1 = s1.refuse(TOO_DEEP);
+                s1 = s1.refuse(Refusal::TooDeep);
                 continue;
             }
             let s2 = s1.mark();
-            let s3 = asc(text, toks, env, table, scratch, finds, left - 1, s2);
-            s1 = close(scratch, kind::ASCRIPTION_STR_EXP, b, s3);
+            let s3 = asc(lent, table, scratch, finds, left - 1, s2);
+            s1 = close(scratch, Node::AscriptionStrExp, b, s3);
             continue;
         }
         return s1;
@@ -1931,41 +1800,39 @@ fn stt(
 // unfolds: root.body decl.sig_scope decl.sig_head
 #[cycle(exp_dec)]
 fn sgx(
-    text: &[u8],
-    toks: &[u8],
-    env: &[u8],
+    lent: Lent,
     table: &mut [u8; 8192],
     scratch: &mut [u8],
     finds: &mut [u8],
     left: usize,
     s: State,
 ) -> Found
-    requires { Sound (mem text.now toks.now env.now table.old scratch.old finds.old s) }
-    ensures { Runs left (Prog.call Rule.sig_exp) (mem text.now toks.now env.now table.old scratch.old finds.old s) (mem text.now toks.now env.now table.new scratch.new finds.new (out_state result)) (out_val result) }
+    requires { Sound (mem_of lent table.old scratch.old finds.old s) }
+    ensures { Runs left (Prog.call Rule.sig_exp) (mem_of lent.entry table.old scratch.old finds.old s) (mem_of lent.entry table.new scratch.new finds.new (out_state result)) (out_val result) }
 {
-    let Look::Kind(k) = peek(toks, s) else {
-        return Found::Missing(s);
+    let Some(k) = peek(lent.toks, s) else {
+        return Err(s);
     };
     if left == 0 {
-        return Found::Missing(s.refuse(TOO_DEEP));
+        return Err(s.refuse(Refusal::TooDeep));
     }
     let n = left - 1;
     let b = s.len;
     let s1 = s.mark();
     if k == kind::SIG_KW {
-        let s2 = bump(toks, scratch, s1);
-        let got = dec(text, toks, env, table, scratch, finds, n, NO, s2);
-        let s3 = got.state();
+        let s2 = bump(lent.toks, scratch, s1);
+        let got = dec(lent, table, scratch, finds, n, NO, s2);
+        let s3 = either(got);
         let s4 = s2.give_back(s3);
-        let s5 = end_node(text, toks, env, table, scratch, finds, n, SIG, b, s4);
-        return Found::At(wheres(text, toks, env, table, scratch, finds, left, b, s5));
+        let s5 = end_node(lent, table, scratch, finds, n, SIG, b, s4);
+        return Ok(wheres(lent, table, scratch, finds, left, b, s5));
     }
     if k == kind::NAME {
-        let s2 = bump(toks, scratch, s1);
-        let s3 = close(scratch, kind::NAME_SIG_EXP, b, s2);
-        return Found::At(wheres(text, toks, env, table, scratch, finds, left, b, s3));
+        let s2 = bump(lent.toks, scratch, s1);
+        let s3 = close(scratch, Node::NameSigExp, b, s2);
+        return Ok(wheres(lent, table, scratch, finds, left, b, s3));
     }
-    Found::Missing(s1)
+    Err(s1)
 }
 
 // The signatures behind `include`.
@@ -1973,9 +1840,7 @@ fn sgx(
 // advances: sig_exp_advances
 #[cycle(exp_dec)]
 fn ic(
-    text: &[u8],
-    toks: &[u8],
-    env: &[u8],
+    lent: Lent,
     table: &mut [u8; 8192],
     scratch: &mut [u8],
     finds: &mut [u8],
@@ -1983,15 +1848,15 @@ fn ic(
     b: usize,
     s: State,
 ) -> State
-    requires { Sound (mem text.now toks.now env.now table.old scratch.old finds.old s) }
-    ensures { RunsIn left b (Prog.loop (Prog.call Rule.sig_exp)) (mem text.now toks.now env.now table.old scratch.old finds.old s) (mem text.now toks.now env.now table.new scratch.new finds.new result) 0 }
+    requires { Sound (mem_of lent table.old scratch.old finds.old s) }
+    ensures { RunsIn left b (Prog.loop (Prog.call Rule.sig_exp)) (mem_of lent.entry table.old scratch.old finds.old s) (mem_of lent.entry table.new scratch.new finds.new result) 0 }
 {
     let mut s1 = s;
     loop {
-        let turn = sgx(text, toks, env, table, scratch, finds, left, s1);
+        let turn = sgx(lent, table, scratch, finds, left, s1);
         match turn {
-            Found::At(s2) => s1 = s2,
-            Found::Missing(s2) => return s2,
+            Ok(s2) => s1 = s2,
+            Err(s2) => return s2,
         }
     }
 }

@@ -5,11 +5,10 @@ ghost use Rattle.std.specs.Prelude.{◌≡◌, ◌≤◌, length};
 ghost use Rattle.sml_fixity.specs.Table.{Stands};
 ghost use Rattle.fixity_bench.specs.Bench.{Grown};
 
-use env_bytes::form::Form;
 use env_bytes::{basis, form};
 use input::read_full;
-use sml_fixity::table::{Changed, Table};
-use sml_fixity::{Fixity, Infix, table};
+use sml_fixity::Infix;
+use sml_fixity::table::{self, Table};
 use std::io;
 
 // The names of the text: the first have entries, all but the last are changed.
@@ -21,11 +20,9 @@ const ENTRIES: usize = 256;
 fn fill_text(text: &mut [u8])
     requires { length text.old ≡ 8200 }
 {
-    let mut k = 0;
-    while k < NAMES {
+    for k in 0..NAMES {
         text[8 * k + 6] = (48 + k / 64) as u8;
         text[8 * k + 7] = (48 + k % 64) as u8;
-        k += 1;
     }
 }
 
@@ -33,21 +30,15 @@ fn fill_text(text: &mut [u8])
 fn fill_env(text: &[u8], env: &mut [u8])
     requires { (length text.now ≡ 8200) × (length env.old ≡ 3072) }
 {
-    let mut k = 0;
-    while k < ENTRIES {
-        let start = 8 * k;
-        let end = start + 8;
-        basis::put_entry(env, 12 * k, &text[start..end], Infix::left((k % 7) as u16));
-        k += 1;
+    for k in 0..ENTRIES {
+        let name = &text[8 * k..8 * k + 8];
+        basis::put_entry(env, 12 * k, name, Infix::left((k % 7) as u16));
     }
 }
 
 // What the change k makes of its name: an entry gets another fixity, any other name stays without one.
-fn change_of(k: usize) -> Fixity {
-    if k < ENTRIES {
-        return Fixity::Is(Infix::right((k % 10) as u16));
-    }
-    Fixity::Nonfix
+fn change_of(k: usize) -> Option<Infix> {
+    (k < ENTRIES).then(|| Infix::right((k % 10) as u16))
 }
 
 // Changes one name after the other until the table is full. None was changed before, so each look goes through the whole journal.
@@ -56,38 +47,33 @@ fn change_all(text: &[u8], env: &[u8], journal: &mut [u8], t: Table) -> Table
     ensures { Grown text.now env.now journal.old t journal.new result }
 {
     let mut full = t;
-    let mut k = 0;
-    while k < NAMES {
+    for k in 0..NAMES {
         let f = change_of(k);
-        let Changed::Done(next) = table::change(text, env, journal, full, 8 * k, 8, f) else {
+        let Ok(next) = table::change(text, env, journal, full, 8 * k, 8, f) else {
             return full;
         };
         full = next;
-        k += 1;
     }
     full
 }
 
 // A number for what was found.
-fn worth(f: Fixity) -> u64
+fn worth(f: Option<Infix>) -> u64
     ensures { result ≤ 65536 }
 {
     match f {
-        Fixity::Nonfix => 0,
-        Fixity::Is(i) => i.prec as u64 + 1,
+        None => 0,
+        Some(i) => i.prec as u64 + 1,
     }
 }
 
-// Looks for each name once, and adds up what was found.
+// Looks for each name once, and adds up what was found. A loop and no `sum`, of which the check does not find that it fits.
 fn find_all(text: &[u8], env: &[u8], journal: &[u8], t: Table) -> u64
     requires { Stands text.now env.now journal.now t × (length text.now ≡ 8200) }
 {
-    let mut sum: u64 = 0;
-    let mut k = 0;
-    while k < NAMES {
-        let f = table::find(text, env, journal, t, 8 * k, 8);
-        sum += worth(f);
-        k += 1;
+    let mut sum = 0;
+    for k in 0..NAMES {
+        sum += worth(table::find(text, env, journal, t, 8 * k, 8));
     }
     sum
 }
@@ -102,10 +88,10 @@ fn say(rt: &impl Print, what: &[u8], n: u64) -> io::Result<()> {
 fn run(rt: &impl Print, text: &[u8], env: &[u8], journal: &mut [u8], parts: usize) -> io::Result<()>
     requires { (length text.now ≡ 8200) × (length journal.old ≡ 8192) }
 {
-    let Form::Good(n) = form::form_of(env) else {
+    let Some(n) = form::form_of(env) else {
         return Ok(());
     };
-    let start = table::begin(n);
+    let start = Table::begin(n);
     if parts < 1 {
         return Ok(());
     }
@@ -123,7 +109,7 @@ fn run(rt: &impl Print, text: &[u8], env: &[u8], journal: &mut [u8], parts: usiz
     if parts < 3 {
         return Ok(());
     }
-    let left = table::leave(start, full);
+    let left = start.leave(full);
     say(
         rt,
         b"found behind the scope ",

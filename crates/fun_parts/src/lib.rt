@@ -1,23 +1,24 @@
 // The left side of a function's case: dec.rs.
+// Its loops over turns are the source's closures over the parser: one small loop per use (document 01).
 #![tactic(auto)]
 
 ghost use Rattle.std.specs.Prelude.{true, ◌<◌};
 ghost use Rattle.grammar.specs.Prog.{Prog};
 ghost use Rattle.grammar.specs.Pat as pats;
 ghost use Rattle.grammar.specs.Dec as decl;
-ghost use Rattle.parser.specs.View.{Sound, mem, err_of, out_state, out_val};
+ghost use Rattle.parser.specs.View.{Sound, mem_of, err_of, out_state, out_val};
 ghost use Rattle.parser.specs.Runs.{Runs, RunsIn};
 
 use head_parts::{infix_name, prefix_name, prefix_op};
-use parser::{Found, InfixErr, Look, State, TOO_DEEP, bump, close, kind, peek};
+use parser::node::Node;
+use parser::refusal::Refusal;
+use parser::{Found, InfixErr, Lent, State, bump, close, kind, peek};
 use pat::{at_must, at_pat};
 use util::want;
 
 // `infix_fun_bind_case_head_inner`: a pattern, a name and a pattern.
 fn infix_head(
-    text: &[u8],
-    toks: &[u8],
-    env: &[u8],
+    lent: Lent,
     table: &[u8],
     scratch: &mut [u8],
     finds: &mut [u8],
@@ -25,19 +26,17 @@ fn infix_head(
     e: InfixErr,
     s: State,
 ) -> State
-    requires { Sound (mem text.now toks.now env.now table.now scratch.old finds.old s) }
-    ensures { Runs left (decl.infix_head {g = true} (err_of e)) (mem text.now toks.now env.now table.now scratch.old finds.old s) (mem text.now toks.now env.now table.now scratch.new finds.new result) 0 }
+    requires { Sound (mem_of lent table.now scratch.old finds.old s) }
+    ensures { Runs left (decl.infix_head {g = true} (err_of e)) (mem_of lent.entry table.now scratch.old finds.old s) (mem_of lent.entry table.now scratch.new finds.new result) 0 }
 {
-    let s1 = at_must(text, toks, env, table, scratch, finds, left, e, s);
-    let s2 = infix_name(text, toks, env, table, scratch, finds, s1);
-    at_must(text, toks, env, table, scratch, finds, left, e, s2)
+    let s1 = at_must(lent, table, scratch, finds, left, e, s);
+    let s2 = infix_name(lent, table, scratch, finds, s1);
+    at_must(lent, table, scratch, finds, left, e, s2)
 }
 
 // A head that is not infix without parentheses, to the end of its node.
 fn other_head(
-    text: &[u8],
-    toks: &[u8],
-    env: &[u8],
+    lent: Lent,
     table: &[u8],
     scratch: &mut [u8],
     finds: &mut [u8],
@@ -46,32 +45,30 @@ fn other_head(
     b: usize,
     s: State,
 ) -> State
-    requires { Sound (mem text.now toks.now env.now table.now scratch.old finds.old s) × (b < 4294967296) }
-    ensures { RunsIn left b (decl.other_head {g = true} (err_of e)) (mem text.now toks.now env.now table.now scratch.old finds.old s) (mem text.now toks.now env.now table.now scratch.new finds.new result) 0 }
+    requires { Sound (mem_of lent table.now scratch.old finds.old s) × (b < 4294967296) }
+    ensures { RunsIn left b (decl.other_head {g = true} (err_of e)) (mem_of lent.entry table.now scratch.old finds.old s) (mem_of lent.entry table.now scratch.new finds.new result) 0 }
 {
-    let Look::Kind(k) = peek(toks, s) else {
-        let s1 = prefix_name(text, toks, env, table, scratch, finds, s);
-        return close(scratch, kind::PREFIX_FUN_BIND_CASE_HEAD, b, s1);
+    let Some(k) = peek(lent.toks, s) else {
+        let s1 = prefix_name(lent, table, scratch, finds, s);
+        return close(scratch, Node::PrefixFunBindCaseHead, b, s1);
     };
     if k == kind::LROUND {
-        let s1 = bump(toks, scratch, s);
-        let s2 = infix_head(text, toks, env, table, scratch, finds, left, e, s1);
-        let s3 = want(toks, scratch, finds, kind::RROUND, s2);
-        return close(scratch, kind::INFIX_FUN_BIND_CASE_HEAD, b, s3);
+        let s1 = bump(lent.toks, scratch, s);
+        let s2 = infix_head(lent, table, scratch, finds, left, e, s1);
+        let s3 = want(lent.toks, scratch, finds, kind::RROUND, s2);
+        return close(scratch, Node::InfixFunBindCaseHead, b, s3);
     }
     if k == kind::OP_KW {
-        let s1 = prefix_op(text, toks, env, table, scratch, finds, s);
-        return close(scratch, kind::PREFIX_FUN_BIND_CASE_HEAD, b, s1);
+        let s1 = prefix_op(lent, table, scratch, finds, s);
+        return close(scratch, Node::PrefixFunBindCaseHead, b, s1);
     }
-    let s1 = prefix_name(text, toks, env, table, scratch, finds, s);
-    close(scratch, kind::PREFIX_FUN_BIND_CASE_HEAD, b, s1)
+    let s1 = prefix_name(lent, table, scratch, finds, s);
+    close(scratch, Node::PrefixFunBindCaseHead, b, s1)
 }
 
 // The head of a case of a function: infix, unless that gave a finding and is taken back.
 fn fun_head(
-    text: &[u8],
-    toks: &[u8],
-    env: &[u8],
+    lent: Lent,
     table: &[u8],
     scratch: &mut [u8],
     finds: &mut [u8],
@@ -80,26 +77,24 @@ fn fun_head(
     b: usize,
     s: State,
 ) -> Found
-    requires { Sound (mem text.now toks.now env.now table.now scratch.old finds.old s) × (b < 4294967296) }
-    ensures { RunsIn left b (decl.fun_head {g = true} (err_of e)) (mem text.now toks.now env.now table.now scratch.old finds.old s) (mem text.now toks.now env.now table.now scratch.new finds.new (out_state result)) (out_val result) }
+    requires { Sound (mem_of lent table.now scratch.old finds.old s) × (b < 4294967296) }
+    ensures { RunsIn left b (decl.fun_head {g = true} (err_of e)) (mem_of lent.entry table.now scratch.old finds.old s) (mem_of lent.entry table.now scratch.new finds.new (out_state result)) (out_val result) }
 {
-    let s1 = infix_head(text, toks, env, table, scratch, finds, left, e, s);
+    let s1 = infix_head(lent, table, scratch, finds, left, e, s);
     let kept = s.ok_since(s1);
     match kept {
-        Found::Missing(s2) => {
-            let s3 = other_head(text, toks, env, table, scratch, finds, left, e, b, s2);
-            Found::Missing(s3)
+        Err(s2) => {
+            let s3 = other_head(lent, table, scratch, finds, left, e, b, s2);
+            Err(s3)
         }
-        Found::At(s2) => Found::At(close(scratch, kind::INFIX_FUN_BIND_CASE_HEAD, b, s2)),
+        Ok(s2) => Ok(close(scratch, Node::InfixFunBindCaseHead, b, s2)),
     }
 }
 
 // The patterns behind a head.
 // advances: at_pat_advances true _
 fn at_pats(
-    text: &[u8],
-    toks: &[u8],
-    env: &[u8],
+    lent: Lent,
     table: &[u8],
     scratch: &mut [u8],
     finds: &mut [u8],
@@ -108,24 +103,22 @@ fn at_pats(
     b: usize,
     s: State,
 ) -> State
-    requires { Sound (mem text.now toks.now env.now table.now scratch.old finds.old s) }
-    ensures { RunsIn left b (Prog.loop (pats.at_pat {g = true} (err_of e))) (mem text.now toks.now env.now table.now scratch.old finds.old s) (mem text.now toks.now env.now table.now scratch.new finds.new result) 0 }
+    requires { Sound (mem_of lent table.now scratch.old finds.old s) }
+    ensures { RunsIn left b (Prog.loop (pats.at_pat {g = true} (err_of e))) (mem_of lent.entry table.now scratch.old finds.old s) (mem_of lent.entry table.now scratch.new finds.new result) 0 }
 {
     let mut s1 = s;
     loop {
-        let turn = at_pat(text, toks, env, table, scratch, finds, left, e, s1);
+        let turn = at_pat(lent, table, scratch, finds, left, e, s1);
         match turn {
-            Found::At(s2) => s1 = s2,
-            Found::Missing(s2) => return s2,
+            Ok(s2) => s1 = s2,
+            Err(s2) => return s2,
         }
     }
 }
 
 // The left side of a case of a function.
 pub fn fun_left(
-    text: &[u8],
-    toks: &[u8],
-    env: &[u8],
+    lent: Lent,
     table: &[u8],
     scratch: &mut [u8],
     finds: &mut [u8],
@@ -133,19 +126,19 @@ pub fn fun_left(
     e: InfixErr,
     s: State,
 ) -> State
-    requires { Sound (mem text.now toks.now env.now table.now scratch.old finds.old s) }
-    ensures { Runs left (decl.fun_left (err_of e)) (mem text.now toks.now env.now table.now scratch.old finds.old s) (mem text.now toks.now env.now table.now scratch.new finds.new result) 0 }
+    requires { Sound (mem_of lent table.now scratch.old finds.old s) }
+    ensures { Runs left (decl.fun_left (err_of e)) (mem_of lent.entry table.now scratch.old finds.old s) (mem_of lent.entry table.now scratch.new finds.new result) 0 }
 {
     let b = s.len;
     if left == 0 {
-        let s1 = s.refuse(TOO_DEEP);
-        return at_pats(text, toks, env, table, scratch, finds, left, e, b, s1);
+        let s1 = s.refuse(Refusal::TooDeep);
+        return at_pats(lent, table, scratch, finds, left, e, b, s1);
     }
     let s1 = s.mark();
     let c = s1.len;
-    let head = fun_head(text, toks, env, table, scratch, finds, left - 1, e, c, s1);
+    let head = fun_head(lent, table, scratch, finds, left - 1, e, c, s1);
     match head {
-        Found::Missing(s2) => at_pats(text, toks, env, table, scratch, finds, left, e, b, s2),
-        Found::At(s2) => s2,
+        Err(s2) => at_pats(lent, table, scratch, finds, left, e, b, s2),
+        Ok(s2) => s2,
     }
 }

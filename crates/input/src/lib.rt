@@ -14,6 +14,7 @@ pub fn read_full<R: Read>(from: &mut R, buf: &mut [u8]) -> io::Result<usize>
     ensures whole { IfOk result (λ n. n < length buf.new → IsAtEnd (R.remaining from.new)) }
 {
     let mut done = 0;
+    // a loop, since `read_exact` takes an early end for an error, and `read_to_end` allocates
     while done < buf.len() {
         let n = from.read(&mut buf[done..])?;
         if n == 0 {

@@ -1,4 +1,4 @@
--- What an answer says was used lies within what was lent, and the environment's room is as long as the program's at most.
+-- What an answer says was used lies within what was lent.
 use Rattle.std.specs.Prelude.{ℕ, ◌≤◌, ◌≡◌, List, leb, length}
 use Rattle.std.proofs.Common.{arith, length-append}
 use Rattle.std.proofs.Math.Option.{Option, none, some}
@@ -9,14 +9,13 @@ use Rattle.grammar.specs.World.{World}
 use Rattle.grammar.specs.World.World.{refused, on}
 use Rattle.grammar.specs.Read.{Call, Result, pad, refusal, handed, finish, no_final, no_nodes, bad_env, bad_records, bad_settings, reading, read_with, settings_fit, read}
 use Rattle.laws.specs.Choice.{if_both}
-use Rattle.answers.specs.Entry.{result_of, served, with_scratch, most_scratch}
-use Rattle.answers.specs.declared.Answer.{Answer}
+use Rattle.answers.specs.Entry.{Answer, used_of, result_of, served, with_scratch, most_scratch}
+use Rattle.answers.specs.declared.Used.{Used}
 
-pub record Within (a : Answer) (ns fs es : List ℕ) : Type 0 where
-  pub nodes : a.nodes ≤ length ns
-  pub finds : a.finds ≤ length fs
-  pub last : a.last ≤ length es
-  pub room : length es ≤ 65536
+pub record Within (u : Used) (ns fs es : List ℕ) : Type 0 where
+  pub nodes : u.nodes ≤ length ns
+  pub finds : u.finds ≤ length fs
+  pub last : u.last ≤ length es
 
 record Fits (r : Result) : Type 0 where
   nodes : r.nodes_used ≤ length r.nodes
@@ -65,7 +64,7 @@ served_fits c =
     if_both Fits (leb c.scratch most_scratch) (λ _. read_fits c) (λ _. record { nodes = w.nodes; finds = w.finds; last = w.last })
 
 -- of what a call of the code hands back
-pub used : {a : Answer} {scratch nodes finds last : List ℕ} (c : Call) → result_of a scratch nodes finds last ≡ served c → length last ≤ 65536 → Within a nodes finds last
-used {a} {scratch} {nodes} {finds} {last} c e h =
+pub used : (a : Answer) {scratch nodes finds last : List ℕ} (c : Call) → result_of a scratch nodes finds last ≡ served c → Within (used_of a) nodes finds last
+used a {scratch} {nodes} {finds} {last} c e =
     let w : Fits (result_of a scratch nodes finds last) = rw e (served_fits c) in
-    record { nodes = w.nodes; finds = w.finds; last = w.last; room = h }
+    record { nodes = w.nodes; finds = w.finds; last = w.last }

@@ -1,35 +1,32 @@
 -- Where the walk begins, over a buffer of zeroes, and where it ends.
-use Prim.Native.Nat.{ℕ, ◌+◌, ◌-◌, ◌*◌, ◌≤◌}
+use Prim.Native.Nat.{ℕ, ◌-◌, ◌*◌, ◌/◌}
 use native.Mathlib.Omega.{arith}
-use mathlib.Core.Path.{◌≡◌, refl, ap, sym, ◌∙◌}
+use mathlib.Core.Path.{◌≡◌, refl, ap, ◌∙◌}
 use mathlib.Core.List.{List, [], ◌∷◌, ◌++◌}
-use lib.ListN.{length, drop, length-replicate, replicate-append-replicate}
-use lib.Seq.{drop_at}
+use lib.ListN.{length, take, drop, length-append, length-drop}
+use lib.Seq.{drop_at, length-take-le}
 use Rattle.grammar.specs.World.{Rec}
 use Rattle.grammar.specs.Nodes.{Node, nodes_of, nodes_bytes}
 use Rattle.grammar.specs.Read.{zeroes, pad}
 use Rattle.laws.specs.Flat.{flat}
 use Rattle.laws.proofs.Flat.{nodes_posts}
+use Rattle.parser.specs.View.{chunk_size}
 use Rattle.node_count.specs.Log.{node_size, nodes_in}
 use Rattle.nodes.specs.Grown.{Ready}
 use Rattle.nodes.specs.Walk.{before, ahead, Walks}
 use Rattle.nodes.specs.Walk.Way.{outside}
 use Rattle.node_count.specs.Counts.{bytes_length}
 
--- zeroes from a place on
-drop_zeroes : (n k : ℕ) → k ≤ n → drop k (zeroes n) ≡ zeroes (n - k)
-drop_zeroes n k h =
-    let e : k + (n - k) ≡ n = omega arith in
-    ap (drop k) (sym (replicate-append-replicate k (n - k) 0 ∙ ap zeroes e)) ∙ drop_at (zeroes k) (zeroes (n - k)) k (length-replicate k 0)
-
--- The walk begins outside of all nodes, before the whole forest, over a cleared buffer.
-pub begins : (scratch : List ℕ) (len : ℕ) (nodes clear : List ℕ) (count : ℕ) → Ready scratch len nodes count → clear ≡ zeroes (length nodes)
-    → Walks (pad (length clear) (nodes_in scratch len)) scratch len clear count len len
+-- The walk begins outside of all nodes, before the whole forest, over a buffer that is cleared behind the nodes.
+pub begins : (log nodes cleared : List ℕ) (count : ℕ) → Ready log nodes count → cleared ≡ take (node_size * count) nodes ++ zeroes (length (drop (node_size * count) nodes))
+    → let len = length log / chunk_size in Walks (pad (length nodes) (nodes_in log len)) log len cleared count len len
 unfolding before ahead pad
-begins scratch len nodes clear count r z =
+begins log nodes cleared count r z =
     let f = r.grown.forest in
-    let n : length clear ≡ length nodes = ap length z ∙ length-replicate (length nodes) 0 in
-    let bytes : nodes_in scratch len ≡ nodes_bytes (flat f) = ap (λ (l : List Rec). nodes_bytes (nodes_of l)) r.grown.same ∙ ap nodes_bytes (nodes_posts f) in
+    let b = node_size * count in
+    let bytes : nodes_in log (length log / chunk_size) ≡ nodes_bytes (flat f) = ap (λ (l : List Rec). nodes_bytes (nodes_of l)) r.grown.same ∙ ap nodes_bytes (nodes_posts f) in
+    let front : length (take b nodes) ≡ b = length-take-le b nodes r.room in
+    let left : length (drop b nodes) ≡ length nodes - b = length-drop b nodes in
     record {
       way = outside;
       here = f;
@@ -38,17 +35,17 @@ begins scratch len nodes clear count r z =
         stack = refl;
         apart = omega arith;
         inner = omega arith;
-        fits = r.fits;
+        fits = omega arith;
         count = omega (arith, r.counted, ap length bytes, bytes_length (flat f));
-        room = omega (arith, r.room);
-        ends = rw (n, z, drop_zeroes (length nodes) (node_size * count) r.room, ← r.counted, bytes);
+        room = omega (arith, ap length z, length-append (take b nodes) (zeroes (length (drop b nodes))));
+        ends = rw (z, drop_at (take b nodes) (zeroes (length (drop b nodes))) b front, left, ← r.counted, bytes);
       };
     }
 
 -- It ends where no node is to be written.
-pub ended : {all scratch nodes : List ℕ} {len at left top : ℕ} → Walks all scratch len nodes at left top → at ≡ 0 → nodes ≡ all
+pub ended : {all log nodes : List ℕ} {len left top : ℕ} → Walks all log len nodes 0 left top → nodes ≡ all
 unfolding nodes_bytes
-ended {nodes = nodes} {at = at} w z = go (ahead w.way ++ flat w.here) (w.stands.count ∙ z) (ap (λ (n : ℕ). nodes_bytes (ahead w.way ++ flat w.here) ++ drop (node_size * n) nodes) (sym z) ∙ w.stands.ends)
+ended {nodes = nodes} w = go (ahead w.way ++ flat w.here) w.stands.count w.stands.ends
   where
     go : {all : List ℕ} (ns : List Node) → length ns ≡ 0 → nodes_bytes ns ++ drop (node_size * 0) nodes ≡ all → nodes ≡ all
     go [] e h = h

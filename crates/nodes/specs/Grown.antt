@@ -1,5 +1,5 @@
 -- That the log of a reading is a forest's, and what the writing of its nodes requires.
-use Rattle.std.specs.Prelude.{ℕ, ◌*◌, ◌≤◌, ◌≡◌, List, length}
+use Rattle.std.specs.Prelude.{ℕ, ◌*◌, ◌/◌, ◌≤◌, ◌≡◌, List, length}
 use Rattle.grammar.specs.Env.{Entry}
 use Rattle.grammar.specs.World.{Rec, Now}
 use Rattle.grammar.specs.World.World.{on}
@@ -20,8 +20,7 @@ unfolding reading start
 reading_grown c es s e = let b = eval_built body c.depth root (start c es) s e in record { forest = b.forest; same = b.log }
 
 -- What `write_nodes` requires: the log is a forest's, and its nodes, so many, have room.
-pub record Ready (scratch : List ℕ) (len : ℕ) (nodes : List ℕ) (count : ℕ) : Type 0 where
-  pub fits : chunk_size * len ≤ length scratch
-  pub grown : Grown (log_in scratch len)
-  pub counted : length (nodes_in scratch len) ≡ node_size * count
+pub record Ready (log nodes : List ℕ) (count : ℕ) : Type 0 where
+  pub grown : Grown (log_in log (length log / chunk_size))
+  pub counted : length (nodes_in log (length log / chunk_size)) ≡ node_size * count
   pub room : node_size * count ≤ length nodes

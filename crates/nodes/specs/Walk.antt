@@ -1,12 +1,14 @@
 -- The walk over the log from its last record to its first: where it stands, and what a step does.
-use Rattle.std.specs.Prelude.{ℕ, ◌+◌, ◌*◌, ◌≤◌, ◌<◌, ◌≡◌, List, [], ◌∷◌, ◌++◌, Bool, ◌&&◌, eqb, ltb, length, get_or, drop}
-use Rattle.std.proofs.lemmas.List.Edits.{sets}
+use Rattle.std.specs.Prelude.{ℕ, ◌+◌, ◌*◌, ◌≤◌, ◌<◌, ◌≡◌, List, [], ◌∷◌, ◌++◌, Bool, ◌&&◌, eqb, ltb, length, drop}
+use Rattle.std.proofs.Math.Seq.{paste}
 use Rattle.grammar.specs.World.{Rec}
 use Rattle.grammar.specs.Nodes.{Node, nodes_bytes}
 use Rattle.grammar.specs.Nodes.Node.{opens}
 use Rattle.laws.specs.Trees.{Forest, posts}
 use Rattle.laws.specs.Flat.{flat}
 use Rattle.parser.specs.View.{chunk_size}
+use Rattle.nodes.specs.declared.Tag.{Tag}
+use Rattle.nodes.specs.declared.Tag.TheVariants.{Opens, Token, Closes}
 use Rattle.node_count.specs.Log.{node_size, kind_at, number_at, log_in}
 
 -- The nodes that the walk is inside of, from the outermost: none, or those, what stands behind the last one's opening and before the next, and that one's kind.
@@ -52,24 +54,20 @@ pub record Walking (scratch : List ℕ) (len : ℕ) (nodes : List ℕ) (at left 
   pub all : List ℕ
   pub walks : Walks all scratch len nodes at left top
 
+-- the first byte of a node record
+abbrev pub tag_of : Tag → ℕ
+tag_of Opens = 1
+tag_of Token = 2
+tag_of Closes = 3
+
 -- whether the innermost node starts at i
 abbrev pub starts_at : List ℕ → ℕ → ℕ → ℕ → Bool
 starts_at scratch len top i = ltb top len && eqb (number_at scratch top) i
 
 -- a buffer with the node record i written
 abbrev pub put_node : List ℕ → ℕ → List ℕ → List ℕ
-put_node nodes i bytes = sets nodes (node_size * i) bytes
+put_node nodes i bytes = paste nodes (node_size * i) bytes node_size
 
--- the bytes of the kind and the number of the record i
-abbrev pub held_at : List ℕ → ℕ → List ℕ
-held_at scratch i =
-    kind_at scratch i ∷ get_or scratch (chunk_size * i + 2) 0 ∷ get_or scratch (chunk_size * i + 3) 0 ∷ get_or scratch (chunk_size * i + 4) 0 ∷ get_or scratch (chunk_size * i + 5) 0 ∷ []
-
--- a buffer with these copied to the record j
-abbrev pub copied : List ℕ → ℕ → ℕ → List ℕ
-copied scratch i j = sets scratch (chunk_size * j + 1) (held_at scratch i)
-
--- A step: one node record more is written, and the bytes that the walk ends in stay.
-pub record Steps (scratch : List ℕ) (len : ℕ) (nodes : List ℕ) (at left top : ℕ) (scratch' nodes' : List ℕ) (at' left' top' : ℕ) : Type 0 where
-  pub fewer : at' + 1 ≡ at
-  pub does : (all : List ℕ) → Walks all scratch len nodes at left top → Walks all scratch' len nodes' at' left' top'
+-- A step: the node record `at` is written, and the bytes that the walk ends in stay.
+pub record Steps (log : List ℕ) (len : ℕ) (nodes : List ℕ) (at left top : ℕ) (log' nodes' : List ℕ) (left' top' : ℕ) : Type 0 where
+  pub does : (all : List ℕ) → Walks all log len nodes (at + 1) left top → Walks all log' len nodes' at left' top'

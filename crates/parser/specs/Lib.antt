@@ -1,3 +1,7 @@
+pub mod Findings
+pub mod Nodes
+pub mod Others
+pub mod Refusals
 pub mod Backs
 pub mod Plans
 pub mod Kinds

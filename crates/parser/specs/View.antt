@@ -1,8 +1,9 @@
 -- What the code's numbers and buffers mean: the reading that they hold.
-use Rattle.std.specs.Prelude.{ℕ, zero, suc, ◌+◌, ◌-◌, ◌*◌, ◌/◌, ◌%◌, ◌≤◌, ◌<◌, ◌≡◌, List, [], ◌∷◌, ◌++◌, Bool, true, false, eqb, length, get_or}
+use Rattle.std.specs.Prelude.{ℕ, zero, suc, ◌+◌, ◌-◌, ◌*◌, ◌/◌, ◌%◌, ◌≤◌, ◌<◌, ◌≡◌, List, [], ◌∷◌, ◌++◌, Bool, true, false, not, eqb, length, get_or, Option, Some, None, Result, Ok, Err}
 use Rattle.std.proofs.lemmas.List.Edits.{sets}
 use Rattle.grammar.specs.Tokens.{Token, live, kind_at, text_at, end_at, record_size, max_records}
-use Rattle.grammar.specs.World.{World, Now, Rec, Find, ahead, fixity_ahead, mark, take1}
+use Rattle.std.proofs.Math.Option.{none, some}
+use Rattle.grammar.specs.World.{World, Now, Rec, Find, ahead, token_ahead, fixity_ahead, mark, take1}
 use Rattle.grammar.specs.World.World.{refused, on}
 use Rattle.grammar.specs.World.Rec.{took, ended}
 use Rattle.grammar.specs.Prog.{Look as Ask, seen}
@@ -12,12 +13,11 @@ use Rattle.grammar.specs.SyntaxKind as SK
 use Rattle.sml_fixity.specs.Fix.{fixity_of}
 use Rattle.sml_fixity.specs.Table.{Stands, table_of, change_size}
 use Rattle.sml_fixity.specs.declared.table.Table.{Table}
-use Rattle.sml_fixity.specs.declared.Fixity.{Fixity}
+use Rattle.sml_fixity.specs.declared.Infix.{Infix}
+use Rattle.parser.specs.declared.Lent.{Lent}
 use Rattle.parser.specs.declared.State.{State}
-use Rattle.parser.specs.declared.Look.{Look}
-use Rattle.parser.specs.declared.Look.TheVariants.{Kind, Nothing}
-use Rattle.parser.specs.declared.Found.{Found}
-use Rattle.parser.specs.declared.Found.TheVariants.{At, Missing}
+use Rattle.parser.specs.declared.refusal.Refusal.{Refusal}
+use Rattle.parser.specs.Refusals.{number_of}
 use Rattle.parser.specs.declared.InfixErr.{InfixErr}
 use Rattle.parser.specs.declared.InfixErr.TheVariants.{No, Yes}
 
@@ -75,9 +75,13 @@ pub record Mem : Type 0 where
 abbrev pub mem : List ℕ → List ℕ → List ℕ → List ℕ → List ℕ → List ℕ → State → Mem
 mem x t e j l f s = record { text = x; toks = t; env = e; table = j; scratch = l; finds = f; state = s }
 
+-- the same where the first three are lent as one value
+abbrev pub mem_of : Lent → List ℕ → List ℕ → List ℕ → State → Mem
+mem_of v j l f s = mem v.text.now v.toks.now v.env.now j l f s
+
 -- the table of the fixities in force
 abbrev pub table_in : State → Table
-table_in s = record { len = s.fixes; entries = s.entries; changes = s.changes }
+table_in s = s.fixes
 
 -- the tokens still to be read
 unfoldable pub rest_of : List ℕ → List ℕ → State → List Token
@@ -93,13 +97,21 @@ now_of m = record {
   finds = chunks find_of m.finds m.state.found;
   kept = m.state.kept;
   env = table_of m.text m.env m.table (table_in m.state);
-  changes = m.state.changes;
+  changes = m.state.fixes.changes;
   mode = m.state.mode;
 }
 
+-- the number by which a reading was refused, or 0
+abbrev pub stop_of : State → ℕ
+stop_of s = number_of s.stop
+
+-- whether it was refused
+abbrev pub is_off : State → Bool
+is_off s = not (eqb (stop_of s) 0)
+
 -- the reading
 unfoldable pub seen_in : Mem → World
-seen_in m = elim (eqb m.state.stop 0) [ true ↦ on (now_of m) | false ↦ refused m.state.stop m.state.len ]
+seen_in m = elim (eqb (stop_of m.state) 0) [ true ↦ on (now_of m) | false ↦ refused (stop_of m.state) m.state.len ]
 
 -- What every rule keeps. Of the tokens: their records are whole and few, and the next is no trivia.
 pub record Reads (toks : List ℕ) (at count : ℕ) : Type 0 where
@@ -139,27 +151,31 @@ pub record Sound (m : Mem) : Type 0 where
   pub stands : Stands m.text m.env m.table (table_in m.state)
 
 -- the kind that a look found, plus one, or 0
-abbrev pub kind_of : Look → ℕ
-kind_of (Kind k) = suc k
-kind_of Nothing = 0
+abbrev pub kind_of : Option ℕ → ℕ
+kind_of (Some k) = suc k
+kind_of None = 0
 
 -- whether infix names without `op` are reported
 abbrev pub err_of : InfixErr → Rule.InfixErr
 err_of No = Rule.InfixErr.No
 err_of Yes = Rule.InfixErr.Yes
 
+-- what a rule leaves, and whether it found what it reads
+abbrev pub Found : Type 0
+Found = Result State State
+
 abbrev pub out_state : Found → State
-out_state (At s) = s
-out_state (Missing s) = s
+out_state (Ok s) = s
+out_state (Err s) = s
 
 abbrev pub out_val : Found → ℕ
-out_val (At s) = 1
-out_val (Missing s) = 0
+out_val (Ok s) = 1
+out_val (Err s) = 0
 
 -- From m to m' the journal in force only grew: its records that stood stay.
 pub record Kept (m m' : Mem) : Type 0 where
-  pub grows : m.state.fixes ≤ m'.state.fixes
-  pub bytes : (i : ℕ) → i < change_size * m.state.fixes → get_or m'.table i 0 ≡ get_or m.table i 0
+  pub grows : m.state.fixes.len ≤ m'.state.fixes.len
+  pub bytes : (i : ℕ) → i < change_size * m.state.fixes.len → get_or m'.table i 0 ≡ get_or m.table i 0
 
 -- From m to m' as f does to a reading, with the buffers in order.
 pub record Did (f : World → World) (m m' : Mem) : Type 0 where
@@ -167,9 +183,13 @@ pub record Did (f : World → World) (m m' : Mem) : Type 0 where
   pub same : seen_in m' ≡ f (seen_in m)
   pub kept : Kept m m'
 
--- the state refused by number, unless it was before
-abbrev pub refused_by : ℕ → State → State
-refused_by n s = record {
+-- the state refused, unless it was before
+abbrev pub or_refused : Option Refusal → Refusal → Option Refusal
+or_refused (Some r) why = Some r
+or_refused None why = Some why
+
+abbrev pub refused_by : Refusal → State → State
+refused_by why s = record {
   at = s.at;
   count = s.count;
   len = s.len;
@@ -178,18 +198,16 @@ refused_by n s = record {
   found = s.found;
   kept = s.kept;
   fixes = s.fixes;
-  entries = s.entries;
-  changes = s.changes;
   mode = s.mode;
-  stop = elim (eqb s.stop 0) [ true ↦ n | false ↦ s.stop ];
+  stop = or_refused s.stop why;
 }
 
 -- What `ok_since` leaves: the second state where no finding came since the first, or it was refused; otherwise the first.
 abbrev pub since_of : State → State → Found
 since_of s s' =
-    elim (eqb s'.stop 0) [
-      | true ↦ elim (eqb s'.found s.found) [ true ↦ At s' | false ↦ Missing s ]
-      | false ↦ Missing s'
+    elim (eqb (stop_of s') 0) [
+      | true ↦ elim (eqb s'.found s.found) [ true ↦ Ok s' | false ↦ Err s ]
+      | false ↦ Err s'
     ]
 
 -- the second state with the fixities in force at the first
@@ -202,12 +220,20 @@ back_of s s' = record {
   room = s'.room;
   found = s'.found;
   kept = s'.kept;
-  fixes = s.fixes;
-  entries = s.entries;
-  changes = s'.changes;
+  fixes = record { len = s.fixes.len; entries = s.fixes.entries; changes = s'.fixes.changes };
   mode = s'.mode;
   stop = s'.stop;
 }
+
+-- There is no token n ahead, whatever the other buffers are.
+pub record NoneAhead (n : ℕ) (toks : List ℕ) (s : State) : Type 0 where
+  pub is : (x e j l f : List ℕ) → token_ahead n (seen_in (mem x toks e j l f s)) ≡ none
+
+-- The reading goes on, and the token n ahead is that of the index i, whatever the other buffers are.
+pub record Stood (n : ℕ) (toks : List ℕ) (s : State) (i : ℕ) : Type 0 where
+  pub inside : i < s.count
+  pub goes : (x e j l f : List ℕ) → seen_in (mem x toks e j l f s) ≡ on (now_of (mem x toks e j l f s))
+  pub is : (x e j l f : List ℕ) → token_ahead n (seen_in (mem x toks e j l f s)) ≡ some (token_at x toks i)
 
 -- The look q at the reading of the state s over these tokens gives u, whatever the rest is.
 pub record Saw (q : Ask) (toks : List ℕ) (s : State) (u : ℕ) : Type 0 where
@@ -227,7 +253,7 @@ pub record Is (n : ℕ) (toks : List ℕ) (s : State) (want : ℕ) (r : Bool) : 
   pub same : (x e j l f : List ℕ) → r ≡ eqb (ahead n (seen_in (mem x toks e j l f s))) (want + 1)
 
 -- The fixity of the text of the token n ahead is r.
-pub record Fixed (n : ℕ) (text toks env table : List ℕ) (s : State) (r : Fixity) : Type 0 where
+pub record Fixed (n : ℕ) (text toks env table : List ℕ) (s : State) (r : Option Infix) : Type 0 where
   pub same : (l f : List ℕ) → fixity_of r ≡ fixity_ahead n (seen_in (mem text toks env table l f s))
 
 -- The state r is s with a mark opened, whatever the buffers are.

@@ -1,57 +1,113 @@
-// The numbers of findings and of their details: grammar's ErrorKind.
-pub const NOT_INFIX: u8 = 1;
+// What a finding says: the source's ErrorKind, and LargeFixity, our own. Its number and its detail are grammar's ErrorKind.
+ghost use Rattle.std.specs.Prelude.{◌≡◌};
+ghost use Rattle.parser.specs.Findings.{code_of, detail_of, name_of, wanted_of};
 
-pub const INFIX_WITHOUT_OP: u8 = 2;
+// The name of a finding that carries none.
+const NO_NAME: usize = 65535;
 
-pub const INVALID_FIXITY: u8 = 3;
+// What was expected: a phrase, or a token of a kind below 128.
+#[derive(Clone, Copy)]
+pub enum Expected {
+    Exp,
+    Lab,
+    Pat,
+    Path,
+    SigExp,
+    StrExp,
+    Ty,
+    LRoundExpTail,
+    Item,
+    NameOrInt,
+    From,
+    NameOrString,
+    Kind(u8),
+}
 
-pub const NEGATIVE_FIXITY: u8 = 4;
+// What needs parentheses.
+#[derive(Clone, Copy)]
+pub enum ParensExpFlavor {
+    Raise = 1,
+    If,
+    While,
+    Case,
+    Fn,
+}
 
-pub const SAME_FIXITY_DIFF_ASSOC: u8 = 5;
+// A kind of finding. A name is the index of the token that spells it, if there is one.
+#[derive(Clone, Copy)]
+pub enum ErrorKind {
+    NotInfix(Option<usize>),
+    InfixWithoutOp(Option<usize>),
+    InvalidFixity,
+    NegativeFixity,
+    SameFixityDiffAssoc,
+    Expected(Expected),
+    UnnecessaryOp,
+    UnmatchedClosingDelimiter,
+    NeedParensAroundExpHere(ParensExpFlavor),
+    LargeFixity,
+}
 
-pub const EXPECTED: u8 = 6;
+impl Expected {
+    // The detail of a finding that this was expected.
+    fn detail(self) -> u8
+        ensures { result ≡ wanted_of self }
+    {
+        match self {
+            Expected::Exp => 1,
+            Expected::Lab => 2,
+            Expected::Pat => 3,
+            Expected::Path => 4,
+            Expected::SigExp => 5,
+            Expected::StrExp => 6,
+            Expected::Ty => 7,
+            Expected::LRoundExpTail => 8,
+            Expected::Item => 9,
+            Expected::NameOrInt => 10,
+            Expected::From => 11,
+            Expected::NameOrString => 12,
+            Expected::Kind(k) => 128 + k % 128,
+        }
+    }
+}
 
-pub const UNNECESSARY_OP: u8 = 7;
+impl ErrorKind {
+    // Its number.
+    pub fn code(self) -> u8
+        ensures { result ≡ code_of self }
+    {
+        match self {
+            ErrorKind::NotInfix(_) => 1,
+            ErrorKind::InfixWithoutOp(_) => 2,
+            ErrorKind::InvalidFixity => 3,
+            ErrorKind::NegativeFixity => 4,
+            ErrorKind::SameFixityDiffAssoc => 5,
+            ErrorKind::Expected(_) => 6,
+            ErrorKind::UnnecessaryOp => 7,
+            ErrorKind::UnmatchedClosingDelimiter => 8,
+            ErrorKind::NeedParensAroundExpHere(_) => 9,
+            ErrorKind::LargeFixity => 10,
+        }
+    }
 
-pub const NEED_PARENS: u8 = 9;
+    // Its detail, or 0.
+    pub fn detail(self) -> u8
+        ensures { result ≡ detail_of self }
+    {
+        match self {
+            ErrorKind::Expected(what) => what.detail(),
+            ErrorKind::NeedParensAroundExpHere(what) => what as u8,
+            _ => 0,
+        }
+    }
 
-pub const LARGE_FIXITY: u8 = 10;
-
-// the details of EXPECTED
-pub const EXP: u8 = 1;
-
-pub const LAB: u8 = 2;
-
-pub const PAT: u8 = 3;
-
-pub const PATH: u8 = 4;
-
-pub const SIG_EXP: u8 = 5;
-
-pub const STR_EXP: u8 = 6;
-
-pub const TY: u8 = 7;
-
-pub const LROUND_EXP_TAIL: u8 = 8;
-
-pub const NAME_OR_INT: u8 = 10;
-
-pub const FROM: u8 = 11;
-
-pub const NAME_OR_STRING: u8 = 12;
-
-pub const KIND_BASE: u8 = 128;
-
-// a token of kind Name
-pub const KIND_NAME: u8 = 189;
-
-// the details of NEED_PARENS
-pub const RAISE: u8 = 1;
-
-pub const IF: u8 = 2;
-
-pub const WHILE: u8 = 3;
-
-pub const CASE: u8 = 4;
-
-pub const FN: u8 = 5;
+    // The name that it carries, or NO_NAME.
+    pub fn name(self) -> usize
+        ensures { result ≡ name_of self }
+    {
+        match self {
+            ErrorKind::NotInfix(Some(name)) | ErrorKind::InfixWithoutOp(Some(name)) => name,
+            _ => NO_NAME,
+        }
+    }
+}

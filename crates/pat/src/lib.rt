@@ -1,4 +1,5 @@
 // Patterns: pat.rs.
+// Its loops over turns are the source's closures over the parser: one small loop per use (document 01).
 #![tactic(auto)]
 
 ghost use Rattle.std.specs.Prelude.{◌≡◌, Bool, true, false, ℕ, suc, ◌+◌, ◌-◌, ◌*◌, ◌<◌};
@@ -8,18 +9,20 @@ ghost use Rattle.grammar.specs.Util as util;
 ghost use Rattle.grammar.specs.Pat as pat;
 ghost use Rattle.grammar.specs.SyntaxKind as SK;
 ghost use Rattle.sml_fixity.specs.Fix.{infix_of};
-ghost use Rattle.parser.specs.View.{Sound, mem, err_of, out_state, out_val};
+ghost use Rattle.parser.specs.View.{Sound, mem_of, err_of, out_state, out_val};
 ghost use Rattle.parser.specs.Runs.{Always, Runs, RunsIn};
 ghost use Rattle.pat_prec.specs.Prec.{prec_of};
 ghost use Rattle.pat_parts.specs.Head.{head_state, head_val};
 
+use parser::finding::{ErrorKind, Expected};
+use parser::node::Node;
+use parser::refusal::Refusal;
 use parser::{
-    Found, InfixErr, Look, NO_NAME, State, TOO_DEEP, at, at_n, bump, close, finding, index, kind,
-    peek, peek_n, report,
+    Found, InfixErr, Lent, State, at, at_n, bump, close, either, index, kind, peek, peek_n, report,
 };
 use pat_parts::{Head, con_name, con_op, con_path, typed_step};
 use pat_prec::{PatPrec, arg, is_infix, is_min, s_con, should_break_pat};
-use sml_fixity::{Fixity, Infix};
+use sml_fixity::Infix;
 use texts::fixity_at;
 use ty::ty_annotation;
 use util::{ascription, eat, eat_name_star, lab, name_star, path_infix};
@@ -28,9 +31,7 @@ use util::{ascription, eat, eat_name_star, lab, name_star, path_infix};
 // measure: 64 * left + 6
 #[cycle(pat)]
 pub fn pat_must(
-    text: &[u8],
-    toks: &[u8],
-    env: &[u8],
+    lent: Lent,
     table: &[u8],
     scratch: &mut [u8],
     finds: &mut [u8],
@@ -39,13 +40,13 @@ pub fn pat_must(
     e: InfixErr,
     s: State,
 ) -> State
-    requires { Sound (mem text.now toks.now env.now table.now scratch.old finds.old s) }
-    ensures { Runs left (pat.pat_must (prec_of min) (err_of e)) (mem text.now toks.now env.now table.now scratch.old finds.old s) (mem text.now toks.now env.now table.now scratch.new finds.new result) 0 }
+    requires { Sound (mem_of lent table.now scratch.old finds.old s) }
+    ensures { Runs left (pat.pat_must (prec_of min) (err_of e)) (mem_of lent.entry table.now scratch.old finds.old s) (mem_of lent.entry table.now scratch.new finds.new result) 0 }
 {
-    let got = pat_prec(text, toks, env, table, scratch, finds, left, min, e, s);
+    let got = pat_prec(lent, table, scratch, finds, left, min, e, s);
     match got {
-        Found::At(s1) => s1,
-        Found::Missing(s1) => report(finds, finding::EXPECTED, finding::PAT, NO_NAME, s1),
+        Ok(s1) => s1,
+        Err(s1) => report(finds, ErrorKind::Expected(Expected::Pat), s1),
     }
 }
 
@@ -54,9 +55,7 @@ pub fn pat_must(
 // unfolds: root.body pat.pat_scope
 #[cycle(pat)]
 pub fn pat_prec(
-    text: &[u8],
-    toks: &[u8],
-    env: &[u8],
+    lent: Lent,
     table: &[u8],
     scratch: &mut [u8],
     finds: &mut [u8],
@@ -65,26 +64,26 @@ pub fn pat_prec(
     e: InfixErr,
     s: State,
 ) -> Found
-    requires { Sound (mem text.now toks.now env.now table.now scratch.old finds.old s) }
-    ensures { Runs left (Prog.call (Rule.pat_prec (prec_of min) (err_of e))) (mem text.now toks.now env.now table.now scratch.old finds.old s) (mem text.now toks.now env.now table.now scratch.new finds.new (out_state result)) (out_val result) }
+    requires { Sound (mem_of lent table.now scratch.old finds.old s) }
+    ensures { Runs left (Prog.call (Rule.pat_prec (prec_of min) (err_of e))) (mem_of lent.entry table.now scratch.old finds.old s) (mem_of lent.entry table.now scratch.new finds.new (out_state result)) (out_val result) }
 {
     let b = s.len;
-    let Look::Kind(k) = peek(toks, s) else {
-        return atom(text, toks, env, table, scratch, finds, left, min, e, b, s);
+    let Some(k) = peek(lent.toks, s) else {
+        return atom(lent, table, scratch, finds, left, min, e, b, s);
     };
     if name_star(k) {
-        return con(text, toks, env, table, scratch, finds, left, min, e, b, s);
+        return con(lent, table, scratch, finds, left, min, e, b, s);
     }
     if k == kind::OP_KW {
-        let Look::Kind(k1) = peek_n(toks, 1, s) else {
-            return atom(text, toks, env, table, scratch, finds, left, min, e, b, s);
+        let Some(k1) = peek_n(lent.toks, 1, s) else {
+            return atom(lent, table, scratch, finds, left, min, e, b, s);
         };
         if name_star(k1) {
-            return con(text, toks, env, table, scratch, finds, left, min, e, b, s);
+            return con(lent, table, scratch, finds, left, min, e, b, s);
         }
-        return atom(text, toks, env, table, scratch, finds, left, min, e, b, s);
+        return atom(lent, table, scratch, finds, left, min, e, b, s);
     }
-    atom(text, toks, env, table, scratch, finds, left, min, e, b, s)
+    atom(lent, table, scratch, finds, left, min, e, b, s)
 }
 
 // A pattern that starts with a constructor.
@@ -92,9 +91,7 @@ pub fn pat_prec(
 // unfolds: pat.pat_tail
 #[cycle(pat)]
 fn con(
-    text: &[u8],
-    toks: &[u8],
-    env: &[u8],
+    lent: Lent,
     table: &[u8],
     scratch: &mut [u8],
     finds: &mut [u8],
@@ -104,22 +101,22 @@ fn con(
     b: usize,
     s: State,
 ) -> Found
-    requires { Sound (mem text.now toks.now env.now table.now scratch.old finds.old s) × (b < 4294967296) }
-    ensures { RunsIn left b (pat.con_pat (prec_of min) (err_of e)) (mem text.now toks.now env.now table.now scratch.old finds.old s) (mem text.now toks.now env.now table.now scratch.new finds.new (out_state result)) (out_val result) }
+    requires { Sound (mem_of lent table.now scratch.old finds.old s) × (b < 4294967296) }
+    ensures { RunsIn left b (pat.con_pat (prec_of min) (err_of e)) (mem_of lent.entry table.now scratch.old finds.old s) (mem_of lent.entry table.now scratch.new finds.new (out_state result)) (out_val result) }
 {
-    let head = con_head(text, toks, env, table, scratch, finds, left, min, e, b, s);
+    let head = con_head(lent, table, scratch, finds, left, min, e, b, s);
     match head {
-        Head::Missing(s1) => Found::Missing(s1),
+        Head::Missing(s1) => Err(s1),
         Head::GoOn(s1) => {
-            let s2 = tail(text, toks, env, table, scratch, finds, left, min, e, b, s1);
-            Found::At(s2)
+            let s2 = tail(lent, table, scratch, finds, left, min, e, b, s1);
+            Ok(s2)
         }
         Head::AtOp(s1) => {
-            let s2 = op_tail(text, toks, env, table, scratch, finds, left, e, b, s1);
-            let s3 = tail(text, toks, env, table, scratch, finds, left, min, e, b, s2);
-            Found::At(s3)
+            let s2 = op_tail(lent, table, scratch, finds, left, e, b, s1);
+            let s3 = tail(lent, table, scratch, finds, left, min, e, b, s2);
+            Ok(s3)
         }
-        Head::Stop(s1) => Found::At(s1),
+        Head::Stop(s1) => Ok(s1),
     }
 }
 
@@ -127,9 +124,7 @@ fn con(
 // measure: 64 * left
 #[cycle(pat)]
 fn con_head(
-    text: &[u8],
-    toks: &[u8],
-    env: &[u8],
+    lent: Lent,
     table: &[u8],
     scratch: &mut [u8],
     finds: &mut [u8],
@@ -139,37 +134,23 @@ fn con_head(
     b: usize,
     s: State,
 ) -> Head
-    requires { Sound (mem text.now toks.now env.now table.now scratch.old finds.old s) × (b < 4294967296) }
-    ensures { RunsIn left b (pat.con_head {g = false} (prec_of min) (err_of e)) (mem text.now toks.now env.now table.now scratch.old finds.old s) (mem text.now toks.now env.now table.now scratch.new finds.new (head_state result)) (head_val result) }
+    requires { Sound (mem_of lent table.now scratch.old finds.old s) × (b < 4294967296) }
+    ensures { RunsIn left b (pat.con_head {g = false} (prec_of min) (err_of e)) (mem_of lent.entry table.now scratch.old finds.old s) (mem_of lent.entry table.now scratch.new finds.new (head_state result)) (head_val result) }
 {
     if left == 0 {
-        return Head::Missing(s.refuse(TOO_DEEP));
+        return Head::Missing(s.refuse(Refusal::TooDeep));
     }
     let s1 = s.mark();
-    let got = con_name(text, toks, env, table, scratch, finds, left - 1, e, s1);
-    let s2 = got.state();
-    con_turn(
-        text,
-        toks,
-        env,
-        table,
-        scratch,
-        finds,
-        left - 1,
-        min,
-        e,
-        b,
-        s2,
-    )
+    let got = con_name(lent, table, scratch, finds, left - 1, e, s1);
+    let s2 = either(got);
+    con_turn(lent, table, scratch, finds, left - 1, min, e, b, s2)
 }
 
 // The argument of a constructor, where there is one, and the end of the node that started at `b`.
 // measure: 64 * left + 2
 #[cycle(pat)]
 fn con_turn(
-    text: &[u8],
-    toks: &[u8],
-    env: &[u8],
+    lent: Lent,
     table: &[u8],
     scratch: &mut [u8],
     finds: &mut [u8],
@@ -179,38 +160,36 @@ fn con_turn(
     b: usize,
     s: State,
 ) -> Head
-    requires { Sound (mem text.now toks.now env.now table.now scratch.old finds.old s) × (b < 4294967296) }
-    ensures { RunsIn left b (pat.con_turn (prec_of min) (err_of e)) (mem text.now toks.now env.now table.now scratch.old finds.old s) (mem text.now toks.now env.now table.now scratch.new finds.new (head_state result)) (head_val result) }
+    requires { Sound (mem_of lent table.now scratch.old finds.old s) × (b < 4294967296) }
+    ensures { RunsIn left b (pat.con_turn (prec_of min) (err_of e)) (mem_of lent.entry table.now scratch.old finds.old s) (mem_of lent.entry table.now scratch.new finds.new (head_state result)) (head_val result) }
 {
-    let Look::Kind(k) = peek(toks, s) else {
-        return Head::GoOn(close(scratch, kind::CON_PAT, b, s));
+    let Some(k) = peek(lent.toks, s) else {
+        return Head::GoOn(close(scratch, Node::ConPat, b, s));
     };
     if name_star(k) {
-        let fix = fixity_at(text, toks, env, table, 0, s);
+        let fix = fixity_at(lent, table, 0, s);
         match fix {
-            Fixity::Nonfix => {
-                let s1 = at_must(text, toks, env, table, scratch, finds, left, e, s);
-                return Head::GoOn(close(scratch, kind::CON_PAT, b, s1));
+            None => {
+                let s1 = at_must(lent, table, scratch, finds, left, e, s);
+                return Head::GoOn(close(scratch, Node::ConPat, b, s1));
             }
-            Fixity::Is(op) => {
-                return con_op(text, toks, env, table, scratch, finds, left, op, min, b, s);
+            Some(op) => {
+                return con_op(lent, table, scratch, finds, left, op, min, b, s);
             }
         }
     }
     if arg(k) {
-        let s1 = at_must(text, toks, env, table, scratch, finds, left, e, s);
-        return Head::GoOn(close(scratch, kind::CON_PAT, b, s1));
+        let s1 = at_must(lent, table, scratch, finds, left, e, s);
+        return Head::GoOn(close(scratch, Node::ConPat, b, s1));
     }
-    Head::GoOn(close(scratch, kind::CON_PAT, b, s))
+    Head::GoOn(close(scratch, Node::ConPat, b, s))
 }
 
 // An infix name that was tested, and the pattern behind it.
 // measure: 64 * left + 1
 #[cycle(pat)]
 fn op_tail(
-    text: &[u8],
-    toks: &[u8],
-    env: &[u8],
+    lent: Lent,
     table: &[u8],
     scratch: &mut [u8],
     finds: &mut [u8],
@@ -219,13 +198,13 @@ fn op_tail(
     b: usize,
     s: State,
 ) -> State
-    requires { Sound (mem text.now toks.now env.now table.now scratch.old finds.old s) × (b < 4294967296) }
-    ensures { RunsIn left b (pat.op_tail (err_of e)) (mem text.now toks.now env.now table.now scratch.old finds.old s) (mem text.now toks.now env.now table.now scratch.new finds.new result) 0 }
+    requires { Sound (mem_of lent table.now scratch.old finds.old s) × (b < 4294967296) }
+    ensures { RunsIn left b (pat.op_tail (err_of e)) (mem_of lent.entry table.now scratch.old finds.old s) (mem_of lent.entry table.now scratch.new finds.new result) 0 }
 {
-    let fix = fixity_at(text, toks, env, table, 0, s);
+    let fix = fixity_at(lent, table, 0, s);
     match fix {
-        Fixity::Nonfix => s,
-        Fixity::Is(op) => inf_pat(text, toks, env, table, scratch, finds, left, op, e, b, s),
+        None => s,
+        Some(op) => inf_pat(lent, table, scratch, finds, left, op, e, b, s),
     }
 }
 
@@ -233,9 +212,7 @@ fn op_tail(
 // measure: 64 * left + 4
 #[cycle(pat)]
 fn atom(
-    text: &[u8],
-    toks: &[u8],
-    env: &[u8],
+    lent: Lent,
     table: &[u8],
     scratch: &mut [u8],
     finds: &mut [u8],
@@ -245,15 +222,15 @@ fn atom(
     b: usize,
     s: State,
 ) -> Found
-    requires { Sound (mem text.now toks.now env.now table.now scratch.old finds.old s) × (b < 4294967296) }
-    ensures { RunsIn left b (pat.atom_pat (prec_of min) (err_of e)) (mem text.now toks.now env.now table.now scratch.old finds.old s) (mem text.now toks.now env.now table.now scratch.new finds.new (out_state result)) (out_val result) }
+    requires { Sound (mem_of lent table.now scratch.old finds.old s) × (b < 4294967296) }
+    ensures { RunsIn left b (pat.atom_pat (prec_of min) (err_of e)) (mem_of lent.entry table.now scratch.old finds.old s) (mem_of lent.entry table.now scratch.new finds.new (out_state result)) (out_val result) }
 {
-    let got = at_pat(text, toks, env, table, scratch, finds, left, e, s);
+    let got = at_pat(lent, table, scratch, finds, left, e, s);
     match got {
-        Found::Missing(s1) => Found::Missing(s1),
-        Found::At(s1) => {
-            let s2 = tail(text, toks, env, table, scratch, finds, left, min, e, b, s1);
-            Found::At(s2)
+        Err(s1) => Err(s1),
+        Ok(s1) => {
+            let s2 = tail(lent, table, scratch, finds, left, min, e, b, s1);
+            Ok(s2)
         }
     }
 }
@@ -263,9 +240,7 @@ fn atom(
 // advances: pat_step_advances _ _
 #[cycle(pat)]
 fn tail(
-    text: &[u8],
-    toks: &[u8],
-    env: &[u8],
+    lent: Lent,
     table: &[u8],
     scratch: &mut [u8],
     finds: &mut [u8],
@@ -275,15 +250,15 @@ fn tail(
     b: usize,
     s: State,
 ) -> State
-    requires { Sound (mem text.now toks.now env.now table.now scratch.old finds.old s) × (b < 4294967296) }
-    ensures { RunsIn left b (Prog.loop (pat.pat_step (prec_of min) (err_of e))) (mem text.now toks.now env.now table.now scratch.old finds.old s) (mem text.now toks.now env.now table.now scratch.new finds.new result) 0 }
+    requires { Sound (mem_of lent table.now scratch.old finds.old s) × (b < 4294967296) }
+    ensures { RunsIn left b (Prog.loop (pat.pat_step (prec_of min) (err_of e))) (mem_of lent.entry table.now scratch.old finds.old s) (mem_of lent.entry table.now scratch.new finds.new result) 0 }
 {
     let mut s1 = s;
     loop {
-        let turn = step(text, toks, env, table, scratch, finds, left, min, e, b, s1);
+        let turn = step(lent, table, scratch, finds, left, min, e, b, s1);
         match turn {
-            Found::At(s2) => s1 = s2,
-            Found::Missing(s2) => return s2,
+            Ok(s2) => s1 = s2,
+            Err(s2) => return s2,
         }
     }
 }
@@ -292,9 +267,7 @@ fn tail(
 // measure: 64 * left + 2
 #[cycle(pat)]
 fn step(
-    text: &[u8],
-    toks: &[u8],
-    env: &[u8],
+    lent: Lent,
     table: &[u8],
     scratch: &mut [u8],
     finds: &mut [u8],
@@ -304,34 +277,32 @@ fn step(
     b: usize,
     s: State,
 ) -> Found
-    requires { Sound (mem text.now toks.now env.now table.now scratch.old finds.old s) × (b < 4294967296) }
-    ensures { RunsIn left b (pat.pat_step (prec_of min) (err_of e)) (mem text.now toks.now env.now table.now scratch.old finds.old s) (mem text.now toks.now env.now table.now scratch.new finds.new (out_state result)) (out_val result) }
+    requires { Sound (mem_of lent table.now scratch.old finds.old s) × (b < 4294967296) }
+    ensures { RunsIn left b (pat.pat_step (prec_of min) (err_of e)) (mem_of lent.entry table.now scratch.old finds.old s) (mem_of lent.entry table.now scratch.new finds.new (out_state result)) (out_val result) }
 {
-    let Look::Kind(k) = peek(toks, s) else {
-        return Found::Missing(s);
+    let Some(k) = peek(lent.toks, s) else {
+        return Err(s);
     };
     if name_star(k) {
-        return op_step(text, toks, env, table, scratch, finds, left, min, e, b, s);
+        return op_step(lent, table, scratch, finds, left, min, e, b, s);
     }
     if k == kind::BAR {
-        return or_step(text, toks, env, table, scratch, finds, left, min, e, b, s);
+        return or_step(lent, table, scratch, finds, left, min, e, b, s);
     }
     if ascription(k) {
-        return typed_step(text, toks, env, table, scratch, finds, left, min, b, s);
+        return typed_step(lent, table, scratch, finds, left, min, b, s);
     }
     if k == kind::AS_KW {
-        return as_step(text, toks, env, table, scratch, finds, left, min, e, b, s);
+        return as_step(lent, table, scratch, finds, left, min, e, b, s);
     }
-    Found::Missing(s)
+    Err(s)
 }
 
 // At a name: an infix pattern, unless the name ends the climb.
 // measure: 64 * left + 1
 #[cycle(pat)]
 fn op_step(
-    text: &[u8],
-    toks: &[u8],
-    env: &[u8],
+    lent: Lent,
     table: &[u8],
     scratch: &mut [u8],
     finds: &mut [u8],
@@ -341,22 +312,22 @@ fn op_step(
     b: usize,
     s: State,
 ) -> Found
-    requires { Sound (mem text.now toks.now env.now table.now scratch.old finds.old s) × (b < 4294967296) }
-    ensures { RunsIn left b (pat.op_step (prec_of min) (err_of e)) (mem text.now toks.now env.now table.now scratch.old finds.old s) (mem text.now toks.now env.now table.now scratch.new finds.new (out_state result)) (out_val result) }
+    requires { Sound (mem_of lent table.now scratch.old finds.old s) × (b < 4294967296) }
+    ensures { RunsIn left b (pat.op_step (prec_of min) (err_of e)) (mem_of lent.entry table.now scratch.old finds.old s) (mem_of lent.entry table.now scratch.new finds.new (out_state result)) (out_val result) }
 {
-    let fix = fixity_at(text, toks, env, table, 0, s);
+    let fix = fixity_at(lent, table, 0, s);
     match fix {
-        Fixity::Nonfix => {
+        None => {
             let name = index(s);
-            Found::Missing(report(finds, finding::NOT_INFIX, 0, name, s))
+            Err(report(finds, ErrorKind::NotInfix(name), s))
         }
-        Fixity::Is(op) => {
-            let ends = should_break_pat(text, toks, env, table, scratch, finds, op, min, s);
+        Some(op) => {
+            let ends = should_break_pat(lent, table, scratch, finds, op, min, s);
             match ends {
-                Found::At(s1) => Found::Missing(s1),
-                Found::Missing(s1) => {
-                    let s2 = inf_pat(text, toks, env, table, scratch, finds, left, op, e, b, s1);
-                    Found::At(s2)
+                Ok(s1) => Err(s1),
+                Err(s1) => {
+                    let s2 = inf_pat(lent, table, scratch, finds, left, op, e, b, s1);
+                    Ok(s2)
                 }
             }
         }
@@ -367,9 +338,7 @@ fn op_step(
 // measure: 64 * left
 #[cycle(pat)]
 fn inf_pat(
-    text: &[u8],
-    toks: &[u8],
-    env: &[u8],
+    lent: Lent,
     table: &[u8],
     scratch: &mut [u8],
     finds: &mut [u8],
@@ -379,25 +348,23 @@ fn inf_pat(
     b: usize,
     s: State,
 ) -> State
-    requires { Sound (mem text.now toks.now env.now table.now scratch.old finds.old s) × (b < 4294967296) }
-    ensures { RunsIn left b (pat.infix_pat {g = false} (infix_of op) (err_of e)) (mem text.now toks.now env.now table.now scratch.old finds.old s) (mem text.now toks.now env.now table.now scratch.new finds.new result) 0 }
+    requires { Sound (mem_of lent table.now scratch.old finds.old s) × (b < 4294967296) }
+    ensures { RunsIn left b (pat.infix_pat {g = false} (infix_of op) (err_of e)) (mem_of lent.entry table.now scratch.old finds.old s) (mem_of lent.entry table.now scratch.new finds.new result) 0 }
 {
     if left == 0 {
-        return s.refuse(TOO_DEEP);
+        return s.refuse(Refusal::TooDeep);
     }
-    let s1 = bump(toks, scratch, s.mark());
+    let s1 = bump(lent.toks, scratch, s.mark());
     let min = PatPrec::Infix(op);
-    let s2 = pat_must(text, toks, env, table, scratch, finds, left - 1, min, e, s1);
-    close(scratch, kind::INFIX_PAT, b, s2)
+    let s2 = pat_must(lent, table, scratch, finds, left - 1, min, e, s1);
+    close(scratch, Node::InfixPat, b, s2)
 }
 
 // `|` and the pattern behind it, where it may stand.
 // measure: 64 * left
 #[cycle(pat)]
 fn or_step(
-    text: &[u8],
-    toks: &[u8],
-    env: &[u8],
+    lent: Lent,
     table: &[u8],
     scratch: &mut [u8],
     finds: &mut [u8],
@@ -407,28 +374,26 @@ fn or_step(
     b: usize,
     s: State,
 ) -> Found
-    requires { Sound (mem text.now toks.now env.now table.now scratch.old finds.old s) × (b < 4294967296) }
-    ensures { RunsIn left b (pat.or_step (prec_of min) (err_of e)) (mem text.now toks.now env.now table.now scratch.old finds.old s) (mem text.now toks.now env.now table.now scratch.new finds.new (out_state result)) (out_val result) }
+    requires { Sound (mem_of lent table.now scratch.old finds.old s) × (b < 4294967296) }
+    ensures { RunsIn left b (pat.or_step (prec_of min) (err_of e)) (mem_of lent.entry table.now scratch.old finds.old s) (mem_of lent.entry table.now scratch.new finds.new (out_state result)) (out_val result) }
 {
     if is_min(min) {
         if left == 0 {
-            return Found::At(s.refuse(TOO_DEEP));
+            return Ok(s.refuse(Refusal::TooDeep));
         }
-        let s1 = bump(toks, scratch, s.mark());
+        let s1 = bump(lent.toks, scratch, s.mark());
         let or = PatPrec::Or;
-        let s2 = pat_must(text, toks, env, table, scratch, finds, left - 1, or, e, s1);
-        return Found::At(close(scratch, kind::OR_PAT, b, s2));
+        let s2 = pat_must(lent, table, scratch, finds, left - 1, or, e, s1);
+        return Ok(close(scratch, Node::OrPat, b, s2));
     }
-    Found::Missing(s)
+    Err(s)
 }
 
 // `as` and the pattern behind it, where it may stand.
 // measure: 64 * left
 #[cycle(pat)]
 fn as_step(
-    text: &[u8],
-    toks: &[u8],
-    env: &[u8],
+    lent: Lent,
     table: &[u8],
     scratch: &mut [u8],
     finds: &mut [u8],
@@ -438,22 +403,22 @@ fn as_step(
     b: usize,
     s: State,
 ) -> Found
-    requires { Sound (mem text.now toks.now env.now table.now scratch.old finds.old s) × (b < 4294967296) }
-    ensures { RunsIn left b (pat.as_step (prec_of min) (err_of e)) (mem text.now toks.now env.now table.now scratch.old finds.old s) (mem text.now toks.now env.now table.now scratch.new finds.new (out_state result)) (out_val result) }
+    requires { Sound (mem_of lent table.now scratch.old finds.old s) × (b < 4294967296) }
+    ensures { RunsIn left b (pat.as_step (prec_of min) (err_of e)) (mem_of lent.entry table.now scratch.old finds.old s) (mem_of lent.entry table.now scratch.new finds.new (out_state result)) (out_val result) }
 {
     if is_infix(min) {
-        return Found::Missing(s);
+        return Err(s);
     }
     if left == 0 {
-        return Found::At(s.refuse(TOO_DEEP));
+        return Ok(s.refuse(Refusal::TooDeep));
     }
     let s1 = s.mark();
-    let got = as_pat_tl(text, toks, env, table, scratch, finds, left - 1, e, s1);
+    let got = as_pat_tl(lent, table, scratch, finds, left - 1, e, s1);
     match got {
-        Found::At(s2) => Found::At(close(scratch, kind::AS_PAT, b, s2)),
-        Found::Missing(s2) => {
-            let s3 = report(finds, finding::EXPECTED, finding::PAT, NO_NAME, s2);
-            Found::At(close(scratch, kind::AS_PAT, b, s3))
+        Ok(s2) => Ok(close(scratch, Node::AsPat, b, s2)),
+        Err(s2) => {
+            let s3 = report(finds, ErrorKind::Expected(Expected::Pat), s2);
+            Ok(close(scratch, Node::AsPat, b, s3))
         }
     }
 }
@@ -462,9 +427,7 @@ fn as_step(
 // measure: 64 * left
 #[cycle(pat)]
 pub fn as_pat_tl(
-    text: &[u8],
-    toks: &[u8],
-    env: &[u8],
+    lent: Lent,
     table: &[u8],
     scratch: &mut [u8],
     finds: &mut [u8],
@@ -472,30 +435,28 @@ pub fn as_pat_tl(
     e: InfixErr,
     s: State,
 ) -> Found
-    requires { Sound (mem text.now toks.now env.now table.now scratch.old finds.old s) }
-    ensures { Runs left (pat.as_pat_tl {g = true} (err_of e)) (mem text.now toks.now env.now table.now scratch.old finds.old s) (mem text.now toks.now env.now table.now scratch.new finds.new (out_state result)) (out_val result) }
+    requires { Sound (mem_of lent table.now scratch.old finds.old s) }
+    ensures { Runs left (pat.as_pat_tl {g = true} (err_of e)) (mem_of lent.entry table.now scratch.old finds.old s) (mem_of lent.entry table.now scratch.new finds.new (out_state result)) (out_val result) }
 {
-    if at(toks, kind::AS_KW, s) {
+    if at(lent.toks, kind::AS_KW, s) {
         if left == 0 {
-            return Found::Missing(s.refuse(TOO_DEEP));
+            return Err(s.refuse(Refusal::TooDeep));
         }
         let s1 = s.mark();
         let b = s1.len;
-        let s2 = bump(toks, scratch, s1);
+        let s2 = bump(lent.toks, scratch, s1);
         let min = PatPrec::Min;
-        let s3 = pat_must(text, toks, env, table, scratch, finds, left - 1, min, e, s2);
-        return Found::At(close(scratch, kind::AS_PAT_TAIL, b, s3));
+        let s3 = pat_must(lent, table, scratch, finds, left - 1, min, e, s2);
+        return Ok(close(scratch, Node::AsPatTail, b, s3));
     }
-    Found::Missing(s)
+    Err(s)
 }
 
 // `at_pat`, or the finding that there is no pattern.
 // measure: 64 * left + 1
 #[cycle(pat)]
 pub fn at_must(
-    text: &[u8],
-    toks: &[u8],
-    env: &[u8],
+    lent: Lent,
     table: &[u8],
     scratch: &mut [u8],
     finds: &mut [u8],
@@ -503,13 +464,13 @@ pub fn at_must(
     e: InfixErr,
     s: State,
 ) -> State
-    requires { Sound (mem text.now toks.now env.now table.now scratch.old finds.old s) }
-    ensures { Runs left (pat.at_pat_must {g = true} (err_of e)) (mem text.now toks.now env.now table.now scratch.old finds.old s) (mem text.now toks.now env.now table.now scratch.new finds.new result) 0 }
+    requires { Sound (mem_of lent table.now scratch.old finds.old s) }
+    ensures { Runs left (pat.at_pat_must {g = true} (err_of e)) (mem_of lent.entry table.now scratch.old finds.old s) (mem_of lent.entry table.now scratch.new finds.new result) 0 }
 {
-    let got = at_pat(text, toks, env, table, scratch, finds, left, e, s);
+    let got = at_pat(lent, table, scratch, finds, left, e, s);
     match got {
-        Found::At(s1) => s1,
-        Found::Missing(s1) => report(finds, finding::EXPECTED, finding::PAT, NO_NAME, s1),
+        Ok(s1) => s1,
+        Err(s1) => report(finds, ErrorKind::Expected(Expected::Pat), s1),
     }
 }
 
@@ -517,9 +478,7 @@ pub fn at_must(
 // measure: 64 * left
 #[cycle(pat)]
 pub fn at_pat(
-    text: &[u8],
-    toks: &[u8],
-    env: &[u8],
+    lent: Lent,
     table: &[u8],
     scratch: &mut [u8],
     finds: &mut [u8],
@@ -527,39 +486,25 @@ pub fn at_pat(
     e: InfixErr,
     s: State,
 ) -> Found
-    requires { Sound (mem text.now toks.now env.now table.now scratch.old finds.old s) }
-    ensures { (g : Bool) → Runs left (pat.at_pat {g = g} (err_of e)) (mem text.now toks.now env.now table.now scratch.old finds.old s) (mem text.now toks.now env.now table.now scratch.new finds.new (out_state result)) (out_val result) }
+    requires { Sound (mem_of lent table.now scratch.old finds.old s) }
+    ensures { (g : Bool) → Runs left (pat.at_pat {g = g} (err_of e)) (mem_of lent.entry table.now scratch.old finds.old s) (mem_of lent.entry table.now scratch.new finds.new (out_state result)) (out_val result) }
 {
-    let Look::Kind(k) = peek(toks, s) else {
-        return Found::Missing(s);
+    let Some(k) = peek(lent.toks, s) else {
+        return Err(s);
     };
     if left == 0 {
-        return Found::Missing(s.refuse(TOO_DEEP));
+        return Err(s.refuse(Refusal::TooDeep));
     }
     let s1 = s.mark();
     let b = s1.len;
-    at_head(
-        text,
-        toks,
-        env,
-        table,
-        scratch,
-        finds,
-        left - 1,
-        k,
-        e,
-        b,
-        s1,
-    )
+    at_head(lent, table, scratch, finds, left - 1, k, e, b, s1)
 }
 
 // What an atomic pattern starts with, the kind k being next.
 // measure: 64 * left + 5
 #[cycle(pat)]
 fn at_head(
-    text: &[u8],
-    toks: &[u8],
-    env: &[u8],
+    lent: Lent,
     table: &[u8],
     scratch: &mut [u8],
     finds: &mut [u8],
@@ -569,28 +514,28 @@ fn at_head(
     b: usize,
     s: State,
 ) -> Found
-    requires { Sound (mem text.now toks.now env.now table.now scratch.old finds.old s) × (b < 4294967296) }
-    ensures { RunsIn left b (pat.at_pat_head (suc k) (err_of e)) (mem text.now toks.now env.now table.now scratch.old finds.old s) (mem text.now toks.now env.now table.now scratch.new finds.new (out_state result)) (out_val result) }
+    requires { Sound (mem_of lent table.now scratch.old finds.old s) × (b < 4294967296) }
+    ensures { RunsIn left b (pat.at_pat_head (suc k) (err_of e)) (mem_of lent.entry table.now scratch.old finds.old s) (mem_of lent.entry table.now scratch.new finds.new (out_state result)) (out_val result) }
 {
     if s_con(k) {
-        let s1 = bump(toks, scratch, s);
-        return Found::At(close(scratch, kind::S_CON_PAT, b, s1));
+        let s1 = bump(lent.toks, scratch, s);
+        return Ok(close(scratch, Node::SConPat, b, s1));
     }
     if k == kind::UNDERSCORE {
-        let s1 = bump(toks, scratch, s);
-        return Found::At(close(scratch, kind::WILDCARD_PAT, b, s1));
+        let s1 = bump(lent.toks, scratch, s);
+        return Ok(close(scratch, Node::WildcardPat, b, s1));
     }
     if k == kind::OP_KW {
-        let got = path_infix(text, toks, env, table, scratch, finds, left, s);
-        let s1 = got.state();
-        return Found::At(close(scratch, kind::CON_PAT, b, s1));
+        let got = path_infix(lent, table, scratch, finds, left, s);
+        let s1 = either(got);
+        return Ok(close(scratch, Node::ConPat, b, s1));
     }
     if name_star(k) {
-        let got = con_path(text, toks, env, table, scratch, finds, left, e, s);
-        let s1 = got.state();
-        return Found::At(close(scratch, kind::CON_PAT, b, s1));
+        let got = con_path(lent, table, scratch, finds, left, e, s);
+        let s1 = either(got);
+        return Ok(close(scratch, Node::ConPat, b, s1));
     }
-    rest(text, toks, env, table, scratch, finds, left, k, e, b, s)
+    rest(lent, table, scratch, finds, left, k, e, b, s)
 }
 
 // The starts of an atomic pattern that hold others.
@@ -598,9 +543,7 @@ fn at_head(
 // unfolds: util.end_sep
 #[cycle(pat)]
 fn rest(
-    text: &[u8],
-    toks: &[u8],
-    env: &[u8],
+    lent: Lent,
     table: &[u8],
     scratch: &mut [u8],
     finds: &mut [u8],
@@ -610,30 +553,30 @@ fn rest(
     b: usize,
     s: State,
 ) -> Found
-    requires { Sound (mem text.now toks.now env.now table.now scratch.old finds.old s) × (b < 4294967296) }
-    ensures { RunsIn left b (pat.at_pat_rest (suc k) (err_of e)) (mem text.now toks.now env.now table.now scratch.old finds.old s) (mem text.now toks.now env.now table.now scratch.new finds.new (out_state result)) (out_val result) }
+    requires { Sound (mem_of lent table.now scratch.old finds.old s) × (b < 4294967296) }
+    ensures { RunsIn left b (pat.at_pat_rest (suc k) (err_of e)) (mem_of lent.entry table.now scratch.old finds.old s) (mem_of lent.entry table.now scratch.new finds.new (out_state result)) (out_val result) }
 {
     if k == kind::LCURLY {
-        let s1 = bump(toks, scratch, s);
-        let s2 = rows(text, toks, env, table, scratch, finds, left, e, b, s1);
-        return Found::At(close(scratch, kind::RECORD_PAT, b, s2));
+        let s1 = bump(lent.toks, scratch, s);
+        let s2 = rows(lent, table, scratch, finds, left, e, b, s1);
+        return Ok(close(scratch, Node::RecordPat, b, s2));
     }
     if k == kind::LROUND {
-        let s1 = bump(toks, scratch, s);
-        return at_round(text, toks, env, table, scratch, finds, left, e, b, s1);
+        let s1 = bump(lent.toks, scratch, s);
+        return at_round(lent, table, scratch, finds, left, e, b, s1);
     }
     if k == kind::LSQUARE {
-        let s1 = bump(toks, scratch, s);
+        let s1 = bump(lent.toks, scratch, s);
         let end = kind::RSQUARE;
-        let s2 = args(text, toks, env, table, scratch, finds, left, end, e, b, s1);
-        return Found::At(close(scratch, kind::LIST_PAT, b, s2));
+        let s2 = args(lent, table, scratch, finds, left, end, e, b, s1);
+        return Ok(close(scratch, Node::ListPat, b, s2));
     }
     if k == kind::HASH {
-        let s1 = bump(toks, scratch, s);
-        let s2 = vector(text, toks, env, table, scratch, finds, left, e, s1);
-        return Found::At(close(scratch, kind::VECTOR_PAT, b, s2));
+        let s1 = bump(lent.toks, scratch, s);
+        let s2 = vector(lent, table, scratch, finds, left, e, s1);
+        return Ok(close(scratch, Node::VectorPat, b, s2));
     }
-    Found::Missing(s)
+    Err(s)
 }
 
 // The list of a vector pattern.
@@ -641,9 +584,7 @@ fn rest(
 // unfolds: util.end_sep
 #[cycle(pat)]
 fn vector(
-    text: &[u8],
-    toks: &[u8],
-    env: &[u8],
+    lent: Lent,
     table: &[u8],
     scratch: &mut [u8],
     finds: &mut [u8],
@@ -651,31 +592,19 @@ fn vector(
     e: InfixErr,
     s: State,
 ) -> State
-    requires { Sound (mem text.now toks.now env.now table.now scratch.old finds.old s) }
-    ensures { Runs left (pat.vector (err_of e)) (mem text.now toks.now env.now table.now scratch.old finds.old s) (mem text.now toks.now env.now table.now scratch.new finds.new result) 0 }
+    requires { Sound (mem_of lent table.now scratch.old finds.old s) }
+    ensures { Runs left (pat.vector (err_of e)) (mem_of lent.entry table.now scratch.old finds.old s) (mem_of lent.entry table.now scratch.new finds.new result) 0 }
 {
     if left == 0 {
-        return s.refuse(TOO_DEEP);
+        return s.refuse(Refusal::TooDeep);
     }
     let s1 = s.mark();
     let b = s1.len;
-    let got = eat(toks, scratch, finds, kind::LSQUARE, s1);
-    let s2 = got.state();
+    let got = eat(lent.toks, scratch, finds, kind::LSQUARE, s1);
+    let s2 = either(got);
     let end = kind::RSQUARE;
-    let s3 = args(
-        text,
-        toks,
-        env,
-        table,
-        scratch,
-        finds,
-        left - 1,
-        end,
-        e,
-        b,
-        s2,
-    );
-    close(scratch, kind::LIST_PAT, b, s3)
+    let s3 = args(lent, table, scratch, finds, left - 1, end, e, b, s2);
+    close(scratch, Node::ListPat, b, s3)
 }
 
 // A pattern that starts with `(`, from behind it on.
@@ -683,9 +612,7 @@ fn vector(
 // unfolds: util.end_sep
 #[cycle(pat)]
 fn at_round(
-    text: &[u8],
-    toks: &[u8],
-    env: &[u8],
+    lent: Lent,
     table: &[u8],
     scratch: &mut [u8],
     finds: &mut [u8],
@@ -694,23 +621,23 @@ fn at_round(
     b: usize,
     s: State,
 ) -> Found
-    requires { Sound (mem text.now toks.now env.now table.now scratch.old finds.old s) × (b < 4294967296) }
-    ensures { RunsIn left b (pat.at_pat_l_round (err_of e)) (mem text.now toks.now env.now table.now scratch.old finds.old s) (mem text.now toks.now env.now table.now scratch.new finds.new (out_state result)) (out_val result) }
+    requires { Sound (mem_of lent table.now scratch.old finds.old s) × (b < 4294967296) }
+    ensures { RunsIn left b (pat.at_pat_l_round (err_of e)) (mem_of lent.entry table.now scratch.old finds.old s) (mem_of lent.entry table.now scratch.new finds.new (out_state result)) (out_val result) }
 {
-    if at(toks, kind::RROUND, s) {
-        let s1 = bump(toks, scratch, s);
-        return Found::At(close(scratch, kind::TUPLE_PAT, b, s1));
+    if at(lent.toks, kind::RROUND, s) {
+        let s1 = bump(lent.toks, scratch, s);
+        return Ok(close(scratch, Node::TuplePat, b, s1));
     }
-    let first = pat_arg(text, toks, env, table, scratch, finds, left, e, s);
+    let first = pat_arg(lent, table, scratch, finds, left, e, s);
     match first {
-        Found::Missing(s1) => {
+        Err(s1) => {
             let end = kind::RROUND;
-            let s2 = args(text, toks, env, table, scratch, finds, left, end, e, b, s1);
-            Found::At(close(scratch, kind::TUPLE_PAT, b, s2))
+            let s2 = args(lent, table, scratch, finds, left, end, e, b, s1);
+            Ok(close(scratch, Node::TuplePat, b, s2))
         }
-        Found::At(s1) => {
-            let s2 = bump(toks, scratch, s1);
-            Found::At(close(scratch, kind::PAREN_PAT, b, s2))
+        Ok(s1) => {
+            let s2 = bump(lent.toks, scratch, s1);
+            Ok(close(scratch, Node::ParenPat, b, s2))
         }
     }
 }
@@ -719,9 +646,7 @@ fn at_round(
 // measure: 64 * left
 #[cycle(pat)]
 fn pat_arg(
-    text: &[u8],
-    toks: &[u8],
-    env: &[u8],
+    lent: Lent,
     table: &[u8],
     scratch: &mut [u8],
     finds: &mut [u8],
@@ -729,22 +654,22 @@ fn pat_arg(
     e: InfixErr,
     s: State,
 ) -> Found
-    requires { Sound (mem text.now toks.now env.now table.now scratch.old finds.old s) }
-    ensures { Runs left (pat.pat_arg (err_of e)) (mem text.now toks.now env.now table.now scratch.old finds.old s) (mem text.now toks.now env.now table.now scratch.new finds.new (out_state result)) (out_val result) }
+    requires { Sound (mem_of lent table.now scratch.old finds.old s) }
+    ensures { Runs left (pat.pat_arg (err_of e)) (mem_of lent.entry table.now scratch.old finds.old s) (mem_of lent.entry table.now scratch.new finds.new (out_state result)) (out_val result) }
 {
     if left == 0 {
-        return Found::Missing(s.refuse(TOO_DEEP));
+        return Err(s.refuse(Refusal::TooDeep));
     }
     let s1 = s.mark();
     let b = s1.len;
     let min = PatPrec::Min;
-    let s2 = pat_must(text, toks, env, table, scratch, finds, left - 1, min, e, s1);
-    if at(toks, kind::RROUND, s2) {
-        return Found::At(s2);
+    let s2 = pat_must(lent, table, scratch, finds, left - 1, min, e, s1);
+    if at(lent.toks, kind::RROUND, s2) {
+        return Ok(s2);
     }
-    let got = eat(toks, scratch, finds, kind::COMMA, s2);
-    let s3 = got.state();
-    Found::Missing(close(scratch, kind::PAT_ARG, b, s3))
+    let got = eat(lent.toks, scratch, finds, kind::COMMA, s2);
+    let s3 = either(got);
+    Err(close(scratch, Node::PatArg, b, s3))
 }
 
 // Patterns with commas, up to `end`.
@@ -752,9 +677,7 @@ fn pat_arg(
 // advances: end_turn_advances true _ _ _ _
 #[cycle(pat)]
 fn args(
-    text: &[u8],
-    toks: &[u8],
-    env: &[u8],
+    lent: Lent,
     table: &[u8],
     scratch: &mut [u8],
     finds: &mut [u8],
@@ -764,15 +687,15 @@ fn args(
     b: usize,
     s: State,
 ) -> State
-    requires { Sound (mem text.now toks.now env.now table.now scratch.old finds.old s) × (end < 128) }
-    ensures { RunsIn left b (Prog.loop (util.end_turn {g = true} SK.PatArg SK.Comma end (pat.pat_must Prec.Min (err_of e)))) (mem text.now toks.now env.now table.now scratch.old finds.old s) (mem text.now toks.now env.now table.now scratch.new finds.new result) 0 }
+    requires { Sound (mem_of lent table.now scratch.old finds.old s) × (end < 128) }
+    ensures { RunsIn left b (Prog.loop (util.end_turn {g = true} SK.PatArg SK.Comma end (pat.pat_must Prec.Min (err_of e)))) (mem_of lent.entry table.now scratch.old finds.old s) (mem_of lent.entry table.now scratch.new finds.new result) 0 }
 {
     let mut s1 = s;
     loop {
-        let turn = arg_turn(text, toks, env, table, scratch, finds, left, end, e, s1);
+        let turn = arg_turn(lent, table, scratch, finds, left, end, e, s1);
         match turn {
-            Found::At(s2) => s1 = s2,
-            Found::Missing(s2) => return s2,
+            Ok(s2) => s1 = s2,
+            Err(s2) => return s2,
         }
     }
 }
@@ -781,9 +704,7 @@ fn args(
 // measure: 64 * left + 1
 #[cycle(pat)]
 fn arg_turn(
-    text: &[u8],
-    toks: &[u8],
-    env: &[u8],
+    lent: Lent,
     table: &[u8],
     scratch: &mut [u8],
     finds: &mut [u8],
@@ -792,19 +713,19 @@ fn arg_turn(
     e: InfixErr,
     s: State,
 ) -> Found
-    requires { Sound (mem text.now toks.now env.now table.now scratch.old finds.old s) × (end < 128) }
-    ensures { Runs left (util.end_turn {g = true} SK.PatArg SK.Comma end (pat.pat_must Prec.Min (err_of e))) (mem text.now toks.now env.now table.now scratch.old finds.old s) (mem text.now toks.now env.now table.now scratch.new finds.new (out_state result)) (out_val result) }
+    requires { Sound (mem_of lent table.now scratch.old finds.old s) × (end < 128) }
+    ensures { Runs left (util.end_turn {g = true} SK.PatArg SK.Comma end (pat.pat_must Prec.Min (err_of e))) (mem_of lent.entry table.now scratch.old finds.old s) (mem_of lent.entry table.now scratch.new finds.new (out_state result)) (out_val result) }
 {
-    if at(toks, end, s) {
-        return Found::Missing(bump(toks, scratch, s));
+    if at(lent.toks, end, s) {
+        return Err(bump(lent.toks, scratch, s));
     }
-    let item = arg_item(text, toks, env, table, scratch, finds, left, e, s);
+    let item = arg_item(lent, table, scratch, finds, left, e, s);
     match item {
-        Found::At(s1) => Found::At(s1),
-        Found::Missing(s1) => {
-            let got = eat(toks, scratch, finds, end, s1);
-            let s2 = got.state();
-            Found::Missing(s2)
+        Ok(s1) => Ok(s1),
+        Err(s1) => {
+            let got = eat(lent.toks, scratch, finds, end, s1);
+            let s2 = either(got);
+            Err(s2)
         }
     }
 }
@@ -813,9 +734,7 @@ fn arg_turn(
 // measure: 64 * left
 #[cycle(pat)]
 fn arg_item(
-    text: &[u8],
-    toks: &[u8],
-    env: &[u8],
+    lent: Lent,
     table: &[u8],
     scratch: &mut [u8],
     finds: &mut [u8],
@@ -823,21 +742,21 @@ fn arg_item(
     e: InfixErr,
     s: State,
 ) -> Found
-    requires { Sound (mem text.now toks.now env.now table.now scratch.old finds.old s) }
-    ensures { Runs left (util.end_item {g = true} SK.PatArg SK.Comma (pat.pat_must Prec.Min (err_of e))) (mem text.now toks.now env.now table.now scratch.old finds.old s) (mem text.now toks.now env.now table.now scratch.new finds.new (out_state result)) (out_val result) }
+    requires { Sound (mem_of lent table.now scratch.old finds.old s) }
+    ensures { Runs left (util.end_item {g = true} SK.PatArg SK.Comma (pat.pat_must Prec.Min (err_of e))) (mem_of lent.entry table.now scratch.old finds.old s) (mem_of lent.entry table.now scratch.new finds.new (out_state result)) (out_val result) }
 {
     if left == 0 {
-        return Found::Missing(s.refuse(TOO_DEEP));
+        return Err(s.refuse(Refusal::TooDeep));
     }
     let s1 = s.mark();
     let b = s1.len;
     let min = PatPrec::Min;
-    let s2 = pat_must(text, toks, env, table, scratch, finds, left - 1, min, e, s1);
-    if at(toks, kind::COMMA, s2) {
-        let s3 = bump(toks, scratch, s2);
-        return Found::At(close(scratch, kind::PAT_ARG, b, s3));
+    let s2 = pat_must(lent, table, scratch, finds, left - 1, min, e, s1);
+    if at(lent.toks, kind::COMMA, s2) {
+        let s3 = bump(lent.toks, scratch, s2);
+        return Ok(close(scratch, Node::PatArg, b, s3));
     }
-    Found::Missing(close(scratch, kind::PAT_ARG, b, s2))
+    Err(close(scratch, Node::PatArg, b, s2))
 }
 
 // The rows of a record pattern, up to `}`.
@@ -845,9 +764,7 @@ fn arg_item(
 // advances: end_turn_advances true _ _ _ _
 #[cycle(pat)]
 fn rows(
-    text: &[u8],
-    toks: &[u8],
-    env: &[u8],
+    lent: Lent,
     table: &[u8],
     scratch: &mut [u8],
     finds: &mut [u8],
@@ -856,15 +773,15 @@ fn rows(
     b: usize,
     s: State,
 ) -> State
-    requires { Sound (mem text.now toks.now env.now table.now scratch.old finds.old s) }
-    ensures { RunsIn left b (Prog.loop (util.end_turn {g = true} SK.PatRow SK.Comma SK.RCurly (pat.pat_row (err_of e)))) (mem text.now toks.now env.now table.now scratch.old finds.old s) (mem text.now toks.now env.now table.now scratch.new finds.new result) 0 }
+    requires { Sound (mem_of lent table.now scratch.old finds.old s) }
+    ensures { RunsIn left b (Prog.loop (util.end_turn {g = true} SK.PatRow SK.Comma SK.RCurly (pat.pat_row (err_of e)))) (mem_of lent.entry table.now scratch.old finds.old s) (mem_of lent.entry table.now scratch.new finds.new result) 0 }
 {
     let mut s1 = s;
     loop {
-        let turn = row_turn(text, toks, env, table, scratch, finds, left, e, s1);
+        let turn = row_turn(lent, table, scratch, finds, left, e, s1);
         match turn {
-            Found::At(s2) => s1 = s2,
-            Found::Missing(s2) => return s2,
+            Ok(s2) => s1 = s2,
+            Err(s2) => return s2,
         }
     }
 }
@@ -873,9 +790,7 @@ fn rows(
 // measure: 64 * left + 1
 #[cycle(pat)]
 fn row_turn(
-    text: &[u8],
-    toks: &[u8],
-    env: &[u8],
+    lent: Lent,
     table: &[u8],
     scratch: &mut [u8],
     finds: &mut [u8],
@@ -883,19 +798,19 @@ fn row_turn(
     e: InfixErr,
     s: State,
 ) -> Found
-    requires { Sound (mem text.now toks.now env.now table.now scratch.old finds.old s) }
-    ensures { Runs left (util.end_turn {g = true} SK.PatRow SK.Comma SK.RCurly (pat.pat_row (err_of e))) (mem text.now toks.now env.now table.now scratch.old finds.old s) (mem text.now toks.now env.now table.now scratch.new finds.new (out_state result)) (out_val result) }
+    requires { Sound (mem_of lent table.now scratch.old finds.old s) }
+    ensures { Runs left (util.end_turn {g = true} SK.PatRow SK.Comma SK.RCurly (pat.pat_row (err_of e))) (mem_of lent.entry table.now scratch.old finds.old s) (mem_of lent.entry table.now scratch.new finds.new (out_state result)) (out_val result) }
 {
-    if at(toks, kind::RCURLY, s) {
-        return Found::Missing(bump(toks, scratch, s));
+    if at(lent.toks, kind::RCURLY, s) {
+        return Err(bump(lent.toks, scratch, s));
     }
-    let item = row_item(text, toks, env, table, scratch, finds, left, e, s);
+    let item = row_item(lent, table, scratch, finds, left, e, s);
     match item {
-        Found::At(s1) => Found::At(s1),
-        Found::Missing(s1) => {
-            let got = eat(toks, scratch, finds, kind::RCURLY, s1);
-            let s2 = got.state();
-            Found::Missing(s2)
+        Ok(s1) => Ok(s1),
+        Err(s1) => {
+            let got = eat(lent.toks, scratch, finds, kind::RCURLY, s1);
+            let s2 = either(got);
+            Err(s2)
         }
     }
 }
@@ -904,9 +819,7 @@ fn row_turn(
 // measure: 64 * left
 #[cycle(pat)]
 fn row_item(
-    text: &[u8],
-    toks: &[u8],
-    env: &[u8],
+    lent: Lent,
     table: &[u8],
     scratch: &mut [u8],
     finds: &mut [u8],
@@ -914,29 +827,27 @@ fn row_item(
     e: InfixErr,
     s: State,
 ) -> Found
-    requires { Sound (mem text.now toks.now env.now table.now scratch.old finds.old s) }
-    ensures { Runs left (util.end_item {g = true} SK.PatRow SK.Comma (pat.pat_row (err_of e))) (mem text.now toks.now env.now table.now scratch.old finds.old s) (mem text.now toks.now env.now table.now scratch.new finds.new (out_state result)) (out_val result) }
+    requires { Sound (mem_of lent table.now scratch.old finds.old s) }
+    ensures { Runs left (util.end_item {g = true} SK.PatRow SK.Comma (pat.pat_row (err_of e))) (mem_of lent.entry table.now scratch.old finds.old s) (mem_of lent.entry table.now scratch.new finds.new (out_state result)) (out_val result) }
 {
     if left == 0 {
-        return Found::Missing(s.refuse(TOO_DEEP));
+        return Err(s.refuse(Refusal::TooDeep));
     }
     let s1 = s.mark();
     let b = s1.len;
-    let s2 = row(text, toks, env, table, scratch, finds, left - 1, e, s1);
-    if at(toks, kind::COMMA, s2) {
-        let s3 = bump(toks, scratch, s2);
-        return Found::At(close(scratch, kind::PAT_ROW, b, s3));
+    let s2 = row(lent, table, scratch, finds, left - 1, e, s1);
+    if at(lent.toks, kind::COMMA, s2) {
+        let s3 = bump(lent.toks, scratch, s2);
+        return Ok(close(scratch, Node::PatRow, b, s3));
     }
-    Found::Missing(close(scratch, kind::PAT_ROW, b, s2))
+    Err(close(scratch, Node::PatRow, b, s2))
 }
 
 // A row: `...`, a label and its pattern, or a name with what may follow it.
 // measure: 64 * left
 #[cycle(pat)]
 fn row(
-    text: &[u8],
-    toks: &[u8],
-    env: &[u8],
+    lent: Lent,
     table: &[u8],
     scratch: &mut [u8],
     finds: &mut [u8],
@@ -944,31 +855,31 @@ fn row(
     e: InfixErr,
     s: State,
 ) -> State
-    requires { Sound (mem text.now toks.now env.now table.now scratch.old finds.old s) }
-    ensures { Runs left (pat.pat_row (err_of e)) (mem text.now toks.now env.now table.now scratch.old finds.old s) (mem text.now toks.now env.now table.now scratch.new finds.new result) 0 }
+    requires { Sound (mem_of lent table.now scratch.old finds.old s) }
+    ensures { Runs left (pat.pat_row (err_of e)) (mem_of lent.entry table.now scratch.old finds.old s) (mem_of lent.entry table.now scratch.new finds.new result) 0 }
 {
     if left == 0 {
-        return s.refuse(TOO_DEEP);
+        return s.refuse(Refusal::TooDeep);
     }
     let s1 = s.mark();
     let b = s1.len;
-    if at(toks, kind::DOT_DOT_DOT, s1) {
-        let s2 = bump(toks, scratch, s1);
-        return close(scratch, kind::REST_PAT_ROW, b, s2);
+    if at(lent.toks, kind::DOT_DOT_DOT, s1) {
+        let s2 = bump(lent.toks, scratch, s1);
+        return close(scratch, Node::RestPatRow, b, s2);
     }
-    if at_n(toks, 1, kind::EQ, s1) {
-        let s2 = lab(toks, scratch, finds, s1);
-        let got = eat(toks, scratch, finds, kind::EQ, s2);
-        let s3 = got.state();
+    if at_n(lent.toks, 1, kind::EQ, s1) {
+        let s2 = lab(lent.toks, scratch, finds, s1);
+        let got = eat(lent.toks, scratch, finds, kind::EQ, s2);
+        let s3 = either(got);
         let min = PatPrec::Min;
-        let s4 = pat_must(text, toks, env, table, scratch, finds, left - 1, min, e, s3);
-        return close(scratch, kind::LAB_AND_PAT_PAT_ROW, b, s4);
+        let s4 = pat_must(lent, table, scratch, finds, left - 1, min, e, s3);
+        return close(scratch, Node::LabAndPatPatRow, b, s4);
     }
-    let name = eat_name_star(toks, scratch, finds, s1);
-    let s2 = name.state();
-    let ty = ty_annotation(text, toks, env, table, scratch, finds, left - 1, s2);
-    let s3 = ty.state();
-    let more = as_pat_tl(text, toks, env, table, scratch, finds, left - 1, e, s3);
-    let s4 = more.state();
-    close(scratch, kind::LAB_PAT_ROW, b, s4)
+    let name = eat_name_star(lent.toks, scratch, finds, s1);
+    let s2 = either(name);
+    let ty = ty_annotation(lent, table, scratch, finds, left - 1, s2);
+    let s3 = either(ty);
+    let more = as_pat_tl(lent, table, scratch, finds, left - 1, e, s3);
+    let s4 = either(more);
+    close(scratch, Node::LabPatRow, b, s4)
 }

@@ -4,16 +4,18 @@
 ghost use Rattle.std.specs.Prelude.{true, ◌<◌};
 ghost use Rattle.grammar.specs.Pat as pat;
 ghost use Rattle.sml_fixity.specs.Fix.{infix_of};
-ghost use Rattle.parser.specs.View.{Sound, mem, err_of, out_state, out_val};
+ghost use Rattle.parser.specs.View.{Sound, mem_of, err_of, out_state, out_val};
 ghost use Rattle.parser.specs.Runs.{Runs, RunsIn};
 ghost use Rattle.pat_prec.specs.Prec.{prec_of};
 ghost use Rattle.pat_parts.specs.Head.{head_state, head_val};
 
-use parser::{Found, InfixErr, State, TOO_DEEP, at, bump, close, kind};
+use parser::node::Node;
+use parser::refusal::Refusal;
+use parser::{Found, InfixErr, Lent, State, at, bump, close, kind};
 use pat_prec::{PatPrec, is_infix, reports, should_break_pat};
 use sml_fixity::Infix;
 use ty::ty_must;
-use ty_prec::ARROW;
+use ty_prec::TyPrec;
 use util::{path, path_infix, path_no_infix};
 
 // How the head of a constructor pattern was left: it was too deep; the pattern goes on; it goes on at an infix name that was tested; it ends.
@@ -27,9 +29,7 @@ pub enum Head {
 
 // The path of a constructor without `op`.
 pub fn con_path(
-    text: &[u8],
-    toks: &[u8],
-    env: &[u8],
+    lent: Lent,
     table: &[u8],
     scratch: &mut [u8],
     finds: &mut [u8],
@@ -37,21 +37,19 @@ pub fn con_path(
     e: InfixErr,
     s: State,
 ) -> Found
-    requires { Sound (mem text.now toks.now env.now table.now scratch.old finds.old s) }
-    ensures { Runs left (pat.con_path {g = true} (err_of e)) (mem text.now toks.now env.now table.now scratch.old finds.old s) (mem text.now toks.now env.now table.now scratch.new finds.new (out_state result)) (out_val result) }
+    requires { Sound (mem_of lent table.now scratch.old finds.old s) }
+    ensures { Runs left (pat.con_path {g = true} (err_of e)) (mem_of lent.entry table.now scratch.old finds.old s) (mem_of lent.entry table.now scratch.new finds.new (out_state result)) (out_val result) }
 {
     if reports(e) {
-        path_no_infix(text, toks, env, table, scratch, finds, left, s)
+        path_no_infix(lent, table, scratch, finds, left, s)
     } else {
-        path(text, toks, env, table, scratch, finds, left, s)
+        path(lent, table, scratch, finds, left, s)
     }
 }
 
 // The path of a constructor.
 pub fn con_name(
-    text: &[u8],
-    toks: &[u8],
-    env: &[u8],
+    lent: Lent,
     table: &[u8],
     scratch: &mut [u8],
     finds: &mut [u8],
@@ -59,21 +57,19 @@ pub fn con_name(
     e: InfixErr,
     s: State,
 ) -> Found
-    requires { Sound (mem text.now toks.now env.now table.now scratch.old finds.old s) }
-    ensures { Runs left (pat.con_name {g = true} (err_of e)) (mem text.now toks.now env.now table.now scratch.old finds.old s) (mem text.now toks.now env.now table.now scratch.new finds.new (out_state result)) (out_val result) }
+    requires { Sound (mem_of lent table.now scratch.old finds.old s) }
+    ensures { Runs left (pat.con_name {g = true} (err_of e)) (mem_of lent.entry table.now scratch.old finds.old s) (mem_of lent.entry table.now scratch.new finds.new (out_state result)) (out_val result) }
 {
-    if at(toks, kind::OP_KW, s) {
-        path_infix(text, toks, env, table, scratch, finds, left, s)
+    if at(lent.toks, kind::OP_KW, s) {
+        path_infix(lent, table, scratch, finds, left, s)
     } else {
-        con_path(text, toks, env, table, scratch, finds, left, e, s)
+        con_path(lent, table, scratch, finds, left, e, s)
     }
 }
 
 // The end of a constructor pattern that started at `b`, at an infix name.
 pub fn con_op(
-    text: &[u8],
-    toks: &[u8],
-    env: &[u8],
+    lent: Lent,
     table: &[u8],
     scratch: &mut [u8],
     finds: &mut [u8],
@@ -83,21 +79,19 @@ pub fn con_op(
     b: usize,
     s: State,
 ) -> Head
-    requires { Sound (mem text.now toks.now env.now table.now scratch.old finds.old s) × (b < 4294967296) }
-    ensures { RunsIn left b (pat.con_op (infix_of op) (prec_of min)) (mem text.now toks.now env.now table.now scratch.old finds.old s) (mem text.now toks.now env.now table.now scratch.new finds.new (head_state result)) (head_val result) }
+    requires { Sound (mem_of lent table.now scratch.old finds.old s) × (b < 4294967296) }
+    ensures { RunsIn left b (pat.con_op (infix_of op) (prec_of min)) (mem_of lent.entry table.now scratch.old finds.old s) (mem_of lent.entry table.now scratch.new finds.new (head_state result)) (head_val result) }
 {
-    let ends = should_break_pat(text, toks, env, table, scratch, finds, op, min, s);
+    let ends = should_break_pat(lent, table, scratch, finds, op, min, s);
     match ends {
-        Found::At(s1) => Head::Stop(close(scratch, kind::CON_PAT, b, s1)),
-        Found::Missing(s1) => Head::AtOp(close(scratch, kind::CON_PAT, b, s1)),
+        Ok(s1) => Head::Stop(close(scratch, Node::ConPat, b, s1)),
+        Err(s1) => Head::AtOp(close(scratch, Node::ConPat, b, s1)),
     }
 }
 
 // `:` or `:>`, and the type behind it, where they may stand.
 pub fn typed_step(
-    text: &[u8],
-    toks: &[u8],
-    env: &[u8],
+    lent: Lent,
     table: &[u8],
     scratch: &mut [u8],
     finds: &mut [u8],
@@ -106,16 +100,16 @@ pub fn typed_step(
     b: usize,
     s: State,
 ) -> Found
-    requires { Sound (mem text.now toks.now env.now table.now scratch.old finds.old s) × (b < 4294967296) }
-    ensures { RunsIn left b (pat.typed_step (prec_of min)) (mem text.now toks.now env.now table.now scratch.old finds.old s) (mem text.now toks.now env.now table.now scratch.new finds.new (out_state result)) (out_val result) }
+    requires { Sound (mem_of lent table.now scratch.old finds.old s) × (b < 4294967296) }
+    ensures { RunsIn left b (pat.typed_step (prec_of min)) (mem_of lent.entry table.now scratch.old finds.old s) (mem_of lent.entry table.now scratch.new finds.new (out_state result)) (out_val result) }
 {
     if is_infix(min) {
-        return Found::Missing(s);
+        return Err(s);
     }
     if left == 0 {
-        return Found::At(s.refuse(TOO_DEEP));
+        return Ok(s.refuse(Refusal::TooDeep));
     }
-    let s1 = bump(toks, scratch, s.mark());
-    let s2 = ty_must(text, toks, env, table, scratch, finds, left - 1, ARROW, s1);
-    Found::At(close(scratch, kind::TYPED_PAT, b, s2))
+    let s1 = bump(lent.toks, scratch, s.mark());
+    let s2 = ty_must(lent, table, scratch, finds, left - 1, TyPrec::Arrow, s1);
+    Ok(close(scratch, Node::TypedPat, b, s2))
 }

@@ -1,5 +1,6 @@
 -- What a call came to, held to what a case says, and how many cases of a list differ.
-use Rattle.std.specs.Prelude.{ℕ, zero, suc, ◌+◌, List, [], ◌∷◌, Bool, true, false, ◌&&◌, eqb, take, drop}
+use Rattle.std.specs.Prelude.{ℕ, zero, suc, ◌+◌, List, Bool, true, false, ◌&&◌, ◌==◌, eqb, take, drop}
+use Rattle.std.specs.List.{list_all}
 use Rattle.grammar.specs.Bytes.{same}
 use Rattle.grammar.specs.Read.{Call, Result}
 use Rattle.sml_fixity.specs.Table.{part}
@@ -7,9 +8,8 @@ use Rattle.answers.specs.Entry.{served}
 use Rattle.replay_parts.specs.Form.{text_from, toks_from, env_from, env_end, finds_from, last_from, case_end, text_size, toks_size, env_size, nodes_used, finds_used, last_used, scratch_room, nodes_room, finds_room, last_room, depth_at, mode_at, answer_at}
 
 -- every byte is 0
-unfoldable pub is_zero : List ℕ → Bool
-is_zero [] = true
-is_zero (x ∷ xs) = elim (eqb x 0) [ true ↦ is_zero xs | false ↦ false ]
+abbrev pub is_zero : List ℕ → Bool
+is_zero b = list_all (λ x. x == 0) b
 
 -- A buffer has so many bytes of the list from there on, and zeroes behind them.
 unfoldable pub holds : List ℕ → ℕ → List ℕ → ℕ → Bool

@@ -5,7 +5,7 @@ use Rattle.std.proofs.Math.Path.{ap}
 use Rattle.std.proofs.Math.Dec.{eqb}
 use Rattle.grammar.specs.Bytes.{same}
 use Rattle.grammar.specs.Read.{Result, zeroes, pad}
-use Rattle.sml_fixity.specs.Names.{by_test, same_eq}
+use Rattle.sml_fixity.specs.Names.{same_eq}
 use Rattle.sml_fixity.specs.EnvBytes.{both}
 use Rattle.sml_fixity.specs.Table.{part}
 use Rattle.answers.specs.Entry.{served}
@@ -29,16 +29,10 @@ said_at list at =
 -- ---- bytes
 
 zero_all : (b : List ℕ) → is_zero b ≡ true → b ≡ zeroes (length b)
-unfolding is_zero
 zero_all [] h = refl
 zero_all (x ∷ xs) h =
-    by_test (eqb x 0)
-    (λ e.
-    let rest : is_zero xs ≡ true = rw (e, is_zero) at h in
-    ap (λ (y : ℕ). y ∷ xs) (eqb-true x 0 e) ∙ ap (λ (l : List ℕ). 0 ∷ l) (zero_all xs rest))
-    (λ e.
-    let q : false ≡ true = rw (e, is_zero) at h in
-    let z : ◌≡◌ {A = ℕ} 0 1 = cc in absurd (omega arith))
+    let t = both (eqb x 0) (is_zero xs) h in
+    ap (λ (y : ℕ). y ∷ xs) (eqb-true x 0 t.0) ∙ ap (λ (l : List ℕ). 0 ∷ l) (zero_all xs t.1)
 
 held_all : (b : List ℕ) (used : ℕ) (list : List ℕ) (from : ℕ) → from + used ≤ length list → holds b used list from ≡ true → b ≡ pad (length b) (part list from used)
 unfolding holds pad

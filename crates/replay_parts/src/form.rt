@@ -1,146 +1,103 @@
 // The form of a list: how many cases there are, and behind it the cases, each a head of numbers and the bytes that they count.
-ghost use Rattle.std.specs.Prelude.{◌≡◌, ◌+◌, ◌≤◌, length};
+ghost use Rattle.std.specs.Prelude.{◌≡◌, ◌+◌, ◌≤◌, ◌<◌, false, length, take, drop, MatchOption};
 ghost use Rattle.grammar.specs.Bytes.{pair_at};
-ghost use Rattle.replay_parts.specs.Form.{max_list, head_size, long_at, env_end, case_end, rooms_hold, fits_at, ends_at, is_list};
+ghost use Rattle.replay_parts.specs.Form.{long_at, fits_at, ends_at, is_list};
+ghost use Rattle.replay_parts.specs.Case.{Splits};
 
-use sml_fixity::table::pair;
+use crate::Case;
 
 // The most bytes of a list.
 const MOST: usize = 131072;
 
-// Where the first case stands, and the bytes of a case's head.
+// Where the first case stands.
 pub const FIRST: usize = 2;
 
-pub const HEAD: usize = 37;
+// The bytes of a case's head.
+const HEAD: usize = 37;
 
-// Where the numbers stand in a head: the lengths of what is lent to read, of which the text's stands in front;
-pub const TOKS: usize = 2;
-
-const ENV: usize = 4;
-
-// the used lengths that must be answered;
-pub const NODES_USED: usize = 6;
-
-pub const FINDS_USED: usize = 8;
-
-pub const LAST_USED: usize = 10;
-
-// the lengths of what is lent to write;
-pub const SCRATCH_ROOM: usize = 12;
-
-pub const NODES_ROOM: usize = 14;
-
-pub const FINDS_ROOM: usize = 16;
-
-pub const LAST_ROOM: usize = 18;
-
-// the settings, and the answer.
-pub const DEPTH: usize = 20;
-
-pub const MODE: usize = 28;
-
-pub const ANSWER: usize = 36;
-
-// A byte as a number.
-pub fn wide(x: u8) -> usize
-    ensures { result ≡ x }
+// `N` bytes from `at` on.
+fn bytes_at<const N: usize>(list: &[u8], at: usize) -> [u8; N]
+    requires { at + N ≤ length list.now }
+    ensures { result ≡ take N (drop at list.now) }
 {
-    x as usize
+    *list[at..].first_chunk().unwrap()
 }
 
 // The number in two bytes.
-pub fn number(list: &[u8], at: usize) -> usize
+pub fn number(list: &[u8], at: usize) -> u16
     requires { at + 2 ≤ length list.now }
-    ensures { (result ≡ pair_at list.now at) × (result ≤ 65535) }
+    ensures { result ≡ pair_at list.now at }
 {
-    pair(list, at) as usize
+    u16::from_le_bytes(bytes_at(list, at))
 }
 
 // The number in eight bytes.
-pub fn long(list: &[u8], at: usize) -> u64
+fn long(list: &[u8], at: usize) -> u64
     requires { at + 8 ≤ length list.now }
     ensures { result ≡ long_at list.now at }
 {
-    let a = pair(list, at) as u64;
-    let b = pair(list, at + 2) as u64;
-    let c = pair(list, at + 4) as u64;
-    let d = pair(list, at + 6) as u64;
-    a + 65536 * (b + 65536 * (c + 65536 * d))
+    u64::from_le_bytes(bytes_at(list, at))
 }
 
-// Where what a case lends to read ends: behind text, records and environment.
-pub fn env_end(list: &[u8], at: usize) -> usize
-    requires { (at + head_size ≤ length list.now) × (length list.now ≤ max_list) }
-    ensures { (result ≡ env_end list.now at) × (result ≤ 400000) }
+// The first `len` bytes, and those behind them; none where there are fewer.
+fn split(rest: &[u8], len: u16) -> Option<(&[u8], &[u8])>
+    ensures { MatchOption result (length rest.now < len) (λ p. (p.0.now ≡ take len rest.now) × (p.1.now ≡ drop len rest.now) × (length p.0.now ≡ len) × (length p.1.now + len ≡ length rest.now)) }
 {
-    at + HEAD + number(list, at) + number(list, at + TOKS) + number(list, at + ENV)
+    rest.split_at_checked(usize::from(len))
 }
 
-// Where a case ends: behind the bytes that must be handed out.
-pub fn case_end(list: &[u8], at: usize) -> usize
-    requires { (at + head_size ≤ length list.now) × (length list.now ≤ max_list) }
-    ensures { result ≡ case_end list.now at }
+// The case in front of these bytes, and what stands behind it; none where no whole case stands there. specs/Form.antt says where the numbers of its head stand.
+pub fn split_case(list: &[u8]) -> Option<(Case<'_>, &[u8])>
+    ensures { MatchOption result (fits_at list.now 0 ≡ false) (λ p. Splits list.now p.0 p.1.now) }
 {
-    env_end(list, at)
-        + number(list, at + NODES_USED)
-        + number(list, at + FINDS_USED)
-        + number(list, at + LAST_USED)
-}
-
-// Whether what must be handed out has the room that is lent.
-fn rooms_hold(list: &[u8], at: usize) -> bool
-    requires { at + head_size ≤ length list.now }
-    ensures { result ≡ rooms_hold list.now at }
-{
-    if number(list, at + NODES_ROOM) < number(list, at + NODES_USED) {
-        return false;
+    let rest = list.get(HEAD..)?;
+    let (text, rest) = split(rest, number(list, 0))?;
+    let (toks, rest) = split(rest, number(list, 2))?;
+    let (env, rest) = split(rest, number(list, 4))?;
+    let (nodes, rest) = split(rest, number(list, 6))?;
+    let (finds, rest) = split(rest, number(list, 8))?;
+    let (last, rest) = split(rest, number(list, 10))?;
+    let case = Case {
+        text,
+        toks,
+        env,
+        depth: long(list, 20),
+        mode: long(list, 28),
+        scratch_room: number(list, 12),
+        nodes_room: number(list, 14),
+        finds_room: number(list, 16),
+        last_room: number(list, 18),
+        answer: list[36],
+        nodes,
+        finds,
+        last,
+    };
+    if !case.has_room() {
+        return None;
     }
-    if number(list, at + FINDS_ROOM) < number(list, at + FINDS_USED) {
-        return false;
-    }
-    number(list, at + LAST_USED) <= number(list, at + LAST_ROOM)
+    Some((case, rest))
 }
 
-// Whether a case stands at `at`, whole.
-fn case_fits(list: &[u8], at: usize) -> bool
-    requires { (at ≤ length list.now) × (length list.now ≤ max_list) }
-    ensures { result ≡ fits_at list.now at }
+// Whether so many cases stand in front of these bytes, and nothing behind them.
+fn cases_end(list: &[u8], count: u16) -> bool
+    ensures { result ≡ ends_at count list.now 0 }
 {
-    if list.len() < at + HEAD {
-        return false;
-    }
-    if list.len() < case_end(list, at) {
-        return false;
-    }
-    rooms_hold(list, at)
-}
-
-// Whether so many cases stand at `at`, and nothing behind them.
-fn cases_end(list: &[u8], from: usize, count: usize) -> bool
-    requires { (from ≤ length list.now) × (length list.now ≤ max_list) }
-    ensures { result ≡ ends_at count list.now from }
-{
-    let mut left = count;
-    let mut at = from;
-    while left > 0 {
-        if !case_fits(list, at) {
+    let mut rest = list;
+    for _ in 0..count {
+        let Some((_, behind)) = split_case(rest) else {
             return false;
-        }
-        at = case_end(list, at);
-        left -= 1;
+        };
+        rest = behind;
     }
-    at == list.len()
+    rest.is_empty()
 }
 
 // Whether these bytes are a list.
 pub fn is_list(list: &[u8]) -> bool
     ensures { result ≡ is_list list.now }
 {
-    if MOST < list.len() {
+    if MOST < list.len() || list.len() < FIRST {
         return false;
     }
-    if list.len() < FIRST {
-        return false;
-    }
-    cases_end(list, FIRST, number(list, 0))
+    cases_end(&list[FIRST..], number(list, 0))
 }

@@ -7,15 +7,16 @@ use mathlib.Core.List.{List}
 use mathlib.Core.Option.{Option, none, some}
 use mathlib.Core.Bool.{true, false}
 use borrow.Author.Count.{below_more}
-use borrow.Author.Tests.{lt-ltb, le-ltb, leb-true}
+use borrow.Author.Tests.{lt-ltb, leb-true}
 use lib.Dec.{leb, lit≤}
 use lib.ListN.{length}
 use Rattle.grammar.specs.Env.{Infix, Entry, find, max_name, max_entries}
 use Rattle.grammar.specs.World.{changed, may_change, max_changes}
 use Rattle.sml_fixity.specs.declared.Assoc.{Assoc}
 use Rattle.sml_fixity.specs.declared.Assoc.TheVariants.{Left, Right}
-use Rattle.sml_fixity.specs.declared.Fixity.{Fixity}
-use Rattle.sml_fixity.specs.declared.Fixity.TheVariants.{Nonfix, Is}
+use Rattle.std.specs.Prelude as std
+use Rattle.std.specs.Prelude.{Some, None}
+use Rattle.sml_fixity.specs.declared.Infix as code
 use Rattle.sml_fixity.specs.declared.table.Table.{Table}
 use Rattle.sml_fixity.specs.Entries.{Sorted, count, length_remove, length_changed}
 use Rattle.sml_fixity.specs.EnvBytes.{both, sorted_env}
@@ -31,17 +32,17 @@ assoc_back : (p : ℕ) (a : Assoc) → fix_by p (assoc_of a) ≡ some (record { 
 assoc_back p Left = refl
 assoc_back p Right = refl
 
-fix_back : (f : Fixity) → fix_by (prec_of (fixity_of f)) (what_of (fixity_of f)) ≡ fixity_of f
-fix_back Nonfix = refl
-fix_back (Is i) = assoc_back i.prec i.assoc
+fix_back : (f : std.Option code.Infix) → fix_by (prec_of (fixity_of f)) (what_of (fixity_of f)) ≡ fixity_of f
+fix_back None = refl
+fix_back (Some i) = assoc_back i.prec i.assoc
 
 assoc_small : (a : Assoc) → assoc_of a ≤ nonfix
 assoc_small Left = lit≤ tt
 assoc_small Right = lit≤ tt
 
-what_small : (f : Fixity) → what_of (fixity_of f) ≤ nonfix
-what_small Nonfix = lit≤ tt
-what_small (Is i) = assoc_small i.assoc
+what_small : (f : std.Option code.Infix) → what_of (fixity_of f) ≤ nonfix
+what_small None = lit≤ tt
+what_small (Some i) = assoc_small i.assoc
 
 -- ---- whether it may be made
 
@@ -59,7 +60,7 @@ short : (c : Option Infix) (x : List ℕ) (n k : ℕ) → length x ≡ n → fit
 short none x n k e f = tt
 short (some i) x n k e f = rw e (leb-true n max_name (both (leb n max_name) (leb k max_entries) f).0)
 
-module _ (text env journal : List ℕ) (t : Table) (start len : ℕ) (f : Fixity) (st : Stands text env journal t) (inside : start + len ≤ length text) where
+module _ (text env journal : List ℕ) (t : Table) (start len : ℕ) (f : std.Option code.Infix) (st : Stands text env journal t) (inside : start + len ≤ length text) where
   sorted : Sorted (table_of text env journal t)
   sorted = sorted_force text (entries_in env) journal (sorted_env env (entries_in env) st.form) t.len
 
@@ -67,9 +68,6 @@ module _ (text env journal : List ℕ) (t : Table) (start len : ℕ) (f : Fixity
   pub balance : (m k : ℕ) (was : Option Infix) → m ≡ count (fixity_of f) → k ≡ count was → was ≡ find (part text start len) (table_of text env journal t)
       → length (changed (fixity_of f) (part text start len) (table_of text env journal t)) + k ≡ t.entries + m
   balance m k was p q e = rw (p, q, e, st.counted) (length_changed (fixity_of f) (part text start len) (table_of text env journal t) sorted)
-
-  pub many : max_changes ≤ t.changes → Refused text env journal t (part text start len) (fixity_of f) journal
-  many h = record { may = rw (le-ltb t.changes max_changes h); kept = refl }
 
   module _ (k : ℕ) (less : t.changes < max_changes) (k-is : length (changed (fixity_of f) (part text start len) (table_of text env journal t)) ≡ k) where
     may_is : allowed text env journal t (part text start len) (fixity_of f) ≡ fits_in (fixity_of f) len k

@@ -1,9 +1,9 @@
--- The fixity in three bytes, by what the third one is.
+-- The fixity in three bytes, where the third one is an association.
 use Prim.Native.Nat.{ℕ, ◌+◌, ◌<◌}
 use native.Mathlib.Omega.{arith}
 use mathlib.Core.Path.{◌≡◌, ◌∙◌}
 use mathlib.Core.List.{List}
-use mathlib.Core.Option.{none, some}
+use mathlib.Core.Option.{some}
 use borrow.Author.Tests.{ne_eqb}
 use lib.ListN.{get_or}
 use Rattle.grammar.specs.Bytes.{pair_at}
@@ -13,6 +13,3 @@ pub fix_some : (bytes : List ℕ) (i p a : ℕ) → pair_at bytes i ≡ p → ge
 fix_some bytes i p a e f h =
     let q : fix_in bytes i ≡ fix_by p a = cc in
     q ∙ rw (ne_eqb a nonfix (λ q. omega arith), fix_by)
-
-pub fix_none : (bytes : List ℕ) (i : ℕ) → get_or bytes (i + 2) 0 ≡ nonfix → fix_in bytes i ≡ none
-fix_none bytes i e = let q : fix_in bytes i ≡ fix_by (pair_at bytes i) nonfix = cc in q

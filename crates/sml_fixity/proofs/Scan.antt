@@ -31,7 +31,7 @@ pub record Next (env : List ℕ) (at : ℕ) (es : List Entry) : Type 0 where
   pub said : (x : List ℕ) → same x (part env (at + 1) (get_or env at 0)) ≡ true → find x es ≡ fix_in env (at + 1 + get_or env at 0)
   pub k : ℕ
   pub rest : List Entry
-  pub others : entries_of k (part env (at + 1) (get_or env at 0)) (drop (at + (get_or env at 0 + 4)) env) ≡ some rest
+  pub others : entries_of k (part env (at + 1) (get_or env at 0)) (drop (at + 1 + get_or env at 0 + 3) env) ≡ some rest
   pub passed : (x : List ℕ) → same x (part env (at + 1) (get_or env at 0)) ≡ false → find x es ≡ find x rest
 
 pub starts : (P : List ℕ → Type 0) (env : List ℕ) → env_of env ≡ some (entries_in env) → Rest P env 0
@@ -55,7 +55,7 @@ module _ (env : List ℕ) (at : ℕ) (h : at < length env) where
   unfolding find
   enters k last es s =
       let n = get_or env at 0 in
-      let z : at + 1 + (n + 3) ≡ at + (n + 4) = omega arith in
+      let z : at + 1 + (n + 3) ≡ at + 1 + n + 3 = omega arith in
       let p : pair_at env (at + 1 + n) ≡ pair_at (drop (at + 1) env) n = cc (shift 0, shift 1, add-zero n, add-zero (at + 1 + n)) in
       record {
         room = omega (arith, simp length-drop at s.whole.room);
@@ -84,7 +84,7 @@ module _ (env : List ℕ) (at : ℕ) (h : at < length env) where
   hit r x p e = sym (r.left x p) ∙ (next r).said x e
 
   -- behind it, where its name is not asked for any more
-  pub miss : {P : List ℕ → Type 0} (Q : List ℕ → Type 0) → Rest P env at → ((x : List ℕ) → Q x → P x × (same x (part env (at + 1) (get_or env at 0)) ≡ false)) → Rest Q env (at + (get_or env at 0 + 4))
+  pub miss : {P : List ℕ → Type 0} (Q : List ℕ → Type 0) → Rest P env at → ((x : List ℕ) → Q x → P x × (same x (part env (at + 1) (get_or env at 0)) ≡ false)) → Rest Q env (at + 1 + get_or env at 0 + 3)
   miss Q r f =
       let e = next r in
       record {

@@ -1,5 +1,5 @@
 -- The table in force: the starting environment, and a journal of the fixity changes made since. Leaving a scope cuts the journal back.
-use Rattle.std.specs.Prelude.{ℕ, zero, suc, ◌+◌, ◌*◌, ◌≤◌, ◌<◌, ◌≡◌, List, [], ◌∷◌, Bool, true, false, ◌&&◌, eqb, ltb, leb, length, get_or, take, drop}
+use Rattle.std.specs.Prelude.{ℕ, zero, suc, ◌+◌, ◌*◌, ◌≤◌, ◌<◌, ◌≡◌, List, [], ◌∷◌, Bool, true, false, ◌&&◌, eqb, ltb, leb, length, get_or, take, drop, Result, Ok, Err}
 use Rattle.std.proofs.Math.Option
 use Rattle.std.proofs.Math.Option.{Option, none, some}
 use Rattle.std.proofs.lemmas.List.Edits.{sets}
@@ -7,8 +7,7 @@ use Rattle.grammar.specs.Bytes.{pair_at, low, high}
 use Rattle.grammar.specs.Env.{Entry, Infix, env_of, max_entries, max_name}
 use Rattle.grammar.specs.World.{changed, may_change, max_changes}
 use Rattle.sml_fixity.specs.declared.table.Table.{Table}
-use Rattle.sml_fixity.specs.declared.table.Changed.{Changed}
-use Rattle.sml_fixity.specs.declared.table.Changed.TheVariants.{Done, Full}
+use Rattle.sml_fixity.specs.declared.table.Full.{Full}
 
 -- A record of the journal, 8 bytes: where the name starts in the text (2), its length (2), the precedence (2), what it becomes (left 0, right 1, nonfix 2), 0.
 abbrev pub change_size : ℕ
@@ -122,9 +121,9 @@ pub record Refused (text env journal : List ℕ) (t : Table) (x : List ℕ) (c :
   pub may : allowed text env journal t x c ≡ false
   pub kept : journal' ≡ journal
 
-abbrev pub Changes : List ℕ → List ℕ → List ℕ → Table → List ℕ → Option Infix → List ℕ → Changed → Type 0
-Changes text env journal t x c journal' (Done t') = Made text env journal t x c journal' t'
-Changes text env journal t x c journal' Full = Refused text env journal t x c journal'
+abbrev pub Changes : List ℕ → List ℕ → List ℕ → Table → List ℕ → Option Infix → List ℕ → Result Table Full → Type 0
+Changes text env journal t x c journal' (Ok t') = Made text env journal t x c journal' t'
+Changes text env journal t x c journal' (Err _) = Refused text env journal t x c journal'
 
 -- A table that begins with so many entries stands over every environment that has them, and means those.
 pub record Begins (entries : ℕ) (t : Table) : Type 0 where

@@ -8,25 +8,26 @@ ghost use Rattle.sml_fixity.specs.Fix.{infix_of};
 pub mod table;
 
 // The associativity of an infix name.
-#[derive(Clone, Copy)]
+#[derive(Clone, Copy, PartialEq, Eq)]
 pub enum Assoc {
     Left,
     Right,
 }
 
 // The precedence and the associativity of an infix name.
-#[derive(Clone, Copy)]
+#[derive(Clone, Copy, PartialEq, Eq)]
 pub struct Infix {
     pub prec: u16,
     pub assoc: Assoc,
 }
 
+// Two functions and not one: document 01 asks for `left` and `right`.
 impl Infix {
     pub fn left(prec: u16) -> Infix
         ensures { infix_of result ≡ left prec }
     {
         Infix {
-            prec: prec,
+            prec,
             assoc: Assoc::Left,
         }
     }
@@ -35,15 +36,8 @@ impl Infix {
         ensures { infix_of result ≡ right prec }
     {
         Infix {
-            prec: prec,
+            prec,
             assoc: Assoc::Right,
         }
     }
-}
-
-// What the environment says of a name.
-#[derive(Clone, Copy)]
-pub enum Fixity {
-    Nonfix,
-    Is(Infix),
 }

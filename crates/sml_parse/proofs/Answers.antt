@@ -16,9 +16,8 @@ use Rattle.grammar.specs.Tokens.{lists_fit, records_fit, record_count}
 use Rattle.grammar.specs.Read.{Call, Result, settings_fit, reading, finish, refusal, handed, read_with, read, zeroes, bad_settings, bad_records, bad_env}
 use Rattle.env_bytes.specs.Form.{count_of}
 use Rattle.sml_fixity.specs.Table.{entries_in}
-use Rattle.answers.specs.Entry.{result_of, with_scratch, cleared_to, Tested}
-use Rattle.answers.specs.declared.Answer.{Answer}
-use Rattle.answers.proofs.Hands.{drop_zeroes}
+use Rattle.answers.specs.Entry.{Answer, result_of, with_scratch, cleared_to, Tested}
+use Rattle.std.proofs.lemmas.List.{drop-replicate}
 use Rattle.answers.proofs.Starts.{counted}
 
 -- the tests of `read`
@@ -79,10 +78,10 @@ read_cleared c = if_both Clear (settings_fit c) (λ _. if_both Clear (records_fi
     by_env (some es) = by_world (reading c es)
 
 -- a call over a part of scratch, the rest of which was cleared before
-pub part_cleared : (c : Call) (n m : ℕ) {a : Answer} {s s' n' f' l' : List ℕ} → n ≤ m → s ≡ zeroes m → result_of a s' n' f' l' ≡ read (with_scratch c n)
+pub part_cleared : (c : Call) (n m : ℕ) (a : Answer) {s s' n' f' l' : List ℕ} → n ≤ m → s ≡ zeroes m → result_of a s' n' f' l' ≡ read (with_scratch c n)
     → result_of a (s' ++ drop n s) n' f' l' ≡ cleared_to (read (with_scratch c n)) m
-part_cleared c n m {a} {s} {s'} {n'} {f'} {l'} h e q =
+part_cleared c n m a {s} {s'} {n'} {f'} {l'} h e q =
     let k : n + (m - n) ≡ m = omega arith in
     let z : s' ++ drop n s ≡ zeroes m =
-    cc (ap (λ (r : Result). r.scratch) q, read_cleared (with_scratch c n), ap (drop n) e, drop_zeroes n m, replicate-append-replicate {A = ℕ} n (m - n) 0, ap zeroes k) in
+    cc (ap (λ (r : Result). r.scratch) q, read_cleared (with_scratch c n), ap (drop n) e, drop-replicate {X = ℕ} n m 0, replicate-append-replicate {A = ℕ} n (m - n) 0, ap zeroes k) in
     ap (λ (x : List ℕ). result_of a x n' f' l') z ∙ ap (λ (r : Result). cleared_to r m) q

@@ -1,3 +1,2 @@
 pub mod Whole
 pub mod Answers
-pub mod Exports

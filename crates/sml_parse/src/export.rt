@@ -3,17 +3,14 @@ ghost use Rattle.std.specs.Prelude.{◌≡◌, [], ◌∷◌, length};
 ghost use Rattle.answers.specs.Entry.{call_of, result_from, served};
 
 use crate::read;
-use answers::Answer;
+use answers::Used;
 
-// The three used lengths. Of an array lent as a slice the length is known; behind the `&mut` it is not, so the stores are not in the entry.
-fn put_used(used: &mut [u64], a: Answer)
-    requires { length used.old ≡ 3 }
-    ensures { used.new ≡ a.nodes ∷ a.finds ∷ a.last ∷ [] }
-{
-    used[0] = a.nodes as u64;
-    used[1] = a.finds as u64;
-    used[2] = a.last as u64;
-}
+// What a refused call used.
+const NONE: Used = Used {
+    nodes: 0,
+    finds: 0,
+    last: 0,
+};
 
 // `read`. The answer is document 01's number; the three used lengths, of the nodes, the findings and the final environment, are left in `used`,
 // in that order.
@@ -31,7 +28,10 @@ pub fn sml_parse_read(
 ) -> usize
     ensures { (result_from result used.new scratch.new nodes.new finds.new last.new ≡ served (call_of text.now toks.now env.now depth mode scratch.old nodes.old finds.old last.old)) × (length used.new ≡ 3) }
 {
-    let a = read(text, toks, env, depth, mode, scratch, nodes, finds, last);
-    put_used(used, a);
-    a.number
+    let (number, u) = match read(text, toks, env, depth, mode, scratch, nodes, finds, last) {
+        Ok(u) => (0, u),
+        Err(why) => (why.number(), NONE),
+    };
+    *used = [u.nodes as u64, u.finds as u64, u.last as u64];
+    number
 }

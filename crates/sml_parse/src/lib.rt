@@ -11,28 +11,20 @@ use answers::hand::hand_out;
 use answers::refusal::refuse_all;
 use answers::start::start_state;
 use clearing::clear;
-use env_bytes::form;
-use env_bytes::form::Form;
+use env_bytes::form::form_of;
+use parser::Lent;
+use parser::refusal::Refusal;
 use tokens::{records_fit, settings_fit};
 
 pub mod export;
 pub mod root;
-
-// The answers that are given before reading.
-const BAD_SETTINGS: usize = 1;
-
-const BAD_RECORDS: usize = 2;
-
-const BAD_ENV: usize = 3;
 
 // The most bytes of scratch whose records' numbers fit four bytes.
 const MOST_SCRATCH: usize = 2147483640;
 
 // The reading, with a journal of fixity changes that is lent.
 fn read_into(
-    text: &[u8],
-    toks: &[u8],
-    env: &[u8],
+    lent: Lent,
     table: &mut [u8; 8192],
     depth: usize,
     mode: usize,
@@ -42,22 +34,20 @@ fn read_into(
     last: &mut [u8],
     entries: usize,
 ) -> Answer
-    requires { Tested text.now toks.now env.now entries × (8192 ≤ length table.old) × (length scratch.old ≤ 2147483640) }
-    ensures { result_of result scratch.new nodes.new finds.new last.new ≡ finish (call_of text.now toks.now env.now depth mode scratch.old nodes.old finds.old last.old) (reading (call_of text.now toks.now env.now depth mode scratch.old nodes.old finds.old last.old) (entries_in env.now)) }
+    requires { Tested lent.text.now lent.toks.now lent.env.now entries × (8192 ≤ length table.old) × (length scratch.old ≤ 2147483640) }
+    ensures { result_of result scratch.new nodes.new finds.new last.new ≡ finish (call_of lent.entry.text.now lent.entry.toks.now lent.entry.env.now depth mode scratch.old nodes.old finds.old last.old) (reading (call_of lent.entry.text.now lent.entry.toks.now lent.entry.env.now depth mode scratch.old nodes.old finds.old last.old) (entries_in lent.entry.env.now)) }
 {
-    let s = start_state(text, toks, env, table, scratch, finds, entries, mode);
-    let end = root::root(text, toks, env, table, scratch, finds, depth, s);
-    if end.stop != 0 {
-        return refuse_all(scratch, nodes, finds, last, end.stop);
+    let s = start_state(lent, table, scratch, finds, entries, mode);
+    let end = root::root(lent, table, scratch, finds, depth, s);
+    if let Some(why) = end.stop {
+        return refuse_all(scratch, nodes, finds, last, why);
     }
-    hand_out(text, toks, env, table, scratch, nodes, finds, last, end)
+    hand_out(lent, table, scratch, nodes, finds, last, end)
 }
 
 // The same with an array for the 1,024 changes that one call may make.
 fn read_with(
-    text: &[u8],
-    toks: &[u8],
-    env: &[u8],
+    lent: Lent,
     depth: usize,
     mode: usize,
     scratch: &mut [u8],
@@ -66,20 +56,18 @@ fn read_with(
     last: &mut [u8],
     entries: usize,
 ) -> Answer
-    requires { Tested text.now toks.now env.now entries × (length scratch.old ≤ 2147483640) }
-    ensures { result_of result scratch.new nodes.new finds.new last.new ≡ finish (call_of text.now toks.now env.now depth mode scratch.old nodes.old finds.old last.old) (reading (call_of text.now toks.now env.now depth mode scratch.old nodes.old finds.old last.old) (entries_in env.now)) }
+    requires { Tested lent.text.now lent.toks.now lent.env.now entries × (length scratch.old ≤ 2147483640) }
+    ensures { result_of result scratch.new nodes.new finds.new last.new ≡ finish (call_of lent.entry.text.now lent.entry.toks.now lent.entry.env.now depth mode scratch.old nodes.old finds.old last.old) (reading (call_of lent.entry.text.now lent.entry.toks.now lent.entry.env.now depth mode scratch.old nodes.old finds.old last.old) (entries_in lent.entry.env.now)) }
 {
     let mut table = [0u8; 8192];
     read_into(
-        text, toks, env, &mut table, depth, mode, scratch, nodes, finds, last, entries,
+        lent, &mut table, depth, mode, scratch, nodes, finds, last, entries,
     )
 }
 
 // The call, with the tests of the answers 1, 2 and 3 in that order.
 fn read_short(
-    text: &[u8],
-    toks: &[u8],
-    env: &[u8],
+    lent: Lent,
     depth: u64,
     mode: u64,
     scratch: &mut [u8],
@@ -88,21 +76,19 @@ fn read_short(
     last: &mut [u8],
 ) -> Answer
     requires { length scratch.old ≤ 2147483640 }
-    ensures { result_of result scratch.new nodes.new finds.new last.new ≡ read (call_of text.now toks.now env.now depth mode scratch.old nodes.old finds.old last.old) }
+    ensures { result_of result scratch.new nodes.new finds.new last.new ≡ read (call_of lent.entry.text.now lent.entry.toks.now lent.entry.env.now depth mode scratch.old nodes.old finds.old last.old) }
 {
-    if !settings_fit(text, toks, depth, mode) {
-        return refuse_all(scratch, nodes, finds, last, BAD_SETTINGS);
+    if !settings_fit(lent.text, lent.toks, depth, mode) {
+        return refuse_all(scratch, nodes, finds, last, Refusal::BadSettings);
     }
-    if !records_fit(text.len(), toks) {
-        return refuse_all(scratch, nodes, finds, last, BAD_RECORDS);
+    if !records_fit(lent.text.len(), lent.toks) {
+        return refuse_all(scratch, nodes, finds, last, Refusal::BadRecords);
     }
-    let Form::Good(entries) = form::form_of(env) else {
-        return refuse_all(scratch, nodes, finds, last, BAD_ENV);
+    let Some(entries) = form_of(lent.env) else {
+        return refuse_all(scratch, nodes, finds, last, Refusal::BadEnv);
     };
     read_with(
-        text,
-        toks,
-        env,
+        lent,
         depth as usize,
         mode as usize,
         scratch,
@@ -115,9 +101,7 @@ fn read_short(
 
 // The call over the first `n` bytes of scratch: the rest is cleared.
 fn read_part(
-    text: &[u8],
-    toks: &[u8],
-    env: &[u8],
+    lent: Lent,
     depth: u64,
     mode: u64,
     scratch: &mut [u8],
@@ -127,20 +111,10 @@ fn read_part(
     n: usize,
 ) -> Answer
     requires { (n ≤ length scratch.old) × (n ≤ 2147483640) }
-    ensures { result_of result scratch.new nodes.new finds.new last.new ≡ cleared_to (read (with_scratch (call_of text.now toks.now env.now depth mode scratch.old nodes.old finds.old last.old) n)) (length scratch.old) }
+    ensures { result_of result scratch.new nodes.new finds.new last.new ≡ cleared_to (read (with_scratch (call_of lent.entry.text.now lent.entry.toks.now lent.entry.env.now depth mode scratch.old nodes.old finds.old last.old) n)) (length scratch.old) }
 {
     clear(scratch, 0);
-    read_short(
-        text,
-        toks,
-        env,
-        depth,
-        mode,
-        &mut scratch[..n],
-        nodes,
-        finds,
-        last,
-    )
+    read_short(lent, depth, mode, &mut scratch[..n], nodes, finds, last)
 }
 
 // Reads the tokens of a text, for all that can be lent and set. The settings are wider than their ranges, so that no caller's number is cut into one.
@@ -157,19 +131,9 @@ pub fn read(
 ) -> Answer
     ensures { result_of result scratch.new nodes.new finds.new last.new ≡ served (call_of text.now toks.now env.now depth mode scratch.old nodes.old finds.old last.old) }
 {
+    let lent = Lent { text, toks, env };
     if scratch.len() <= MOST_SCRATCH {
-        return read_short(text, toks, env, depth, mode, scratch, nodes, finds, last);
+        return read_short(lent, depth, mode, scratch, nodes, finds, last);
     }
-    read_part(
-        text,
-        toks,
-        env,
-        depth,
-        mode,
-        scratch,
-        nodes,
-        finds,
-        last,
-        MOST_SCRATCH,
-    )
+    read_part(lent, depth, mode, scratch, nodes, finds, last, MOST_SCRATCH)
 }

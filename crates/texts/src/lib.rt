@@ -1,47 +1,30 @@
 // What needs a token's text: the fixity of a name and its change, a word, a fixity number.
 #![tactic(auto)]
 
-ghost use Rattle.std.specs.Prelude.{◌≡◌, ◌+◌, ◌*◌, ◌≤◌, ◌<◌, length};
+ghost use Rattle.std.specs.Prelude.{◌≡◌, ◌+◌, ◌*◌, ◌≤◌, ◌<◌, length, MatchOption};
 ghost use Rattle.grammar.specs.Tokens.{start_at, length_at};
-ghost use Rattle.grammar.specs.World.{number_of, some_digits};
+ghost use Rattle.grammar.specs.World.{number_of};
 ghost use Rattle.grammar.specs.Prog.{Look as Ask, Act, does};
 ghost use Rattle.sml_fixity.specs.Fix.{fixity_of};
-ghost use Rattle.sml_fixity.specs.Table.{Stands, part};
-ghost use Rattle.parser.specs.View.{mem, Reads, Names, Sound, Did, Says, Fixed, table_in};
-ghost use Rattle.texts.specs.Texts.{Stood, bit, number_val, value_of, settled};
+ghost use Rattle.sml_fixity.specs.Table.{Stands};
+ghost use Rattle.parser.specs.View.{mem_of, Reads, Names, Sound, Did, Says, Fixed, table_in};
+ghost use Rattle.texts.specs.Texts.{Absent, Present, bit, number_val};
 
-use parser::{State, bump, next_live};
-use sml_fixity::Fixity;
-use sml_fixity::table::{Changed, Table, change, find, pair, same};
+use parser::refusal::Refusal;
+use parser::{Lent, State, bump, live_at};
+use sml_fixity::Infix;
+use sml_fixity::table::{Full, change, find_name, pair, same};
 
-// What a text is as a fixity number.
+// Why a text is no fixity number.
 #[derive(Clone, Copy)]
-pub enum Number {
+pub enum NumberErr {
     Negative,
     Invalid,
-    Is(u16),
-}
-
-// The index of the token `n` ahead, or the count.
-fn live_at(toks: &[u8], count: usize, at: usize, n: usize) -> usize
-    requires { Reads toks.now at count }
-    ensures { Stood n toks.now count at result }
-{
-    let mut i = at;
-    let mut left = n;
-    while i < count {
-        if left == 0 {
-            return i;
-        }
-        left -= 1;
-        i = next_live(toks, count, i + 1);
-    }
-    i
 }
 
 // Where the text of the token `i` starts.
 fn start_of(toks: &[u8], i: usize) -> usize
-    requires { (5 * i + 5 ≤ length toks.now) × (i ≤ 13107) }
+    requires { 5 * i + 5 ≤ length toks.now }
     ensures { result ≡ start_at toks.now i }
 {
     pair(toks, 5 * i + 1) as usize
@@ -49,30 +32,34 @@ fn start_of(toks: &[u8], i: usize) -> usize
 
 // How many bytes it has.
 fn length_of(toks: &[u8], i: usize) -> usize
-    requires { (5 * i + 5 ≤ length toks.now) × (i ≤ 13107) }
+    requires { 5 * i + 5 ≤ length toks.now }
     ensures { result ≡ length_at toks.now i }
 {
     pair(toks, 5 * i + 3) as usize
 }
 
-// The fixity of the text of the token `n` ahead.
-pub fn fixity_at(text: &[u8], toks: &[u8], env: &[u8], table: &[u8], n: usize, s: State) -> Fixity
-    requires { Reads toks.now s.at s.count × Names text.now toks.now s.count × Stands text.now env.now table.now (table_in s) }
-    ensures { Fixed n text.now toks.now env.now table.now s result }
+// The text of the token `n` ahead, if there is one.
+fn text_ahead<'a>(text: &'a [u8], toks: &[u8], n: usize, s: State) -> Option<&'a [u8]>
+    requires { Reads toks.now s.at s.count × Names text.now toks.now s.count }
+    ensures { MatchOption result (Absent n text.now toks.now s) (λ x. Present n text.now toks.now s x.now) }
 {
-    if s.stop != 0 {
-        return Fixity::Nonfix;
-    }
-    let i = live_at(toks, s.count, s.at, n);
-    if s.count <= i {
-        return Fixity::Nonfix;
-    }
-    let t = Table {
-        len: s.fixes,
-        entries: s.entries,
-        changes: s.changes,
-    };
-    find(text, env, table, t, start_of(toks, i), length_of(toks, i))
+    let i = live_at(toks, n, s)?;
+    let start = start_of(toks, i);
+    Some(&text[start..start + length_of(toks, i)])
+}
+
+// The fixity of the text of the token `n` ahead.
+pub fn fixity_at(lent: Lent, table: &[u8], n: usize, s: State) -> Option<Infix>
+    requires { Reads lent.toks.now s.at s.count × Names lent.text.now lent.toks.now s.count × Stands lent.text.now lent.env.now table.now (table_in s) }
+    ensures { Fixed n lent.entry.text.now lent.entry.toks.now lent.entry.env.now table.now s result }
+{
+    find_name(
+        lent.text,
+        lent.env,
+        table,
+        s.fixes,
+        text_ahead(lent.text, lent.toks, n, s)?,
+    )
 }
 
 // Whether the next token's text is this word.
@@ -80,131 +67,59 @@ pub fn says(text: &[u8], toks: &[u8], word: &[u8], s: State) -> bool
     requires { Reads toks.now s.at s.count × Names text.now toks.now s.count }
     ensures { Says (Ask.says word.now) text.now toks.now s (bit result) }
 {
-    let at = s.at;
-    if s.stop != 0 {
-        return false;
+    match text_ahead(text, toks, 0, s) {
+        Some(x) => same(x, word),
+        None => false,
     }
-    if s.count <= at {
-        return false;
-    }
-    same(
-        text,
-        start_of(toks, at),
-        length_of(toks, at),
-        word,
-        0,
-        word.len(),
-    )
-}
-
-// The number of so many digits, at least one. Once it is too large it stays so, whatever follows.
-#[tactic(auto, using(crate::proofs::Texts::digits_large))]
-fn digits_in(text: &[u8], start: usize, len: usize) -> Number
-    requires { start + len ≤ length text.now }
-    ensures { number_val result ≡ value_of (some_digits (part text.now start len)) }
-{
-    if len == 0 {
-        return Number::Invalid;
-    }
-    let mut v: usize = 0;
-    let mut k = 0;
-    while k < len {
-        let d = text[start + k];
-        if d < 48 {
-            return Number::Invalid;
-        }
-        if 57 < d {
-            return Number::Invalid;
-        }
-        v = 10 * v + (d - 48) as usize;
-        if 65535 < v {
-            return Number::Invalid;
-        }
-        k += 1;
-    }
-    Number::Is(v as u16)
 }
 
 // The fixity number in a text: `parse::<u16>`, but for a leading `~`.
-fn number_in(text: &[u8], start: usize, len: usize) -> Number
-    requires { start + len ≤ length text.now }
-    ensures { number_val result ≡ number_of (part text.now start len) }
+fn number_in(text: &[u8]) -> Result<u16, NumberErr>
+    ensures { number_val result ≡ number_of text.now }
 {
-    if len == 0 {
-        return Number::Invalid;
+    if text.starts_with(b"~") {
+        return Err(NumberErr::Negative);
     }
-    let c = text[start];
-    if c == 126 {
-        return Number::Negative;
-    }
-    if c == 43 {
-        return digits_in(text, start + 1, len - 1);
-    }
-    digits_in(text, start, len)
+    let Ok(digits) = str::from_utf8(text) else {
+        return Err(NumberErr::Invalid);
+    };
+    digits.parse::<u16>().ok().ok_or(NumberErr::Invalid)
 }
 
 // The fixity number that is the next token.
-pub fn number_at(text: &[u8], toks: &[u8], s: State) -> Number
+pub fn number_at(text: &[u8], toks: &[u8], s: State) -> Result<u16, NumberErr>
     requires { Reads toks.now s.at s.count × Names text.now toks.now s.count }
     ensures { Says Ask.number text.now toks.now s (number_val result) }
 {
-    let at = s.at;
-    if s.stop != 0 {
-        return Number::Invalid;
-    }
-    if s.count <= at {
-        return Number::Invalid;
-    }
-    number_in(text, start_of(toks, at), length_of(toks, at))
-}
-
-// The state behind a change of the table, or refused where there was no room for it.
-fn settle(s: State, c: Changed) -> State
-    ensures { result ≡ settled s c }
-{
-    match c {
-        Changed::Full => s.refuse(8),
-        Changed::Done(t) => {
-            let mut r = s;
-            r.fixes = t.len;
-            r.entries = t.entries;
-            r.changes = t.changes;
-            r
-        }
+    match text_ahead(text, toks, 0, s) {
+        Some(x) => number_in(x),
+        None => Err(NumberErr::Invalid),
     }
 }
 
 // Takes the next token, whose text gets the fixity from here on.
 pub fn take_as(
-    text: &[u8],
-    toks: &[u8],
-    env: &[u8],
+    lent: Lent,
     table: &mut [u8],
     scratch: &mut [u8],
     finds: &[u8],
-    f: Fixity,
+    f: Option<Infix>,
     s: State,
 ) -> State
-    requires { Sound (mem text.now toks.now env.now table.old scratch.old finds.now s) }
-    ensures { Did (does (Act.take_as (fixity_of f))) (mem text.now toks.now env.now table.old scratch.old finds.now s) (mem text.now toks.now env.now table.new scratch.new finds.now result) }
+    requires { Sound (mem_of lent table.old scratch.old finds.now s) }
+    ensures { Did (does (Act.take_as (fixity_of f))) (mem_of lent.entry table.old scratch.old finds.now s) (mem_of lent.entry table.new scratch.new finds.now result) }
 {
-    let at = s.at;
-    if s.stop != 0 {
+    if s.is_refused() || s.count <= s.at {
         return s;
     }
-    if s.count <= at {
-        return s;
-    }
-    let r = bump(toks, scratch, s);
-    if r.stop != 0 {
+    let r = bump(lent.toks, scratch, s);
+    if r.is_refused() {
         return r;
     }
-    let t = Table {
-        len: r.fixes,
-        entries: r.entries,
-        changes: r.changes,
-    };
-    let start = start_of(toks, at);
-    let len = length_of(toks, at);
-    settle(r, change(text, env, table, t, start, len, f))
+    let start = start_of(lent.toks, s.at);
+    let len = length_of(lent.toks, s.at);
+    match change(lent.text, lent.env, table, r.fixes, start, len, f) {
+        Ok(t) => State { fixes: t, ..r },
+        Err(Full) => r.refuse(Refusal::NoFixity),
+    }
 }

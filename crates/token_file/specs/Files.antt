@@ -1,19 +1,13 @@
--- What the test of a token file's form leaves.
-use Rattle.std.specs.Prelude.{ℕ, ◌+◌, ◌*◌, ◌-◌, ◌≤◌, ◌≡◌, List, true, ◌&&◌, leb, eqb, length, get_or}
-use Rattle.std.proofs.Common.{leb-true, eqb-true}
-use Rattle.sml_fixity.specs.EnvBytes.{both}
-use Rattle.token_file.specs.File.{is_file, max_file, mark, trailer_size, text_length, token_count}
+-- What a token file's bytes hold.
+use Rattle.std.specs.Prelude.{ℕ, ◌+◌, ◌-◌, ◌≡◌, List, true, length, get_or, take, slice_range}
+use Rattle.grammar.specs.Bytes.{pair_at}
+use Rattle.token_file.specs.File.{is_file, trailer_size, text_length}
+use Rattle.token_file.specs.declared.TokenFile.{TokenFile}
 
-pub record Formed (file : List ℕ) : Type 0 where
-  pub trailer : trailer_size ≤ length file
-  pub whole : text_length file + 5 * token_count file + trailer_size ≡ length file
-
-pub formed : (file : List ℕ) → is_file file ≡ true → Formed file
-unfolding is_file
-formed file e =
-    let n = length file in
-    let whole = eqb (text_length file + 5 * token_count file + trailer_size) n in
-    let marked = eqb (get_or file (n - 1) 0) mark in
-    let a = both (leb n max_file && leb trailer_size n && marked) whole e in
-    let b = both (leb n max_file && leb trailer_size n) marked a.0 in
-    record { trailer = leb-true trailer_size n (both (leb n max_file) (leb trailer_size n) b.0).1; whole = eqb-true _ n a.1 }
+-- The text stands in front, the records stand from there to the trailer, and the trailer has the depth and the mode.
+pub record Holds (file : List ℕ) (f : TokenFile) : Type 0 where
+  pub formed : is_file file ≡ true
+  pub text : f.text.now ≡ take (text_length file) file
+  pub toks : f.toks.now ≡ slice_range file (text_length file) (length file - trailer_size)
+  pub depth : f.depth ≡ pair_at file (length file - trailer_size + 4)
+  pub mode : f.mode ≡ get_or file (length file - trailer_size + 6) 0

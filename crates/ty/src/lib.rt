@@ -1,4 +1,5 @@
 // Types: ty.rs, but for type variables in a row, which are in ty_parts.
+// Its loops over turns are the source's closures over the parser: one small loop per use (document 01).
 #![tactic(auto)]
 
 ghost use Rattle.std.specs.Prelude.{◌≡◌, true, false, ℕ, suc, ◌+◌, ◌-◌, ◌*◌, ◌<◌};
@@ -7,34 +8,36 @@ ghost use Rattle.grammar.specs.Rule.{Rule};
 ghost use Rattle.grammar.specs.Util as util;
 ghost use Rattle.grammar.specs.Ty as types;
 ghost use Rattle.grammar.specs.SyntaxKind as SK;
-ghost use Rattle.parser.specs.View.{Sound, mem, out_state, out_val};
+ghost use Rattle.parser.specs.View.{Sound, mem_of, out_state, out_val};
+ghost use Rattle.ty_prec.specs.Prec.{place_of};
 ghost use Rattle.parser.specs.Runs.{Always, Runs, RunsIn};
 
-use parser::{Found, Look, NO_NAME, State, TOO_DEEP, at, bump, close, finding, kind, peek, report};
-use ty_prec::{APP, ARROW, arrow_ends, star_ends};
+use parser::finding::{ErrorKind, Expected};
+use parser::node::Node;
+use parser::refusal::Refusal;
+use parser::{Found, Lent, State, at, bump, close, either, kind, peek, report};
+use ty_prec::{TyPrec, ends};
 use util::{ascription, bump_ascription, eat, lab, path_must};
 
 // `ty_prec`, or the finding that there is no type.
 // measure: 32 * left + 4
 #[cycle(ty)]
 pub fn ty_must(
-    text: &[u8],
-    toks: &[u8],
-    env: &[u8],
+    lent: Lent,
     table: &[u8],
     scratch: &mut [u8],
     finds: &mut [u8],
     left: usize,
-    min: u8,
+    min: TyPrec,
     s: State,
 ) -> State
-    requires { Sound (mem text.now toks.now env.now table.now scratch.old finds.old s) }
-    ensures { Runs left (types.ty_must min) (mem text.now toks.now env.now table.now scratch.old finds.old s) (mem text.now toks.now env.now table.now scratch.new finds.new result) 0 }
+    requires { Sound (mem_of lent table.now scratch.old finds.old s) }
+    ensures { Runs left (types.ty_must (place_of min)) (mem_of lent.entry table.now scratch.old finds.old s) (mem_of lent.entry table.now scratch.new finds.new result) 0 }
 {
-    let got = ty_prec(text, toks, env, table, scratch, finds, left, min, s);
+    let got = ty_prec(lent, table, scratch, finds, left, min, s);
     match got {
-        Found::At(s1) => s1,
-        Found::Missing(s1) => report(finds, finding::EXPECTED, finding::TY, NO_NAME, s1),
+        Ok(s1) => s1,
+        Err(s1) => report(finds, ErrorKind::Expected(Expected::Ty), s1),
     }
 }
 
@@ -43,43 +46,28 @@ pub fn ty_must(
 // unfolds: root.body types.ty_scope
 #[cycle(ty)]
 pub fn ty_prec(
-    text: &[u8],
-    toks: &[u8],
-    env: &[u8],
+    lent: Lent,
     table: &[u8],
     scratch: &mut [u8],
     finds: &mut [u8],
     left: usize,
-    min: u8,
+    min: TyPrec,
     s: State,
 ) -> Found
-    requires { Sound (mem text.now toks.now env.now table.now scratch.old finds.old s) }
-    ensures { Runs left (Prog.call (Rule.ty_prec min)) (mem text.now toks.now env.now table.now scratch.old finds.old s) (mem text.now toks.now env.now table.now scratch.new finds.new (out_state result)) (out_val result) }
+    requires { Sound (mem_of lent table.now scratch.old finds.old s) }
+    ensures { Runs left (Prog.call (Rule.ty_prec (place_of min))) (mem_of lent.entry table.now scratch.old finds.old s) (mem_of lent.entry table.now scratch.new finds.new (out_state result)) (out_val result) }
 {
-    let Look::Kind(k) = peek(toks, s) else {
-        return Found::Missing(s);
+    let Some(k) = peek(lent.toks, s) else {
+        return Err(s);
     };
     if left == 0 {
-        return Found::Missing(s.refuse(TOO_DEEP));
+        return Err(s.refuse(Refusal::TooDeep));
     }
     let b = s.len;
-    let head = ty_head(
-        text,
-        toks,
-        env,
-        table,
-        scratch,
-        finds,
-        left - 1,
-        k,
-        b,
-        s.mark(),
-    );
+    let head = ty_head(lent, table, scratch, finds, left - 1, k, b, s.mark());
     match head {
-        Found::Missing(s2) => Found::Missing(s2),
-        Found::At(s2) => Found::At(ty_tail(
-            text, toks, env, table, scratch, finds, left, min, b, s2,
-        )),
+        Err(s2) => Err(s2),
+        Ok(s2) => Ok(ty_tail(lent, table, scratch, finds, left, min, b, s2)),
     }
 }
 
@@ -87,9 +75,7 @@ pub fn ty_prec(
 // measure: 32 * left + 12
 #[cycle(ty)]
 fn ty_head(
-    text: &[u8],
-    toks: &[u8],
-    env: &[u8],
+    lent: Lent,
     table: &[u8],
     scratch: &mut [u8],
     finds: &mut [u8],
@@ -98,22 +84,22 @@ fn ty_head(
     b: usize,
     s: State,
 ) -> Found
-    requires { Sound (mem text.now toks.now env.now table.now scratch.old finds.old s) × (b < 4294967296) }
-    ensures { RunsIn left b (types.ty_head (suc k)) (mem text.now toks.now env.now table.now scratch.old finds.old s) (mem text.now toks.now env.now table.now scratch.new finds.new (out_state result)) (out_val result) }
+    requires { Sound (mem_of lent table.now scratch.old finds.old s) × (b < 4294967296) }
+    ensures { RunsIn left b (types.ty_head (suc k)) (mem_of lent.entry table.now scratch.old finds.old s) (mem_of lent.entry table.now scratch.new finds.new (out_state result)) (out_val result) }
 {
     if k == kind::DOT_DOT_DOT {
-        let s1 = bump(toks, scratch, s);
-        return Found::At(close(scratch, kind::HOLE_TY, b, s1));
+        let s1 = bump(lent.toks, scratch, s);
+        return Ok(close(scratch, Node::HoleTy, b, s1));
     }
     if k == kind::UNDERSCORE {
-        let s1 = bump(toks, scratch, s);
-        return Found::At(close(scratch, kind::WILDCARD_TY, b, s1));
+        let s1 = bump(lent.toks, scratch, s);
+        return Ok(close(scratch, Node::WildcardTy, b, s1));
     }
     if k == kind::TY_VAR {
-        let s1 = bump(toks, scratch, s);
-        return Found::At(close(scratch, kind::TY_VAR_TY, b, s1));
+        let s1 = bump(lent.toks, scratch, s);
+        return Ok(close(scratch, Node::TyVarTy, b, s1));
     }
-    ty_inner(text, toks, env, table, scratch, finds, left, k, b, s)
+    ty_inner(lent, table, scratch, finds, left, k, b, s)
 }
 
 // The starts of a type that hold others.
@@ -121,9 +107,7 @@ fn ty_head(
 // unfolds: util.end_sep
 #[cycle(ty)]
 fn ty_inner(
-    text: &[u8],
-    toks: &[u8],
-    env: &[u8],
+    lent: Lent,
     table: &[u8],
     scratch: &mut [u8],
     finds: &mut [u8],
@@ -132,32 +116,30 @@ fn ty_inner(
     b: usize,
     s: State,
 ) -> Found
-    requires { Sound (mem text.now toks.now env.now table.now scratch.old finds.old s) × (b < 4294967296) }
-    ensures { RunsIn left b (types.ty_inner (suc k)) (mem text.now toks.now env.now table.now scratch.old finds.old s) (mem text.now toks.now env.now table.now scratch.new finds.new (out_state result)) (out_val result) }
+    requires { Sound (mem_of lent table.now scratch.old finds.old s) × (b < 4294967296) }
+    ensures { RunsIn left b (types.ty_inner (suc k)) (mem_of lent.entry table.now scratch.old finds.old s) (mem_of lent.entry table.now scratch.new finds.new (out_state result)) (out_val result) }
 {
     if k == kind::LCURLY {
-        let s1 = bump(toks, scratch, s);
-        let s2 = ty_rows(text, toks, env, table, scratch, finds, left, b, s1);
-        return Found::At(close(scratch, kind::RECORD_TY, b, s2));
+        let s1 = bump(lent.toks, scratch, s);
+        let s2 = ty_rows(lent, table, scratch, finds, left, b, s1);
+        return Ok(close(scratch, Node::RecordTy, b, s2));
     }
     if k == kind::LROUND {
-        return ty_round(text, toks, env, table, scratch, finds, left, b, s);
+        return ty_round(lent, table, scratch, finds, left, b, s);
     }
     if k == kind::NAME {
-        let got = path_must(text, toks, env, table, scratch, finds, left, s);
-        let s1 = got.state();
-        return Found::At(close(scratch, kind::CON_TY, b, s1));
+        let got = path_must(lent, table, scratch, finds, left, s);
+        let s1 = either(got);
+        return Ok(close(scratch, Node::ConTy, b, s1));
     }
-    Found::Missing(s)
+    Err(s)
 }
 
 // A type that starts with `(`.
 // measure: 32 * left + 10
 #[cycle(ty)]
 fn ty_round(
-    text: &[u8],
-    toks: &[u8],
-    env: &[u8],
+    lent: Lent,
     table: &[u8],
     scratch: &mut [u8],
     finds: &mut [u8],
@@ -165,19 +147,19 @@ fn ty_round(
     b: usize,
     s: State,
 ) -> Found
-    requires { Sound (mem text.now toks.now env.now table.now scratch.old finds.old s) × (b < 4294967296) }
-    ensures { RunsIn left b types.ty_round (mem text.now toks.now env.now table.now scratch.old finds.old s) (mem text.now toks.now env.now table.now scratch.new finds.new (out_state result)) (out_val result) }
+    requires { Sound (mem_of lent table.now scratch.old finds.old s) × (b < 4294967296) }
+    ensures { RunsIn left b types.ty_round (mem_of lent.entry table.now scratch.old finds.old s) (mem_of lent.entry table.now scratch.new finds.new (out_state result)) (out_val result) }
 {
-    let seq = ty_seq(text, toks, env, table, scratch, finds, left, s);
+    let seq = ty_seq(lent, table, scratch, finds, left, s);
     match seq {
-        Found::Missing(s1) => {
-            let got = path_must(text, toks, env, table, scratch, finds, left, s1);
-            let s2 = got.state();
-            Found::At(close(scratch, kind::CON_TY, b, s2))
+        Err(s1) => {
+            let got = path_must(lent, table, scratch, finds, left, s1);
+            let s2 = either(got);
+            Ok(close(scratch, Node::ConTy, b, s2))
         }
-        Found::At(s1) => {
-            let s2 = bump(toks, scratch, s1);
-            Found::At(close(scratch, kind::PAREN_TY, b, s2))
+        Ok(s1) => {
+            let s2 = bump(lent.toks, scratch, s1);
+            Ok(close(scratch, Node::ParenTy, b, s2))
         }
     }
 }
@@ -187,31 +169,29 @@ fn ty_round(
 // unfolds: util.end_sep
 #[cycle(ty)]
 fn ty_seq(
-    text: &[u8],
-    toks: &[u8],
-    env: &[u8],
+    lent: Lent,
     table: &[u8],
     scratch: &mut [u8],
     finds: &mut [u8],
     left: usize,
     s: State,
 ) -> Found
-    requires { Sound (mem text.now toks.now env.now table.now scratch.old finds.old s) }
-    ensures { Runs left types.ty_seq (mem text.now toks.now env.now table.now scratch.old finds.old s) (mem text.now toks.now env.now table.now scratch.new finds.new (out_state result)) (out_val result) }
+    requires { Sound (mem_of lent table.now scratch.old finds.old s) }
+    ensures { Runs left types.ty_seq (mem_of lent.entry table.now scratch.old finds.old s) (mem_of lent.entry table.now scratch.new finds.new (out_state result)) (out_val result) }
 {
     if left == 0 {
-        return Found::Missing(s.refuse(TOO_DEEP));
+        return Err(s.refuse(Refusal::TooDeep));
     }
     let s1 = s.mark();
     let b = s1.len;
-    let s2 = bump(toks, scratch, s1);
-    let arg = ty_arg(text, toks, env, table, scratch, finds, left - 1, s2);
+    let s2 = bump(lent.toks, scratch, s1);
+    let arg = ty_arg(lent, table, scratch, finds, left - 1, s2);
     match arg {
-        Found::Missing(s3) => {
-            let s4 = ty_args(text, toks, env, table, scratch, finds, left - 1, b, s3);
-            Found::Missing(close(scratch, kind::TY_SEQ, b, s4))
+        Err(s3) => {
+            let s4 = ty_args(lent, table, scratch, finds, left - 1, b, s3);
+            Err(close(scratch, Node::TySeq, b, s4))
         }
-        Found::At(s3) => Found::At(s3),
+        Ok(s3) => Ok(s3),
     }
 }
 
@@ -219,30 +199,28 @@ fn ty_seq(
 // measure: 32 * left + 8
 #[cycle(ty)]
 fn ty_arg(
-    text: &[u8],
-    toks: &[u8],
-    env: &[u8],
+    lent: Lent,
     table: &[u8],
     scratch: &mut [u8],
     finds: &mut [u8],
     left: usize,
     s: State,
 ) -> Found
-    requires { Sound (mem text.now toks.now env.now table.now scratch.old finds.old s) }
-    ensures { Runs left types.ty_arg (mem text.now toks.now env.now table.now scratch.old finds.old s) (mem text.now toks.now env.now table.now scratch.new finds.new (out_state result)) (out_val result) }
+    requires { Sound (mem_of lent table.now scratch.old finds.old s) }
+    ensures { Runs left types.ty_arg (mem_of lent.entry table.now scratch.old finds.old s) (mem_of lent.entry table.now scratch.new finds.new (out_state result)) (out_val result) }
 {
     if left == 0 {
-        return Found::Missing(s.refuse(TOO_DEEP));
+        return Err(s.refuse(Refusal::TooDeep));
     }
     let s1 = s.mark();
     let b = s1.len;
-    let s2 = ty_must(text, toks, env, table, scratch, finds, left - 1, ARROW, s1);
-    if at(toks, kind::RROUND, s2) {
-        return Found::At(s2);
+    let s2 = ty_must(lent, table, scratch, finds, left - 1, TyPrec::Arrow, s1);
+    if at(lent.toks, kind::RROUND, s2) {
+        return Ok(s2);
     }
-    let got = eat(toks, scratch, finds, kind::COMMA, s2);
-    let s3 = got.state();
-    Found::Missing(close(scratch, kind::TY_ARG, b, s3))
+    let got = eat(lent.toks, scratch, finds, kind::COMMA, s2);
+    let s3 = either(got);
+    Err(close(scratch, Node::TyArg, b, s3))
 }
 
 // The arrows, stars and constructors behind a type that started at `b`.
@@ -250,26 +228,24 @@ fn ty_arg(
 // advances: ty_step_advances _
 #[cycle(ty)]
 fn ty_tail(
-    text: &[u8],
-    toks: &[u8],
-    env: &[u8],
+    lent: Lent,
     table: &[u8],
     scratch: &mut [u8],
     finds: &mut [u8],
     left: usize,
-    min: u8,
+    min: TyPrec,
     b: usize,
     s: State,
 ) -> State
-    requires { Sound (mem text.now toks.now env.now table.now scratch.old finds.old s) × (b < 4294967296) }
-    ensures { RunsIn left b (Prog.loop (types.ty_step min)) (mem text.now toks.now env.now table.now scratch.old finds.old s) (mem text.now toks.now env.now table.now scratch.new finds.new result) 0 }
+    requires { Sound (mem_of lent table.now scratch.old finds.old s) × (b < 4294967296) }
+    ensures { RunsIn left b (Prog.loop (types.ty_step (place_of min))) (mem_of lent.entry table.now scratch.old finds.old s) (mem_of lent.entry table.now scratch.new finds.new result) 0 }
 {
     let mut s1 = s;
     loop {
-        let step = ty_step(text, toks, env, table, scratch, finds, left, min, b, s1);
+        let step = ty_step(lent, table, scratch, finds, left, min, b, s1);
         match step {
-            Found::At(s2) => s1 = s2,
-            Found::Missing(s2) => return s2,
+            Ok(s2) => s1 = s2,
+            Err(s2) => return s2,
         }
     }
 }
@@ -278,48 +254,44 @@ fn ty_tail(
 // measure: 32 * left + 1
 #[cycle(ty)]
 fn ty_step(
-    text: &[u8],
-    toks: &[u8],
-    env: &[u8],
+    lent: Lent,
     table: &[u8],
     scratch: &mut [u8],
     finds: &mut [u8],
     left: usize,
-    min: u8,
+    min: TyPrec,
     b: usize,
     s: State,
 ) -> Found
-    requires { Sound (mem text.now toks.now env.now table.now scratch.old finds.old s) × (b < 4294967296) }
-    ensures { RunsIn left b (types.ty_step min) (mem text.now toks.now env.now table.now scratch.old finds.old s) (mem text.now toks.now env.now table.now scratch.new finds.new (out_state result)) (out_val result) }
+    requires { Sound (mem_of lent table.now scratch.old finds.old s) × (b < 4294967296) }
+    ensures { RunsIn left b (types.ty_step (place_of min)) (mem_of lent.entry table.now scratch.old finds.old s) (mem_of lent.entry table.now scratch.new finds.new (out_state result)) (out_val result) }
 {
-    let Look::Kind(k) = peek(toks, s) else {
-        return Found::Missing(s);
+    let Some(k) = peek(lent.toks, s) else {
+        return Err(s);
     };
     if k == kind::MINUS_GT {
-        if arrow_ends(min) {
-            return Found::Missing(s);
+        if ends(TyPrec::Arrow, min) {
+            return Err(s);
         }
-        return Found::At(ty_arrow(text, toks, env, table, scratch, finds, left, b, s));
+        return Ok(ty_arrow(lent, table, scratch, finds, left, b, s));
     }
     if k == kind::STAR {
-        if star_ends(min) {
-            return Found::Missing(s);
+        if ends(TyPrec::Star, min) {
+            return Err(s);
         }
-        return Found::At(ty_tuple(text, toks, env, table, scratch, finds, left, b, s));
+        return Ok(ty_tuple(lent, table, scratch, finds, left, b, s));
     }
     if k == kind::NAME {
-        return Found::At(ty_con(text, toks, env, table, scratch, finds, left, b, s));
+        return Ok(ty_con(lent, table, scratch, finds, left, b, s));
     }
-    Found::Missing(s)
+    Err(s)
 }
 
 // An arrow and the type behind it.
 // measure: 32 * left
 #[cycle(ty)]
 fn ty_arrow(
-    text: &[u8],
-    toks: &[u8],
-    env: &[u8],
+    lent: Lent,
     table: &[u8],
     scratch: &mut [u8],
     finds: &mut [u8],
@@ -327,24 +299,22 @@ fn ty_arrow(
     b: usize,
     s: State,
 ) -> State
-    requires { Sound (mem text.now toks.now env.now table.now scratch.old finds.old s) × (b < 4294967296) }
-    ensures { RunsIn left b (types.ty_arrow {g = false}) (mem text.now toks.now env.now table.now scratch.old finds.old s) (mem text.now toks.now env.now table.now scratch.new finds.new result) 0 }
+    requires { Sound (mem_of lent table.now scratch.old finds.old s) × (b < 4294967296) }
+    ensures { RunsIn left b (types.ty_arrow {g = false}) (mem_of lent.entry table.now scratch.old finds.old s) (mem_of lent.entry table.now scratch.new finds.new result) 0 }
 {
     if left == 0 {
-        return s.refuse(TOO_DEEP);
+        return s.refuse(Refusal::TooDeep);
     }
-    let s1 = bump(toks, scratch, s.mark());
-    let s2 = ty_must(text, toks, env, table, scratch, finds, left - 1, ARROW, s1);
-    close(scratch, kind::FN_TY, b, s2)
+    let s1 = bump(lent.toks, scratch, s.mark());
+    let s2 = ty_must(lent, table, scratch, finds, left - 1, TyPrec::Arrow, s1);
+    close(scratch, Node::FnTy, b, s2)
 }
 
 // The factors of a tuple type behind the first.
 // measure: 32 * left
 #[cycle(ty)]
 fn ty_tuple(
-    text: &[u8],
-    toks: &[u8],
-    env: &[u8],
+    lent: Lent,
     table: &[u8],
     scratch: &mut [u8],
     finds: &mut [u8],
@@ -352,31 +322,19 @@ fn ty_tuple(
     b: usize,
     s: State,
 ) -> State
-    requires { Sound (mem text.now toks.now env.now table.now scratch.old finds.old s) × (b < 4294967296) }
-    ensures { RunsIn left b (types.ty_tuple {g = false}) (mem text.now toks.now env.now table.now scratch.old finds.old s) (mem text.now toks.now env.now table.now scratch.new finds.new result) 0 }
+    requires { Sound (mem_of lent table.now scratch.old finds.old s) × (b < 4294967296) }
+    ensures { RunsIn left b (types.ty_tuple {g = false}) (mem_of lent.entry table.now scratch.old finds.old s) (mem_of lent.entry table.now scratch.new finds.new result) 0 }
 {
     if left == 0 {
-        return s.refuse(TOO_DEEP);
+        return s.refuse(Refusal::TooDeep);
     }
-    let s1 = star_tail(
-        text,
-        toks,
-        env,
-        table,
-        scratch,
-        finds,
-        left - 1,
-        b,
-        s.mark(),
-    );
-    close(scratch, kind::TUPLE_TY, b, s1)
+    let s1 = star_tail(lent, table, scratch, finds, left - 1, b, s.mark());
+    close(scratch, Node::TupleTy, b, s1)
 }
 
 // A constructor behind its argument.
 fn ty_con(
-    text: &[u8],
-    toks: &[u8],
-    env: &[u8],
+    lent: Lent,
     table: &[u8],
     scratch: &mut [u8],
     finds: &mut [u8],
@@ -384,15 +342,15 @@ fn ty_con(
     b: usize,
     s: State,
 ) -> State
-    requires { Sound (mem text.now toks.now env.now table.now scratch.old finds.old s) × (b < 4294967296) }
-    ensures { RunsIn left b (types.ty_con {g = false}) (mem text.now toks.now env.now table.now scratch.old finds.old s) (mem text.now toks.now env.now table.now scratch.new finds.new result) 0 }
+    requires { Sound (mem_of lent table.now scratch.old finds.old s) × (b < 4294967296) }
+    ensures { RunsIn left b (types.ty_con {g = false}) (mem_of lent.entry table.now scratch.old finds.old s) (mem_of lent.entry table.now scratch.new finds.new result) 0 }
 {
     if left == 0 {
-        return s.refuse(TOO_DEEP);
+        return s.refuse(Refusal::TooDeep);
     }
-    let got = path_must(text, toks, env, table, scratch, finds, left - 1, s.mark());
-    let s1 = got.state();
-    close(scratch, kind::ONE_ARG_CON_TY, b, s1)
+    let got = path_must(lent, table, scratch, finds, left - 1, s.mark());
+    let s1 = either(got);
+    close(scratch, Node::OneArgConTy, b, s1)
 }
 
 // The factors of a tuple type.
@@ -400,9 +358,7 @@ fn ty_con(
 // advances: star_advances
 #[cycle(ty)]
 fn star_tail(
-    text: &[u8],
-    toks: &[u8],
-    env: &[u8],
+    lent: Lent,
     table: &[u8],
     scratch: &mut [u8],
     finds: &mut [u8],
@@ -410,15 +366,15 @@ fn star_tail(
     b: usize,
     s: State,
 ) -> State
-    requires { Sound (mem text.now toks.now env.now table.now scratch.old finds.old s) }
-    ensures { RunsIn left b (Prog.loop types.star_turn) (mem text.now toks.now env.now table.now scratch.old finds.old s) (mem text.now toks.now env.now table.now scratch.new finds.new result) 0 }
+    requires { Sound (mem_of lent table.now scratch.old finds.old s) }
+    ensures { RunsIn left b (Prog.loop types.star_turn) (mem_of lent.entry table.now scratch.old finds.old s) (mem_of lent.entry table.now scratch.new finds.new result) 0 }
 {
     let mut s1 = s;
     loop {
-        let turn = star_turn(text, toks, env, table, scratch, finds, left, s1);
+        let turn = star_turn(lent, table, scratch, finds, left, s1);
         match turn {
-            Found::At(s2) => s1 = s2,
-            Found::Missing(s2) => return s2,
+            Ok(s2) => s1 = s2,
+            Err(s2) => return s2,
         }
     }
 }
@@ -427,22 +383,20 @@ fn star_tail(
 // measure: 32 * left + 5
 #[cycle(ty)]
 fn star_turn(
-    text: &[u8],
-    toks: &[u8],
-    env: &[u8],
+    lent: Lent,
     table: &[u8],
     scratch: &mut [u8],
     finds: &mut [u8],
     left: usize,
     s: State,
 ) -> Found
-    requires { Sound (mem text.now toks.now env.now table.now scratch.old finds.old s) }
-    ensures { Runs left types.star_turn (mem text.now toks.now env.now table.now scratch.old finds.old s) (mem text.now toks.now env.now table.now scratch.new finds.new (out_state result)) (out_val result) }
+    requires { Sound (mem_of lent table.now scratch.old finds.old s) }
+    ensures { Runs left types.star_turn (mem_of lent.entry table.now scratch.old finds.old s) (mem_of lent.entry table.now scratch.new finds.new (out_state result)) (out_val result) }
 {
-    if at(toks, kind::STAR, s) {
-        Found::At(star_factor(text, toks, env, table, scratch, finds, left, s))
+    if at(lent.toks, kind::STAR, s) {
+        Ok(star_factor(lent, table, scratch, finds, left, s))
     } else {
-        Found::Missing(s)
+        Err(s)
     }
 }
 
@@ -450,26 +404,24 @@ fn star_turn(
 // measure: 32 * left + 4
 #[cycle(ty)]
 fn star_factor(
-    text: &[u8],
-    toks: &[u8],
-    env: &[u8],
+    lent: Lent,
     table: &[u8],
     scratch: &mut [u8],
     finds: &mut [u8],
     left: usize,
     s: State,
 ) -> State
-    requires { Sound (mem text.now toks.now env.now table.now scratch.old finds.old s) }
-    ensures { Runs left types.star_factor (mem text.now toks.now env.now table.now scratch.old finds.old s) (mem text.now toks.now env.now table.now scratch.new finds.new result) 0 }
+    requires { Sound (mem_of lent table.now scratch.old finds.old s) }
+    ensures { Runs left types.star_factor (mem_of lent.entry table.now scratch.old finds.old s) (mem_of lent.entry table.now scratch.new finds.new result) 0 }
 {
     if left == 0 {
-        return s.refuse(TOO_DEEP);
+        return s.refuse(Refusal::TooDeep);
     }
     let s1 = s.mark();
     let b = s1.len;
-    let s2 = bump(toks, scratch, s1);
-    let s3 = ty_must(text, toks, env, table, scratch, finds, left - 1, APP, s2);
-    close(scratch, kind::STAR_TY, b, s3)
+    let s2 = bump(lent.toks, scratch, s1);
+    let s3 = ty_must(lent, table, scratch, finds, left - 1, TyPrec::App, s2);
+    close(scratch, Node::StarTy, b, s3)
 }
 
 // The rows of a record type, up to `}`.
@@ -477,9 +429,7 @@ fn star_factor(
 // advances: end_turn_advances true _ _ _ _
 #[cycle(ty)]
 fn ty_rows(
-    text: &[u8],
-    toks: &[u8],
-    env: &[u8],
+    lent: Lent,
     table: &[u8],
     scratch: &mut [u8],
     finds: &mut [u8],
@@ -487,15 +437,15 @@ fn ty_rows(
     b: usize,
     s: State,
 ) -> State
-    requires { Sound (mem text.now toks.now env.now table.now scratch.old finds.old s) }
-    ensures { RunsIn left b (Prog.loop (util.end_turn {g = true} SK.TyRow SK.Comma SK.RCurly types.ty_row)) (mem text.now toks.now env.now table.now scratch.old finds.old s) (mem text.now toks.now env.now table.now scratch.new finds.new result) 0 }
+    requires { Sound (mem_of lent table.now scratch.old finds.old s) }
+    ensures { RunsIn left b (Prog.loop (util.end_turn {g = true} SK.TyRow SK.Comma SK.RCurly types.ty_row)) (mem_of lent.entry table.now scratch.old finds.old s) (mem_of lent.entry table.now scratch.new finds.new result) 0 }
 {
     let mut s1 = s;
     loop {
-        let turn = row_turn(text, toks, env, table, scratch, finds, left, s1);
+        let turn = row_turn(lent, table, scratch, finds, left, s1);
         match turn {
-            Found::At(s2) => s1 = s2,
-            Found::Missing(s2) => return s2,
+            Ok(s2) => s1 = s2,
+            Err(s2) => return s2,
         }
     }
 }
@@ -504,28 +454,26 @@ fn ty_rows(
 // measure: 32 * left + 6
 #[cycle(ty)]
 fn row_turn(
-    text: &[u8],
-    toks: &[u8],
-    env: &[u8],
+    lent: Lent,
     table: &[u8],
     scratch: &mut [u8],
     finds: &mut [u8],
     left: usize,
     s: State,
 ) -> Found
-    requires { Sound (mem text.now toks.now env.now table.now scratch.old finds.old s) }
-    ensures { Runs left (util.end_turn {g = true} SK.TyRow SK.Comma SK.RCurly types.ty_row) (mem text.now toks.now env.now table.now scratch.old finds.old s) (mem text.now toks.now env.now table.now scratch.new finds.new (out_state result)) (out_val result) }
+    requires { Sound (mem_of lent table.now scratch.old finds.old s) }
+    ensures { Runs left (util.end_turn {g = true} SK.TyRow SK.Comma SK.RCurly types.ty_row) (mem_of lent.entry table.now scratch.old finds.old s) (mem_of lent.entry table.now scratch.new finds.new (out_state result)) (out_val result) }
 {
-    if at(toks, kind::RCURLY, s) {
-        return Found::Missing(bump(toks, scratch, s));
+    if at(lent.toks, kind::RCURLY, s) {
+        return Err(bump(lent.toks, scratch, s));
     }
-    let item = row_item(text, toks, env, table, scratch, finds, left, s);
+    let item = row_item(lent, table, scratch, finds, left, s);
     match item {
-        Found::At(s1) => Found::At(s1),
-        Found::Missing(s1) => {
-            let got = eat(toks, scratch, finds, kind::RCURLY, s1);
-            let s2 = got.state();
-            Found::Missing(s2)
+        Ok(s1) => Ok(s1),
+        Err(s1) => {
+            let got = eat(lent.toks, scratch, finds, kind::RCURLY, s1);
+            let s2 = either(got);
+            Err(s2)
         }
     }
 }
@@ -534,50 +482,46 @@ fn row_turn(
 // measure: 32 * left + 5
 #[cycle(ty)]
 fn row_item(
-    text: &[u8],
-    toks: &[u8],
-    env: &[u8],
+    lent: Lent,
     table: &[u8],
     scratch: &mut [u8],
     finds: &mut [u8],
     left: usize,
     s: State,
 ) -> Found
-    requires { Sound (mem text.now toks.now env.now table.now scratch.old finds.old s) }
-    ensures { Runs left (util.end_item {g = true} SK.TyRow SK.Comma types.ty_row) (mem text.now toks.now env.now table.now scratch.old finds.old s) (mem text.now toks.now env.now table.now scratch.new finds.new (out_state result)) (out_val result) }
+    requires { Sound (mem_of lent table.now scratch.old finds.old s) }
+    ensures { Runs left (util.end_item {g = true} SK.TyRow SK.Comma types.ty_row) (mem_of lent.entry table.now scratch.old finds.old s) (mem_of lent.entry table.now scratch.new finds.new (out_state result)) (out_val result) }
 {
     if left == 0 {
-        return Found::Missing(s.refuse(TOO_DEEP));
+        return Err(s.refuse(Refusal::TooDeep));
     }
     let s1 = s.mark();
     let b = s1.len;
-    let s2 = ty_row(text, toks, env, table, scratch, finds, left - 1, s1);
-    if at(toks, kind::COMMA, s2) {
-        let s3 = bump(toks, scratch, s2);
-        return Found::At(close(scratch, kind::TY_ROW, b, s3));
+    let s2 = ty_row(lent, table, scratch, finds, left - 1, s1);
+    if at(lent.toks, kind::COMMA, s2) {
+        let s3 = bump(lent.toks, scratch, s2);
+        return Ok(close(scratch, Node::TyRow, b, s3));
     }
-    Found::Missing(close(scratch, kind::TY_ROW, b, s2))
+    Err(close(scratch, Node::TyRow, b, s2))
 }
 
 // A label and its type.
 // measure: 32 * left + 5
 #[cycle(ty)]
 fn ty_row(
-    text: &[u8],
-    toks: &[u8],
-    env: &[u8],
+    lent: Lent,
     table: &[u8],
     scratch: &mut [u8],
     finds: &mut [u8],
     left: usize,
     s: State,
 ) -> State
-    requires { Sound (mem text.now toks.now env.now table.now scratch.old finds.old s) }
-    ensures { Runs left types.ty_row (mem text.now toks.now env.now table.now scratch.old finds.old s) (mem text.now toks.now env.now table.now scratch.new finds.new result) 0 }
+    requires { Sound (mem_of lent table.now scratch.old finds.old s) }
+    ensures { Runs left types.ty_row (mem_of lent.entry table.now scratch.old finds.old s) (mem_of lent.entry table.now scratch.new finds.new result) 0 }
 {
-    let s1 = lab(toks, scratch, finds, s);
-    let s2 = bump_ascription(toks, scratch, s1);
-    ty_must(text, toks, env, table, scratch, finds, left, ARROW, s2)
+    let s1 = lab(lent.toks, scratch, finds, s);
+    let s2 = bump_ascription(lent.toks, scratch, s1);
+    ty_must(lent, table, scratch, finds, left, TyPrec::Arrow, s2)
 }
 
 // The further types of a sequence, up to `)`.
@@ -585,9 +529,7 @@ fn ty_row(
 // advances: end_turn_advances true _ _ _ _
 #[cycle(ty)]
 fn ty_args(
-    text: &[u8],
-    toks: &[u8],
-    env: &[u8],
+    lent: Lent,
     table: &[u8],
     scratch: &mut [u8],
     finds: &mut [u8],
@@ -595,15 +537,15 @@ fn ty_args(
     b: usize,
     s: State,
 ) -> State
-    requires { Sound (mem text.now toks.now env.now table.now scratch.old finds.old s) }
-    ensures { RunsIn left b (Prog.loop (util.end_turn {g = true} SK.TyArg SK.Comma SK.RRound (types.ty_must 0))) (mem text.now toks.now env.now table.now scratch.old finds.old s) (mem text.now toks.now env.now table.now scratch.new finds.new result) 0 }
+    requires { Sound (mem_of lent table.now scratch.old finds.old s) }
+    ensures { RunsIn left b (Prog.loop (util.end_turn {g = true} SK.TyArg SK.Comma SK.RRound (types.ty_must 0))) (mem_of lent.entry table.now scratch.old finds.old s) (mem_of lent.entry table.now scratch.new finds.new result) 0 }
 {
     let mut s1 = s;
     loop {
-        let turn = arg_turn(text, toks, env, table, scratch, finds, left, s1);
+        let turn = arg_turn(lent, table, scratch, finds, left, s1);
         match turn {
-            Found::At(s2) => s1 = s2,
-            Found::Missing(s2) => return s2,
+            Ok(s2) => s1 = s2,
+            Err(s2) => return s2,
         }
     }
 }
@@ -612,28 +554,26 @@ fn ty_args(
 // measure: 32 * left + 6
 #[cycle(ty)]
 fn arg_turn(
-    text: &[u8],
-    toks: &[u8],
-    env: &[u8],
+    lent: Lent,
     table: &[u8],
     scratch: &mut [u8],
     finds: &mut [u8],
     left: usize,
     s: State,
 ) -> Found
-    requires { Sound (mem text.now toks.now env.now table.now scratch.old finds.old s) }
-    ensures { Runs left (util.end_turn {g = true} SK.TyArg SK.Comma SK.RRound (types.ty_must 0)) (mem text.now toks.now env.now table.now scratch.old finds.old s) (mem text.now toks.now env.now table.now scratch.new finds.new (out_state result)) (out_val result) }
+    requires { Sound (mem_of lent table.now scratch.old finds.old s) }
+    ensures { Runs left (util.end_turn {g = true} SK.TyArg SK.Comma SK.RRound (types.ty_must 0)) (mem_of lent.entry table.now scratch.old finds.old s) (mem_of lent.entry table.now scratch.new finds.new (out_state result)) (out_val result) }
 {
-    if at(toks, kind::RROUND, s) {
-        return Found::Missing(bump(toks, scratch, s));
+    if at(lent.toks, kind::RROUND, s) {
+        return Err(bump(lent.toks, scratch, s));
     }
-    let item = arg_item(text, toks, env, table, scratch, finds, left, s);
+    let item = arg_item(lent, table, scratch, finds, left, s);
     match item {
-        Found::At(s1) => Found::At(s1),
-        Found::Missing(s1) => {
-            let got = eat(toks, scratch, finds, kind::RROUND, s1);
-            let s2 = got.state();
-            Found::Missing(s2)
+        Ok(s1) => Ok(s1),
+        Err(s1) => {
+            let got = eat(lent.toks, scratch, finds, kind::RROUND, s1);
+            let s2 = either(got);
+            Err(s2)
         }
     }
 }
@@ -642,84 +582,78 @@ fn arg_turn(
 // measure: 32 * left + 5
 #[cycle(ty)]
 fn arg_item(
-    text: &[u8],
-    toks: &[u8],
-    env: &[u8],
+    lent: Lent,
     table: &[u8],
     scratch: &mut [u8],
     finds: &mut [u8],
     left: usize,
     s: State,
 ) -> Found
-    requires { Sound (mem text.now toks.now env.now table.now scratch.old finds.old s) }
-    ensures { Runs left (util.end_item {g = true} SK.TyArg SK.Comma (types.ty_must 0)) (mem text.now toks.now env.now table.now scratch.old finds.old s) (mem text.now toks.now env.now table.now scratch.new finds.new (out_state result)) (out_val result) }
+    requires { Sound (mem_of lent table.now scratch.old finds.old s) }
+    ensures { Runs left (util.end_item {g = true} SK.TyArg SK.Comma (types.ty_must 0)) (mem_of lent.entry table.now scratch.old finds.old s) (mem_of lent.entry table.now scratch.new finds.new (out_state result)) (out_val result) }
 {
     if left == 0 {
-        return Found::Missing(s.refuse(TOO_DEEP));
+        return Err(s.refuse(Refusal::TooDeep));
     }
     let s1 = s.mark();
     let b = s1.len;
-    let s2 = ty_must(text, toks, env, table, scratch, finds, left - 1, ARROW, s1);
-    if at(toks, kind::COMMA, s2) {
-        let s3 = bump(toks, scratch, s2);
-        return Found::At(close(scratch, kind::TY_ARG, b, s3));
+    let s2 = ty_must(lent, table, scratch, finds, left - 1, TyPrec::Arrow, s1);
+    if at(lent.toks, kind::COMMA, s2) {
+        let s3 = bump(lent.toks, scratch, s2);
+        return Ok(close(scratch, Node::TyArg, b, s3));
     }
-    Found::Missing(close(scratch, kind::TY_ARG, b, s2))
+    Err(close(scratch, Node::TyArg, b, s2))
 }
 
 // `of` and a type, where they are next.
 pub fn of_ty(
-    text: &[u8],
-    toks: &[u8],
-    env: &[u8],
+    lent: Lent,
     table: &[u8],
     scratch: &mut [u8],
     finds: &mut [u8],
     left: usize,
     s: State,
 ) -> Found
-    requires { Sound (mem text.now toks.now env.now table.now scratch.old finds.old s) }
-    ensures { Runs left (types.of_ty {g = true}) (mem text.now toks.now env.now table.now scratch.old finds.old s) (mem text.now toks.now env.now table.now scratch.new finds.new (out_state result)) (out_val result) }
+    requires { Sound (mem_of lent table.now scratch.old finds.old s) }
+    ensures { Runs left (types.of_ty {g = true}) (mem_of lent.entry table.now scratch.old finds.old s) (mem_of lent.entry table.now scratch.new finds.new (out_state result)) (out_val result) }
 {
-    if at(toks, kind::OF_KW, s) {
+    if at(lent.toks, kind::OF_KW, s) {
         if left == 0 {
-            return Found::Missing(s.refuse(TOO_DEEP));
+            return Err(s.refuse(Refusal::TooDeep));
         }
         let s1 = s.mark();
         let b = s1.len;
-        let s2 = bump(toks, scratch, s1);
-        let s3 = ty_must(text, toks, env, table, scratch, finds, left - 1, ARROW, s2);
-        return Found::At(close(scratch, kind::OF_TY, b, s3));
+        let s2 = bump(lent.toks, scratch, s1);
+        let s3 = ty_must(lent, table, scratch, finds, left - 1, TyPrec::Arrow, s2);
+        return Ok(close(scratch, Node::OfTy, b, s3));
     }
-    Found::Missing(s)
+    Err(s)
 }
 
 // `:` or `:>` and a type, where they are next.
 pub fn ty_annotation(
-    text: &[u8],
-    toks: &[u8],
-    env: &[u8],
+    lent: Lent,
     table: &[u8],
     scratch: &mut [u8],
     finds: &mut [u8],
     left: usize,
     s: State,
 ) -> Found
-    requires { Sound (mem text.now toks.now env.now table.now scratch.old finds.old s) }
-    ensures { Runs left (types.ty_annotation {g = true}) (mem text.now toks.now env.now table.now scratch.old finds.old s) (mem text.now toks.now env.now table.now scratch.new finds.new (out_state result)) (out_val result) }
+    requires { Sound (mem_of lent table.now scratch.old finds.old s) }
+    ensures { Runs left (types.ty_annotation {g = true}) (mem_of lent.entry table.now scratch.old finds.old s) (mem_of lent.entry table.now scratch.new finds.new (out_state result)) (out_val result) }
 {
-    let Look::Kind(k) = peek(toks, s) else {
-        return Found::Missing(s);
+    let Some(k) = peek(lent.toks, s) else {
+        return Err(s);
     };
     if ascription(k) {
         if left == 0 {
-            return Found::Missing(s.refuse(TOO_DEEP));
+            return Err(s.refuse(Refusal::TooDeep));
         }
         let s1 = s.mark();
         let b = s1.len;
-        let s2 = bump(toks, scratch, s1);
-        let s3 = ty_must(text, toks, env, table, scratch, finds, left - 1, ARROW, s2);
-        return Found::At(close(scratch, kind::TY_ANNOTATION, b, s3));
+        let s2 = bump(lent.toks, scratch, s1);
+        let s3 = ty_must(lent, table, scratch, finds, left - 1, TyPrec::Arrow, s2);
+        return Ok(close(scratch, Node::TyAnnotation, b, s3));
     }
-    Found::Missing(s)
+    Err(s)
 }

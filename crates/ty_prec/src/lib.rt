@@ -1,25 +1,20 @@
-// The precedences of types: ty.rs, `TyPrec`, by their place in its derived order.
+// The precedences of types: ty.rs, `TyPrec`.
 #![tactic(auto)]
 
 ghost use Rattle.std.specs.Prelude.{◌≡◌, ltb};
-ghost use Rattle.grammar.specs.Rule.{Arrow, Star};
+ghost use Rattle.ty_prec.specs.Prec.{place_of};
 
-pub const ARROW: u8 = 0;
-
-const STAR: u8 = 1;
-
-pub const APP: u8 = 2;
-
-// Whether an arrow ends a type that is read from the precedence `min` on.
-pub fn arrow_ends(min: u8) -> bool
-    ensures { result ≡ ltb Arrow min }
-{
-    ARROW < min
+// From the loosest to the tightest.
+#[derive(Clone, Copy, PartialEq, Eq, PartialOrd, Ord)]
+pub enum TyPrec {
+    Arrow,
+    Star,
+    App,
 }
 
-// Whether a star does.
-pub fn star_ends(min: u8) -> bool
-    ensures { result ≡ ltb Star min }
+// Whether an arrow or a star, `what`, ends a type that is read from the precedence `min` on.
+pub fn ends(what: TyPrec, min: TyPrec) -> bool
+    ensures { result ≡ ltb (place_of what) (place_of min) }
 {
-    STAR < min
+    what < min
 }

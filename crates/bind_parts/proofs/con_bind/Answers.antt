@@ -11,26 +11,26 @@ op_name-name-requires c =
 
 pub of_ty-got-requires : goal.of_ty-got-requires
 of_ty-got-requires c =
-    let op_name = c.in-At.ensures in
+    let op_name = c.in-Ok.ensures in
     let op_name_ok = op_name.ok in
     op_name_ok
 
-pub state-s2-requires : goal.state-s2-requires
-state-s2-requires c =
+pub either-s2-requires : goal.either-s2-requires
+either-s2-requires c =
     tt
 
-pub returns-in-Missing : goal.returns-in-Missing
+pub returns-in-Err : goal.returns-in-Err
 unfolding decl.con_bind plan choose chosen
-returns-in-Missing c =
+returns-in-Err c =
     let pre0 = c.requires in
-    let op_name = c.in-Missing.ensures in
+    let op_name = c.in-Err.ensures in
     by_steps pre0 (λ b. s_by _ (runs_always op_name) s_end)
 
-pub returns-in-At : goal.returns-in-At
+pub returns-in-Ok : goal.returns-in-Ok
 unfolding decl.con_bind plan choose chosen
-returns-in-At c =
+returns-in-Ok c =
     let pre0 = c.requires in
-    let op_name = c.in-At.ensures in
+    let op_name = c.in-Ok.ensures in
     let of_ty = c.of_ty-got.ensures in
-    let state = c.state-s2.ensures in
-    by_steps pre0 (λ b. s_by _ (runs_always op_name) (s_by _ (settled state (runs_in of_ty)) s_end))
+    let either = c.either-s2.ensures in
+    by_steps pre0 (λ b. s_by _ (runs_always op_name) (s_by _ (settled either (runs_in of_ty)) s_end))

@@ -11,21 +11,21 @@ ty_name-name-requires c =
 
 pub eq_con_binds-s2-requires : goal.eq_con_binds-s2-requires
 eq_con_binds-s2-requires c =
-    let ty_name = c.in-At.ensures in
+    let ty_name = c.in-Ok.ensures in
     let ty_name_ok = ty_name.ok in
     ty_name_ok
 
-pub returns-in-Missing : goal.returns-in-Missing
+pub returns-in-Err : goal.returns-in-Err
 unfolding decl.dat_bind plan choose chosen
-returns-in-Missing c =
+returns-in-Err c =
     let pre0 = c.requires in
-    let ty_name = c.in-Missing.ensures in
+    let ty_name = c.in-Err.ensures in
     by_steps pre0 (λ b. s_by _ (runs_in ty_name) s_end)
 
-pub returns-in-At : goal.returns-in-At
+pub returns-in-Ok : goal.returns-in-Ok
 unfolding decl.dat_bind plan choose chosen
-returns-in-At c =
+returns-in-Ok c =
     let pre0 = c.requires in
-    let ty_name = c.in-At.ensures in
+    let ty_name = c.in-Ok.ensures in
     let eq_con_binds = c.eq_con_binds-s2.ensures in
     by_steps pre0 (λ b. s_by _ (runs_in ty_name) (s_by _ (runs_in eq_con_binds) s_end))

@@ -37,24 +37,24 @@ dat_bind-item-requires c =
     let mark_ok = ok_marks mark inv in
     mark_ok
 
-pub returns-in-Missing : goal.returns-in-Missing
+pub returns-in-Err : goal.returns-in-Err
 unfolding util.many_turn plan choose chosen
-returns-in-Missing c =
+returns-in-Err c =
     let inv = c.loop-s1.invariant in
     let if1 = c.if-left-eq0.false in
     let mark = c.mark-s2.ensures in
-    let dat_bind = c.in-Missing.ensures in
+    let dat_bind = c.in-Err.ensures in
     loop_ends (many_turn_advances true SK.AndKw SK.DatBind decl.dat_bind _ _) inv (in_steps inv.ok {n = c.args.left} {b = c.args.b} (s_mark if1 mark (s_by _ (runs_in dat_bind) s_end)))
 
 pub at-requires : goal.at-requires
 at-requires c =
-    let dat_bind = c.in-At.ensures in
+    let dat_bind = c.in-Ok.ensures in
     let dat_bind_ok = dat_bind.ok in
     dat_bind_ok.reads
 
 pub bump-s4-requires : goal.bump-s4-requires
 bump-s4-requires c =
-    let dat_bind = c.in-At.ensures in
+    let dat_bind = c.in-Ok.ensures in
     let dat_bind_ok = dat_bind.ok in
     (dat_bind_ok.reads, dat_bind_ok.logs)
 
@@ -63,7 +63,7 @@ close-s1-requires c =
     let inv = c.loop-s1.invariant.ok in
     let mark = c.mark-s2.ensures in
     let mark_ok = ok_marks mark inv in
-    let dat_bind = c.in-At.ensures in
+    let dat_bind = c.in-Ok.ensures in
     let dat_bind_ok = dat_bind.ok in
     let bump = c.bump-s4.ensures in
     let bump_ok = ok_bumps bump dat_bind_ok in
@@ -75,7 +75,7 @@ loop-s1-smaller c =
     let inv = c.loop-s1.invariant in
     let if1 = c.if-left-eq0.false in
     let mark = c.mark-s2.ensures in
-    let dat_bind = c.in-At.ensures in
+    let dat_bind = c.in-Ok.ensures in
     let at = c.at.ensures in
     let if2 = c.if-at.true in
     let bump = c.bump-s4.ensures in
@@ -88,7 +88,7 @@ loop-s1-preserved c =
     let inv = c.loop-s1.invariant in
     let if1 = c.if-left-eq0.false in
     let mark = c.mark-s2.ensures in
-    let dat_bind = c.in-At.ensures in
+    let dat_bind = c.in-Ok.ensures in
     let at = c.at.ensures in
     let if2 = c.if-at.true in
     let bump = c.bump-s4.ensures in
@@ -100,17 +100,17 @@ close-requires c =
     let inv = c.loop-s1.invariant.ok in
     let mark = c.mark-s2.ensures in
     let mark_ok = ok_marks mark inv in
-    let dat_bind = c.in-At.ensures in
+    let dat_bind = c.in-Ok.ensures in
     let dat_bind_ok = dat_bind.ok in
     (dat_bind_ok.logs, small_len mark_ok)
 
-pub returns-in-At : goal.returns-in-At
+pub returns-in-Ok : goal.returns-in-Ok
 unfolding util.many_turn plan choose chosen
-returns-in-At c =
+returns-in-Ok c =
     let inv = c.loop-s1.invariant in
     let if1 = c.if-left-eq0.false in
     let mark = c.mark-s2.ensures in
-    let dat_bind = c.in-At.ensures in
+    let dat_bind = c.in-Ok.ensures in
     let at = c.at.ensures in
     let if2 = c.if-at.false in
     let close2 = c.close.ensures in

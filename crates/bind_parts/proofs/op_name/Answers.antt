@@ -31,8 +31,8 @@ eat_name_star-got-requires c =
     let bump_ok = ok_bumps bump report_ok in
     (bump_ok.reads, bump_ok.logs, bump_ok.holds)
 
-pub state-s3-requires : goal.state-s3-requires
-state-s3-requires c =
+pub either-s3-requires : goal.either-s3-requires
+either-s3-requires c =
     tt
 
 pub returns-then-at : goal.returns-then-at
@@ -44,8 +44,8 @@ returns-then-at c =
     let report = c.report-s1.ensures in
     let bump = c.bump-s2.ensures in
     let eat_name_star = c.eat_name_star-got.ensures in
-    let state = c.state-s3.ensures in
-    always pre0 (λ n b. s_kind (s_true _ _ (kind_at _ _ _ _ at if1) (s_report report (s_bump bump (s_eats _ _ _ (eats_settled state eat_name_star) s_end)))))
+    let either = c.either-s3.ensures in
+    always pre0 (λ n b. s_kind (s_true _ _ (kind_at _ _ _ _ at if1) (s_report report (s_bump bump (s_eats _ _ _ (eats_settled either eat_name_star) s_end)))))
 
 pub eat_name_star-requires : goal.eat_name_star-requires
 eat_name_star-requires c =

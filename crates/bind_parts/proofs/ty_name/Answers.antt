@@ -12,33 +12,33 @@ ty_var_seq-vars-requires c =
 
 pub eat-requires : goal.eat-requires
 eat-requires c =
-    let ty_var_seq = c.in-Missing.ensures in
+    let ty_var_seq = c.in-Err.ensures in
     let ty_var_seq_ok = ty_var_seq.ok in
     (ty_var_seq_ok.reads, ty_var_seq_ok.logs, ty_var_seq_ok.holds, omega arith)
 
 pub eat-got-requires : goal.eat-got-requires
 eat-got-requires c =
-    let ty_var_seq = c.in-At.ensures in
+    let ty_var_seq = c.in-Ok.ensures in
     let ty_var_seq_ok = ty_var_seq.ok in
     (ty_var_seq_ok.reads, ty_var_seq_ok.logs, ty_var_seq_ok.holds, omega arith)
 
-pub state-s2-requires : goal.state-s2-requires
-state-s2-requires c =
+pub either-s2-requires : goal.either-s2-requires
+either-s2-requires c =
     tt
 
-pub returns-in-Missing : goal.returns-in-Missing
+pub returns-in-Err : goal.returns-in-Err
 unfolding decl.ty_name plan choose chosen
-returns-in-Missing c =
+returns-in-Err c =
     let pre0 = c.requires in
-    let ty_var_seq = c.in-Missing.ensures in
+    let ty_var_seq = c.in-Err.ensures in
     let eat = c.eat.ensures in
     by_steps pre0 (λ b. s_by _ (runs_in ty_var_seq) (s_eats _ _ _ eat s_end))
 
-pub returns-in-At : goal.returns-in-At
+pub returns-in-Ok : goal.returns-in-Ok
 unfolding decl.ty_name plan choose chosen
-returns-in-At c =
+returns-in-Ok c =
     let pre0 = c.requires in
-    let ty_var_seq = c.in-At.ensures in
+    let ty_var_seq = c.in-Ok.ensures in
     let eat2 = c.eat-got.ensures in
-    let state = c.state-s2.ensures in
-    by_steps pre0 (λ b. s_by _ (runs_in ty_var_seq) (s_eats _ _ _ (eats_settled state eat2) s_end))
+    let either = c.either-s2.ensures in
+    by_steps pre0 (λ b. s_by _ (runs_in ty_var_seq) (s_eats _ _ _ (eats_settled either eat2) s_end))

@@ -57,8 +57,8 @@ path_must-got-requires c =
     let want3_ok = ok_eats want3 want2_ok in
     want3_ok
 
-pub state-s5-requires : goal.state-s5-requires
-state-s5-requires c =
+pub either-s5-requires : goal.either-s5-requires
+either-s5-requires c =
     tt
 
 pub close-requires : goal.close-requires
@@ -66,9 +66,9 @@ close-requires c =
     let pre1 = c.requires.1 in
     let path_must = c.path_must-got.ensures in
     let path_must_ok = path_must.ok in
-    let state = c.state-s5.ensures in
-    let state_ok = ok_state state path_must_ok in
-    (state_ok.logs, pre1)
+    let either = c.either-s5.ensures in
+    let either_ok = ok_state either path_must_ok in
+    (either_ok.logs, pre1)
 
 pub returns-then-at_n : goal.returns-then-at_n
 unfolding decl.datatype plan choose chosen
@@ -81,9 +81,9 @@ returns-then-at_n c =
     let want2 = c.want-s3.ensures in
     let want3 = c.want-s4.ensures in
     let path_must = c.path_must-got.ensures in
-    let state = c.state-s5.ensures in
+    let either = c.either-s5.ensures in
     let close = c.close.ensures in
-    in_steps pre0 (s_bump bump (s_kind (s_true _ _ (kind_at _ _ _ _ at_n if1) (s_eats _ _ _ want (s_eats _ _ _ want2 (s_eats _ _ _ want3 (s_by _ (settled state (runs_in path_must)) (s_close close s_end))))))))
+    in_steps pre0 (s_bump bump (s_kind (s_true _ _ (kind_at _ _ _ _ at_n if1) (s_eats _ _ _ want (s_eats _ _ _ want2 (s_eats _ _ _ want3 (s_by _ (settled either (runs_in path_must)) (s_close close s_end))))))))
 
 pub dat_binds-s2-requires : goal.dat_binds-s2-requires
 dat_binds-s2-requires c =

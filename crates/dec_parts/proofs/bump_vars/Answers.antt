@@ -16,8 +16,8 @@ ty_var_seq-vars-requires c =
     let bump_ok = ok_bumps bump pre0 in
     bump_ok
 
-pub state-requires : goal.state-requires
-state-requires c =
+pub either-requires : goal.either-requires
+either-requires c =
     tt
 
 pub returns : goal.returns
@@ -26,5 +26,5 @@ returns c =
     let pre0 = c.requires in
     let bump = c.bump-s1.ensures in
     let ty_var_seq = c.ty_var_seq-vars.ensures in
-    let state = c.state.ensures in
-    by_steps pre0 (λ b. s_bump bump (s_by _ (settled state (runs_in ty_var_seq)) s_end))
+    let either = c.either.ensures in
+    by_steps pre0 (λ b. s_bump bump (s_by _ (settled either (runs_in ty_var_seq)) s_end))

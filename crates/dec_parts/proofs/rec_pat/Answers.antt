@@ -39,25 +39,25 @@ pat_prec-got-requires c =
 
 pub report-requires : goal.report-requires
 report-requires c =
-    let pat_prec = c.in-Missing.ensures in
+    let pat_prec = c.in-Err.ensures in
     let pat_prec_ok = pat_prec.ok in
     (pat_prec_ok.holds, (let few = pat_prec_ok.reads.few in let inside = pat_prec_ok.reads.inside in omega arith), omega arith)
 
-pub returns-in-At : goal.returns-in-At
+pub returns-in-Ok : goal.returns-in-Ok
 unfolding decl.rec_pat plan choose chosen
-returns-in-At c =
+returns-in-Ok c =
     let pre0 = c.requires in
     let at = c.at.ensures in
     let if1 = c.if-at.false in
-    let pat_prec = c.in-At.ensures in
+    let pat_prec = c.in-Ok.ensures in
     by_steps pre0 (λ b. s_kind (s_false _ _ (kind_off _ _ _ _ at if1) (s_run (runs_in pat_prec) s_end)))
 
-pub returns-in-Missing : goal.returns-in-Missing
+pub returns-in-Err : goal.returns-in-Err
 unfolding decl.rec_pat plan choose chosen
-returns-in-Missing c =
+returns-in-Err c =
     let pre0 = c.requires in
     let at = c.at.ensures in
     let if1 = c.if-at.false in
-    let pat_prec = c.in-Missing.ensures in
+    let pat_prec = c.in-Err.ensures in
     let report = c.report.ensures in
     by_steps pre0 (λ b. s_kind (s_false _ _ (kind_off _ _ _ _ at if1) (s_run (runs_in pat_prec) (s_report report s_end))))

@@ -9,8 +9,8 @@ path_must-got-requires c =
     let pre0 = c.requires.0 in
     pre0
 
-pub state-s1-requires : goal.state-s1-requires
-state-s1-requires c =
+pub either-s1-requires : goal.either-s1-requires
+either-s1-requires c =
     tt
 
 pub close-requires : goal.close-requires
@@ -18,15 +18,15 @@ close-requires c =
     let pre1 = c.requires.1 in
     let path_must = c.path_must-got.ensures in
     let path_must_ok = path_must.ok in
-    let state = c.state-s1.ensures in
-    let state_ok = ok_state state path_must_ok in
-    (state_ok.logs, pre1)
+    let either = c.either-s1.ensures in
+    let either_ok = ok_state either path_must_ok in
+    (either_ok.logs, pre1)
 
 pub returns : goal.returns
 unfolding decl.str_path plan choose chosen
 returns c =
     let pre0 = c.requires.0 in
     let path_must = c.path_must-got.ensures in
-    let state = c.state-s1.ensures in
+    let either = c.either-s1.ensures in
     let close = c.close.ensures in
-    in_steps pre0 (s_by _ (settled state (runs_in path_must)) (s_close close s_end))
+    in_steps pre0 (s_by _ (settled either (runs_in path_must)) (s_close close s_end))

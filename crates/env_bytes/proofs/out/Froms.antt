@@ -10,8 +10,8 @@ use Rattle.grammar.specs.Env.{Entry, find}
 use Rattle.sml_fixity.specs.Names.{by_test, same_eq, before_irrefl, before_trans, before_asym, before_total}
 use Rattle.sml_fixity.specs.Entries.{Chain, Sorted, chain_sorted, chain_none, first, behind}
 use Rattle.sml_fixity.specs.Entries.Chain.{end, link}
-use Rattle.env_bytes.specs.Out.{nearer, here}
-use Rattle.env_bytes.proofs.out.Nearest.{nearer_is, empty_first}
+use Rattle.env_bytes.specs.Out.{here}
+use Rattle.env_bytes.proofs.Empty.{empty_first}
 
 -- the entries whose names do not come before x, and those whose names come after it
 unfoldable pub froms : List ℕ → List Entry → List Entry
@@ -59,24 +59,23 @@ unfolding find
 later x e es h =
     by_test (same x e.name) (λ s. named e es (rw (same_eq x e.name s) at h)) (λ s. sym (behind x e es s) ∙ h)
 
-module _ (x y : List ℕ) where
-  -- where none comes between x and y, those after x are those from y on
-  pub afters_next : before x y ≡ true → (es : List Entry) → ((z : List ℕ) → nearer x y z ≡ true → find z es ≡ none) → afters x es ≡ froms y es
-  unfolding froms afters
-  afters_next h [] f = refl
-  afters_next h (e ∷ es) f =
-      by_test (before x e.name)
-      (λ b. by_test (before e.name y) (λ d. named e es (f e.name (nearer_is x y e.name b (λ l. d)))) (λ d. rw (b, d, froms, afters)))
-      (λ b.
-      let d : before e.name y ≡ true =
-      by_test (same x e.name) (λ s. rw (← same_eq x e.name s) h) (λ s. before_trans e.name x y (before_total x e.name s b) h)
-      in
-      rw (b, d, froms, afters) (afters_next h es (λ z p. later z e es (f z p))))
+-- where none comes between x and y, those after x are those from y on
+pub afters_next : (x y : List ℕ) → before x y ≡ true → (es : List Entry) → ((z : List ℕ) → before x z ≡ true → before z y ≡ true → find z es ≡ none) → afters x es ≡ froms y es
+unfolding froms afters
+afters_next x y h [] f = refl
+afters_next x y h (e ∷ es) f =
+    by_test (before x e.name)
+    (λ b. by_test (before e.name y) (λ d. named e es (f e.name b d)) (λ d. rw (b, d, froms, afters)))
+    (λ b.
+    let d : before e.name y ≡ true =
+    by_test (same x e.name) (λ s. rw (← same_eq x e.name s) h) (λ s. before_trans e.name x y (before_total x e.name s b) h)
+    in
+    rw (b, d, froms, afters) (afters_next x y h es (λ z p q. later z e es (f z p q))))
 
-  -- where y does not come after x, none does
-  pub afters_none : before x y ≡ false → (es : List Entry) → ((z : List ℕ) → nearer x y z ≡ true → find z es ≡ none) → afters x es ≡ []
-  unfolding afters
-  afters_none h [] f = refl
-  afters_none h (e ∷ es) f =
-      by_test (before x e.name) (λ b. named e es (f e.name (nearer_is x y e.name b (λ l. cc))))
-      (λ b. rw (b, afters) (afters_none h es (λ z p. later z e es (f z p))))
+-- where none comes after x, there are none
+pub afters_none : (x : List ℕ) (es : List Entry) → ((z : List ℕ) → before x z ≡ true → find z es ≡ none) → afters x es ≡ []
+unfolding afters
+afters_none x [] f = refl
+afters_none x (e ∷ es) f =
+    by_test (before x e.name) (λ b. named e es (f e.name b))
+    (λ b. rw (b, afters) (afters_none x es (λ z p. later z e es (f z p))))

@@ -3,12 +3,13 @@ use Rattle.grammar.specs.Util as util
 use Rattle.grammar.specs.Exp as expr
 use Rattle.grammar.specs.Dec as decl
 use Rattle.grammar.specs.Root as root
+use Rattle.parser.specs.Nodes.{node_number}
 use Rattle.laws.specs.Progress.{many_turn_advances, end_turn_advances, semi_turn_advances, exp_step_advances, str_step_advances, sig_exp_advances}
 use Rattle.parser.specs.View.{mem, err_of, out_state}
 use Rattle.parser.specs.Runs.{runs_in, runs_always, kind_at, kind_off, kind_is, kind_not, test_true, test_false, ok_bumps, ok_adds, ok_marks, ok_eats, ok_takes, ok_refused, ok_state, small_len, loop_starts, loop_goes, loop_falls, loop_ends}
-use Rattle.parser.specs.Plans.{plan, choose, chosen, in_steps, by_steps, s_rule, s_look, s_kind, s_fixed, s_true, s_false, s_bump, s_close, s_report, s_mark, s_deep, s_shut, hushed, s_by, s_eats, s_takes, s_run, settled, eats_settled, s_end, s_first, s_second}
-use borrow.Author.Tests.{eq-eqb, ne_eqb}
+use Rattle.parser.specs.Plans.{plan, choose, chosen, in_steps, by_steps, s_rule, s_look, s_kind, s_fixed, s_true, s_false, s_bump, s_close, s_report, s_mark, s_deep, s_shut, hushed, s_by, s_eats, s_takes, s_run, settled, eats_settled, s_end, s_second}
 use Rattle.parser.specs.Backs.{s_scoped, ok_back}
+use Rattle.parser.specs.Others.{other_node}
 use native.Mathlib.Omega.{arith}
 use mathlib.Core.Path.{refl}
 use mathlib.Core.Path.{sym}
@@ -22,9 +23,9 @@ app-refuse-requires t c =
 pub app-returns-then-left-eq0 : goal.app-returns-then-left-eq0
 unfolding expr.app_exp plan choose chosen hushed
 app-returns-then-left-eq0 t c =
-    let X0 = c.args.text.now in
-    let T0 = c.args.toks.now in
-    let N0 = c.args.env.now in
+    let X0 = c.args.lent.text.now in
+    let T0 = c.args.lent.toks.now in
+    let N0 = c.args.lent.env.now in
     let J0 = c.args.table.now in
     let L0 = c.args.scratch.now in
     let H0 = c.args.finds.now in
@@ -53,9 +54,9 @@ app-close-requires t c =
 pub app-returns : goal.app-returns
 unfolding expr.app_exp plan choose chosen
 app-returns t c =
-    let X0 = c.args.text.now in
-    let T0 = c.args.toks.now in
-    let N0 = c.args.env.now in
+    let X0 = c.args.lent.text.now in
+    let T0 = c.args.lent.toks.now in
+    let N0 = c.args.lent.env.now in
     let J0 = c.args.table.now in
     let L0 = c.args.scratch.now in
     let H0 = c.args.finds.now in
@@ -82,16 +83,10 @@ arg-report-requires t c =
 pub arg-returns-in_default : goal.arg-returns-in_default
 unfolding expr.at_exp_must expr.at_exp plan choose chosen
 arg-returns-in_default t c =
-    let X0 = c.args.text.now in
-    let T0 = c.args.toks.now in
-    let N0 = c.args.env.now in
-    let J0 = c.args.table.now in
-    let L0 = c.args.scratch.now in
-    let H0 = c.args.finds.now in
-    let S0 = c.args.s in
-    let H2 = c.report.new.finds in
-    let S2 = c.report.result in
-    by_steps {m = (mem X0 T0 N0 J0 L0 H0 S0)} {m' = (mem X0 T0 N0 J0 L0 H2 S2)} (c.requires) (λ b. s_look {a = (mem X0 T0 N0 J0 L0 H0 S0)} {e = (mem X0 T0 N0 J0 L0 H2 S2)} (c.in_default.ensures) (s_report {e = (mem X0 T0 N0 J0 L0 H2 S2)} {x = X0} {t = T0} {n = N0} {j = J0} {l = L0} {h = H0} {s = S0} {s' = S2} {h' = H2} (c.report.ensures) s_end))
+    let pre0 = c.requires in
+    let peek = c.in_default.ensures in
+    let report = c.report.ensures in
+    by_steps pre0 (λ b. s_look peek (s_report report s_end))
 
 pub arg-refuse-requires : goal.arg-refuse-requires
 arg-refuse-requires t c =
@@ -100,15 +95,15 @@ arg-refuse-requires t c =
 pub arg-returns-then-left-eq0 : goal.arg-returns-then-left-eq0
 unfolding expr.at_exp_must expr.at_exp plan choose chosen hushed
 arg-returns-then-left-eq0 t c =
-    let X0 = c.args.text.now in
-    let T0 = c.args.toks.now in
-    let N0 = c.args.env.now in
+    let X0 = c.args.lent.text.now in
+    let T0 = c.args.lent.toks.now in
+    let N0 = c.args.lent.env.now in
     let J0 = c.args.table.now in
     let L0 = c.args.scratch.now in
     let H0 = c.args.finds.now in
     let S0 = c.args.s in
     let S3 = c.refuse.result in
-    by_steps {m = (mem X0 T0 N0 J0 L0 H0 S0)} {m' = (mem X0 T0 N0 J0 L0 H0 S3)} (c.requires) (λ b. s_look {a = (mem X0 T0 N0 J0 L0 H0 S0)} {e = (mem X0 T0 N0 J0 L0 H0 S3)} (c.in-Kind.ensures) (s_shut (c.if-left-eq0.true) (c.refuse.ensures) (λ k l. refl)))
+    by_steps {m = (mem X0 T0 N0 J0 L0 H0 S0)} {m' = (mem X0 T0 N0 J0 L0 H0 S3)} (c.requires) (λ b. s_look {a = (mem X0 T0 N0 J0 L0 H0 S0)} {e = (mem X0 T0 N0 J0 L0 H0 S3)} (c.in-Some.ensures) (s_shut (c.if-left-eq0.true) (c.refuse.ensures) (λ k l. refl)))
 
 pub arg-mark-s1-requires : goal.arg-mark-s1-requires
 arg-mark-s1-requires t c =
@@ -121,18 +116,18 @@ arg-atm-got-requires t c =
     let mark_ok = ok_marks mark pre0 in
     (omega arith, (mark_ok, small_len mark_ok))
 
-pub arg-report-requires-in-Missing : goal.arg-report-requires-in-Missing
-arg-report-requires-in-Missing t c =
-    let atm = c.in-Missing.ensures in
+pub arg-report-requires-in-Err : goal.arg-report-requires-in-Err
+arg-report-requires-in-Err t c =
+    let atm = c.in-Err.ensures in
     let atm_ok = atm.ok in
     (atm_ok.holds, (let few = atm_ok.reads.few in let inside = atm_ok.reads.inside in omega arith), omega arith)
 
-pub arg-returns-in-At : goal.arg-returns-in-At
+pub arg-returns-in-Ok : goal.arg-returns-in-Ok
 unfolding expr.at_exp_must expr.at_exp plan choose chosen
-arg-returns-in-At t c =
-    let X0 = c.args.text.now in
-    let T0 = c.args.toks.now in
-    let N0 = c.args.env.now in
+arg-returns-in-Ok t c =
+    let X0 = c.args.lent.text.now in
+    let T0 = c.args.lent.toks.now in
+    let N0 = c.args.lent.env.now in
     let J0 = c.args.table.now in
     let L0 = c.args.scratch.now in
     let H0 = c.args.finds.now in
@@ -141,15 +136,15 @@ arg-returns-in-At t c =
     let J4 = c.atm-got.new.table in
     let L4 = c.atm-got.new.scratch in
     let H4 = c.atm-got.new.finds in
-    let S4 = c.in-At.s2 in
-    by_steps {m = (mem X0 T0 N0 J0 L0 H0 S0)} {m' = (mem X0 T0 N0 J4 L4 H4 S4)} (c.requires) (λ b. s_look {a = (mem X0 T0 N0 J0 L0 H0 S0)} {e = (mem X0 T0 N0 J4 L4 H4 S4)} (c.in-Kind.ensures) (s_mark {e = (mem X0 T0 N0 J4 L4 H4 S4)} {x = X0} {t = T0} {n = N0} {j = J0} {l = L0} {h = H0} {s = S0} {s' = S3} (c.if-left-eq0.false) (c.mark-s1.ensures) (s_by {a = (mem X0 T0 N0 J0 L0 H0 S3)} {c = (mem X0 T0 N0 J4 L4 H4 S4)} {e = (mem X0 T0 N0 J4 L4 H4 S4)} _ (c.in-At.ensures) s_end)))
+    let S4 = c.in-Ok.s2 in
+    by_steps {m = (mem X0 T0 N0 J0 L0 H0 S0)} {m' = (mem X0 T0 N0 J4 L4 H4 S4)} (c.requires) (λ b. s_look {a = (mem X0 T0 N0 J0 L0 H0 S0)} {e = (mem X0 T0 N0 J4 L4 H4 S4)} (c.in-Some.ensures) (s_mark {e = (mem X0 T0 N0 J4 L4 H4 S4)} {x = X0} {t = T0} {n = N0} {j = J0} {l = L0} {h = H0} {s = S0} {s' = S3} (c.if-left-eq0.false) (c.mark-s1.ensures) (s_by {a = (mem X0 T0 N0 J0 L0 H0 S3)} {c = (mem X0 T0 N0 J4 L4 H4 S4)} {e = (mem X0 T0 N0 J4 L4 H4 S4)} _ (c.in-Ok.ensures) s_end)))
 
-pub arg-returns-in-Missing : goal.arg-returns-in-Missing
+pub arg-returns-in-Err : goal.arg-returns-in-Err
 unfolding expr.at_exp_must expr.at_exp plan choose chosen
-arg-returns-in-Missing t c =
-    let X0 = c.args.text.now in
-    let T0 = c.args.toks.now in
-    let N0 = c.args.env.now in
+arg-returns-in-Err t c =
+    let X0 = c.args.lent.text.now in
+    let T0 = c.args.lent.toks.now in
+    let N0 = c.args.lent.env.now in
     let J0 = c.args.table.now in
     let L0 = c.args.scratch.now in
     let H0 = c.args.finds.now in
@@ -158,10 +153,10 @@ arg-returns-in-Missing t c =
     let J4 = c.atm-got.new.table in
     let L4 = c.atm-got.new.scratch in
     let H4 = c.atm-got.new.finds in
-    let S4 = c.in-Missing.s2 in
-    let H5 = c.report-in-Missing.new.finds in
-    let S5 = c.report-in-Missing.result in
-    by_steps {m = (mem X0 T0 N0 J0 L0 H0 S0)} {m' = (mem X0 T0 N0 J4 L4 H5 S5)} (c.requires) (λ b. s_look {a = (mem X0 T0 N0 J0 L0 H0 S0)} {e = (mem X0 T0 N0 J4 L4 H5 S5)} (c.in-Kind.ensures) (s_mark {e = (mem X0 T0 N0 J4 L4 H5 S5)} {x = X0} {t = T0} {n = N0} {j = J0} {l = L0} {h = H0} {s = S0} {s' = S3} (c.if-left-eq0.false) (c.mark-s1.ensures) (s_by {a = (mem X0 T0 N0 J0 L0 H0 S3)} {c = (mem X0 T0 N0 J4 L4 H4 S4)} {e = (mem X0 T0 N0 J4 L4 H5 S5)} _ (c.in-Missing.ensures) (s_report {e = (mem X0 T0 N0 J4 L4 H5 S5)} {x = X0} {t = T0} {n = N0} {j = J4} {l = L4} {h = H4} {s = S4} {s' = S5} {h' = H5} (c.report-in-Missing.ensures) s_end))))
+    let S4 = c.in-Err.s2 in
+    let H5 = c.report-in-Err.new.finds in
+    let S5 = c.report-in-Err.result in
+    by_steps {m = (mem X0 T0 N0 J0 L0 H0 S0)} {m' = (mem X0 T0 N0 J4 L4 H5 S5)} (c.requires) (λ b. s_look {a = (mem X0 T0 N0 J0 L0 H0 S0)} {e = (mem X0 T0 N0 J4 L4 H5 S5)} (c.in-Some.ensures) (s_mark {e = (mem X0 T0 N0 J4 L4 H5 S5)} {x = X0} {t = T0} {n = N0} {j = J0} {l = L0} {h = H0} {s = S0} {s' = S3} (c.if-left-eq0.false) (c.mark-s1.ensures) (s_by {a = (mem X0 T0 N0 J0 L0 H0 S3)} {c = (mem X0 T0 N0 J4 L4 H4 S4)} {e = (mem X0 T0 N0 J4 L4 H5 S5)} _ (c.in-Err.ensures) (s_report {e = (mem X0 T0 N0 J4 L4 H5 S5)} {x = X0} {t = T0} {n = N0} {j = J4} {l = L4} {h = H4} {s = S4} {s' = S5} {h' = H5} (c.report-in-Err.ensures) s_end))))
 
 pub arm-pat_prec-got-requires : goal.arm-pat_prec-got-requires
 arm-pat_prec-got-requires t c =
@@ -170,51 +165,51 @@ arm-pat_prec-got-requires t c =
 
 pub arm-report-s2-requires : goal.arm-report-s2-requires
 arm-report-s2-requires t c =
-    let pat_prec = c.in-Missing.ensures in
+    let pat_prec = c.in-Err.ensures in
     let pat_prec_ok = pat_prec.ok in
     (pat_prec_ok.holds, (let few = pat_prec_ok.reads.few in let inside = pat_prec_ok.reads.inside in omega arith), omega arith)
 
 pub arm-we-s2-requires : goal.arm-we-s2-requires
 arm-we-s2-requires t c =
-    let pat_prec = c.in-At.ensures in
+    let pat_prec = c.in-Ok.ensures in
     let pat_prec_ok = pat_prec.ok in
     (omega arith, (pat_prec_ok, omega arith))
 
-pub arm-returns-in-Missing : goal.arm-returns-in-Missing
+pub arm-returns-in-Err : goal.arm-returns-in-Err
 unfolding expr.arm plan choose chosen
-arm-returns-in-Missing t c =
-    let X0 = c.args.text.now in
-    let T0 = c.args.toks.now in
-    let N0 = c.args.env.now in
+arm-returns-in-Err t c =
+    let X0 = c.args.lent.text.now in
+    let T0 = c.args.lent.toks.now in
+    let N0 = c.args.lent.env.now in
     let J0 = c.args.table.now in
     let L0 = c.args.scratch.now in
     let H0 = c.args.finds.now in
     let S0 = c.args.s in
     let L1 = c.pat_prec-got.new.scratch in
     let H1 = c.pat_prec-got.new.finds in
-    let S1 = c.in-Missing.s1 in
+    let S1 = c.in-Err.s1 in
     let H2 = c.report-s2.new.finds in
     let S2 = c.report-s2.result in
-    by_steps {m = (mem X0 T0 N0 J0 L0 H0 S0)} {m' = (mem X0 T0 N0 J0 L1 H2 S2)} (c.requires) (λ b. s_run {a = (mem X0 T0 N0 J0 L0 H0 S0)} {c = (mem X0 T0 N0 J0 L1 H1 S1)} {e = (mem X0 T0 N0 J0 L1 H2 S2)} (runs_in {a = (mem X0 T0 N0 J0 L0 H0 S0)} {c = (mem X0 T0 N0 J0 L1 H1 S1)} (c.in-Missing.ensures)) (s_report {e = (mem X0 T0 N0 J0 L1 H2 S2)} {x = X0} {t = T0} {n = N0} {j = J0} {l = L1} {h = H1} {s = S1} {s' = S2} {h' = H2} (c.report-s2.ensures) s_end))
+    by_steps {m = (mem X0 T0 N0 J0 L0 H0 S0)} {m' = (mem X0 T0 N0 J0 L1 H2 S2)} (c.requires) (λ b. s_run {a = (mem X0 T0 N0 J0 L0 H0 S0)} {c = (mem X0 T0 N0 J0 L1 H1 S1)} {e = (mem X0 T0 N0 J0 L1 H2 S2)} (runs_in {a = (mem X0 T0 N0 J0 L0 H0 S0)} {c = (mem X0 T0 N0 J0 L1 H1 S1)} (c.in-Err.ensures)) (s_report {e = (mem X0 T0 N0 J0 L1 H2 S2)} {x = X0} {t = T0} {n = N0} {j = J0} {l = L1} {h = H1} {s = S1} {s' = S2} {h' = H2} (c.report-s2.ensures) s_end))
 
-pub arm-returns-in-At : goal.arm-returns-in-At
+pub arm-returns-in-Ok : goal.arm-returns-in-Ok
 unfolding expr.arm plan choose chosen
-arm-returns-in-At t c =
-    let X0 = c.args.text.now in
-    let T0 = c.args.toks.now in
-    let N0 = c.args.env.now in
+arm-returns-in-Ok t c =
+    let X0 = c.args.lent.text.now in
+    let T0 = c.args.lent.toks.now in
+    let N0 = c.args.lent.env.now in
     let J0 = c.args.table.now in
     let L0 = c.args.scratch.now in
     let H0 = c.args.finds.now in
     let S0 = c.args.s in
     let L1 = c.pat_prec-got.new.scratch in
     let H1 = c.pat_prec-got.new.finds in
-    let S1 = c.in-At.s1 in
+    let S1 = c.in-Ok.s1 in
     let J2 = c.we-s2.new.table in
     let L2 = c.we-s2.new.scratch in
     let H2 = c.we-s2.new.finds in
     let S2 = c.we-s2.result in
-    by_steps {m = (mem X0 T0 N0 J0 L0 H0 S0)} {m' = (mem X0 T0 N0 J2 L2 H2 S2)} (c.requires) (λ b. s_run {a = (mem X0 T0 N0 J0 L0 H0 S0)} {c = (mem X0 T0 N0 J0 L1 H1 S1)} {e = (mem X0 T0 N0 J2 L2 H2 S2)} (runs_in {a = (mem X0 T0 N0 J0 L0 H0 S0)} {c = (mem X0 T0 N0 J0 L1 H1 S1)} (c.in-At.ensures)) (s_by {a = (mem X0 T0 N0 J0 L1 H1 S1)} {c = (mem X0 T0 N0 J2 L2 H2 S2)} {e = (mem X0 T0 N0 J2 L2 H2 S2)} _ (runs_in {a = (mem X0 T0 N0 J0 L1 H1 S1)} {c = (mem X0 T0 N0 J2 L2 H2 S2)} (c.we-s2.ensures)) s_end))
+    by_steps {m = (mem X0 T0 N0 J0 L0 H0 S0)} {m' = (mem X0 T0 N0 J2 L2 H2 S2)} (c.requires) (λ b. s_run {a = (mem X0 T0 N0 J0 L0 H0 S0)} {c = (mem X0 T0 N0 J0 L1 H1 S1)} {e = (mem X0 T0 N0 J2 L2 H2 S2)} (runs_in {a = (mem X0 T0 N0 J0 L0 H0 S0)} {c = (mem X0 T0 N0 J0 L1 H1 S1)} (c.in-Ok.ensures)) (s_by {a = (mem X0 T0 N0 J0 L1 H1 S1)} {c = (mem X0 T0 N0 J2 L2 H2 S2)} {e = (mem X0 T0 N0 J2 L2 H2 S2)} _ (runs_in {a = (mem X0 T0 N0 J0 L1 H1 S1)} {c = (mem X0 T0 N0 J2 L2 H2 S2)} (c.we-s2.ensures)) s_end))
 
 pub asc-refuse-requires : goal.asc-refuse-requires
 asc-refuse-requires t c =
@@ -223,9 +218,9 @@ asc-refuse-requires t c =
 pub asc-returns-then-left-eq0 : goal.asc-returns-then-left-eq0
 unfolding decl.ascription_tail plan choose chosen hushed
 asc-returns-then-left-eq0 t c =
-    let X0 = c.args.text.now in
-    let T0 = c.args.toks.now in
-    let N0 = c.args.env.now in
+    let X0 = c.args.lent.text.now in
+    let T0 = c.args.lent.toks.now in
+    let N0 = c.args.lent.env.now in
     let J0 = c.args.table.now in
     let L0 = c.args.scratch.now in
     let H0 = c.args.finds.now in
@@ -265,9 +260,9 @@ asc-close-requires t c =
 pub asc-returns : goal.asc-returns
 unfolding decl.ascription_tail plan choose chosen
 asc-returns t c =
-    let X0 = c.args.text.now in
-    let T0 = c.args.toks.now in
-    let N0 = c.args.env.now in
+    let X0 = c.args.lent.text.now in
+    let T0 = c.args.lent.toks.now in
+    let N0 = c.args.lent.env.now in
     let J0 = c.args.table.now in
     let L0 = c.args.scratch.now in
     let H0 = c.args.finds.now in
@@ -291,14 +286,9 @@ aso-peek-requires t c =
 pub aso-returns-in_default : goal.aso-returns-in_default
 unfolding decl.ascription_opt plan choose chosen
 aso-returns-in_default t c =
-    let X0 = c.args.text.now in
-    let T0 = c.args.toks.now in
-    let N0 = c.args.env.now in
-    let J0 = c.args.table.now in
-    let L0 = c.args.scratch.now in
-    let H0 = c.args.finds.now in
-    let S0 = c.args.s in
-    by_steps {m = (mem X0 T0 N0 J0 L0 H0 S0)} {m' = (mem X0 T0 N0 J0 L0 H0 S0)} (c.requires) (λ b. s_look {a = (mem X0 T0 N0 J0 L0 H0 S0)} {e = (mem X0 T0 N0 J0 L0 H0 S0)} (c.in_default.ensures) s_end)
+    let pre0 = c.requires in
+    let peek = c.in_default.ensures in
+    by_steps pre0 (λ b. s_look peek s_end)
 
 pub aso-ascription-requires : goal.aso-ascription-requires
 aso-ascription-requires t c =
@@ -312,9 +302,9 @@ aso-asc-requires t c =
 pub aso-returns-then-ascription : goal.aso-returns-then-ascription
 unfolding decl.ascription_opt plan choose chosen
 aso-returns-then-ascription t c =
-    let X0 = c.args.text.now in
-    let T0 = c.args.toks.now in
-    let N0 = c.args.env.now in
+    let X0 = c.args.lent.text.now in
+    let T0 = c.args.lent.toks.now in
+    let N0 = c.args.lent.env.now in
     let J0 = c.args.table.now in
     let L0 = c.args.scratch.now in
     let H0 = c.args.finds.now in
@@ -323,19 +313,19 @@ aso-returns-then-ascription t c =
     let L4 = c.asc.new.scratch in
     let H4 = c.asc.new.finds in
     let S4 = c.asc.result in
-    by_steps {m = (mem X0 T0 N0 J0 L0 H0 S0)} {m' = (mem X0 T0 N0 J4 L4 H4 S4)} (c.requires) (λ b. s_look {a = (mem X0 T0 N0 J0 L0 H0 S0)} {e = (mem X0 T0 N0 J4 L4 H4 S4)} (c.in-Kind.ensures) (s_true {a = (mem X0 T0 N0 J0 L0 H0 S0)} {e = (mem X0 T0 N0 J4 L4 H4 S4)} _ _ (test_true (c.ascription.ensures) (c.if-ascription.true)) (s_by {a = (mem X0 T0 N0 J0 L0 H0 S0)} {c = (mem X0 T0 N0 J4 L4 H4 S4)} {e = (mem X0 T0 N0 J4 L4 H4 S4)} _ (runs_in {a = (mem X0 T0 N0 J0 L0 H0 S0)} {c = (mem X0 T0 N0 J4 L4 H4 S4)} (c.asc.ensures)) s_end)))
+    by_steps {m = (mem X0 T0 N0 J0 L0 H0 S0)} {m' = (mem X0 T0 N0 J4 L4 H4 S4)} (c.requires) (λ b. s_look {a = (mem X0 T0 N0 J0 L0 H0 S0)} {e = (mem X0 T0 N0 J4 L4 H4 S4)} (c.in-Some.ensures) (s_true {a = (mem X0 T0 N0 J0 L0 H0 S0)} {e = (mem X0 T0 N0 J4 L4 H4 S4)} _ _ (test_true (c.ascription.ensures) (c.if-ascription.true)) (s_by {a = (mem X0 T0 N0 J0 L0 H0 S0)} {c = (mem X0 T0 N0 J4 L4 H4 S4)} {e = (mem X0 T0 N0 J4 L4 H4 S4)} _ (runs_in {a = (mem X0 T0 N0 J0 L0 H0 S0)} {c = (mem X0 T0 N0 J4 L4 H4 S4)} (c.asc.ensures)) s_end)))
 
 pub aso-returns : goal.aso-returns
 unfolding decl.ascription_opt plan choose chosen
 aso-returns t c =
-    let X0 = c.args.text.now in
-    let T0 = c.args.toks.now in
-    let N0 = c.args.env.now in
+    let X0 = c.args.lent.text.now in
+    let T0 = c.args.lent.toks.now in
+    let N0 = c.args.lent.env.now in
     let J0 = c.args.table.now in
     let L0 = c.args.scratch.now in
     let H0 = c.args.finds.now in
     let S0 = c.args.s in
-    by_steps {m = (mem X0 T0 N0 J0 L0 H0 S0)} {m' = (mem X0 T0 N0 J0 L0 H0 S0)} (c.requires) (λ b. s_look {a = (mem X0 T0 N0 J0 L0 H0 S0)} {e = (mem X0 T0 N0 J0 L0 H0 S0)} (c.in-Kind.ensures) (s_false {a = (mem X0 T0 N0 J0 L0 H0 S0)} {e = (mem X0 T0 N0 J0 L0 H0 S0)} _ _ (test_false (c.ascription.ensures) (c.if-ascription.false)) s_end))
+    by_steps {m = (mem X0 T0 N0 J0 L0 H0 S0)} {m' = (mem X0 T0 N0 J0 L0 H0 S0)} (c.requires) (λ b. s_look {a = (mem X0 T0 N0 J0 L0 H0 S0)} {e = (mem X0 T0 N0 J0 L0 H0 S0)} (c.in-Some.ensures) (s_false {a = (mem X0 T0 N0 J0 L0 H0 S0)} {e = (mem X0 T0 N0 J0 L0 H0 S0)} _ _ (test_false (c.ascription.ensures) (c.if-ascription.false)) s_end))
 
 pub atm-record_start-s1-requires : goal.atm-record_start-s1-requires
 atm-record_start-s1-requires t c =
@@ -352,9 +342,9 @@ atm-cl-s2-requires t c =
 pub atm-returns-then-k-eq-LCURLY : goal.atm-returns-then-k-eq-LCURLY
 unfolding expr.at_exp_head expr.end_closure util.choose plan choose chosen
 atm-returns-then-k-eq-LCURLY t c =
-    let X0 = c.args.text.now in
-    let T0 = c.args.toks.now in
-    let N0 = c.args.env.now in
+    let X0 = c.args.lent.text.now in
+    let T0 = c.args.lent.toks.now in
+    let N0 = c.args.lent.env.now in
     let J0 = c.args.table.now in
     let L0 = c.args.scratch.now in
     let H0 = c.args.finds.now in
@@ -377,9 +367,9 @@ atm-hs-requires t c =
 pub atm-returns-then-k-eq-HASH : goal.atm-returns-then-k-eq-HASH
 unfolding expr.at_exp_head expr.end_closure util.choose plan choose chosen
 atm-returns-then-k-eq-HASH t c =
-    let X0 = c.args.text.now in
-    let T0 = c.args.toks.now in
-    let N0 = c.args.env.now in
+    let X0 = c.args.lent.text.now in
+    let T0 = c.args.lent.toks.now in
+    let N0 = c.args.lent.env.now in
     let J0 = c.args.table.now in
     let L0 = c.args.scratch.now in
     let H0 = c.args.finds.now in
@@ -406,9 +396,9 @@ atm-rnd-requires t c =
 pub atm-returns-then-k-eq-LROUND : goal.atm-returns-then-k-eq-LROUND
 unfolding expr.at_exp_head expr.end_closure util.choose plan choose chosen
 atm-returns-then-k-eq-LROUND t c =
-    let X0 = c.args.text.now in
-    let T0 = c.args.toks.now in
-    let N0 = c.args.env.now in
+    let X0 = c.args.lent.text.now in
+    let T0 = c.args.lent.toks.now in
+    let N0 = c.args.lent.env.now in
     let J0 = c.args.table.now in
     let L0 = c.args.scratch.now in
     let H0 = c.args.finds.now in
@@ -437,9 +427,9 @@ atm-cl-s2-requires-then-k-eq-LSQUARE t c =
 pub atm-returns-then-k-eq-LSQUARE : goal.atm-returns-then-k-eq-LSQUARE
 unfolding expr.at_exp_head expr.end_closure util.choose plan choose chosen
 atm-returns-then-k-eq-LSQUARE t c =
-    let X0 = c.args.text.now in
-    let T0 = c.args.toks.now in
-    let N0 = c.args.env.now in
+    let X0 = c.args.lent.text.now in
+    let T0 = c.args.lent.toks.now in
+    let N0 = c.args.lent.env.now in
     let J0 = c.args.table.now in
     let L0 = c.args.scratch.now in
     let H0 = c.args.finds.now in
@@ -461,9 +451,9 @@ atm-lex-requires t c =
 pub atm-returns-then-k-eq-LET_KW : goal.atm-returns-then-k-eq-LET_KW
 unfolding expr.at_exp_head expr.end_closure util.choose plan choose chosen
 atm-returns-then-k-eq-LET_KW t c =
-    let X0 = c.args.text.now in
-    let T0 = c.args.toks.now in
-    let N0 = c.args.env.now in
+    let X0 = c.args.lent.text.now in
+    let T0 = c.args.lent.toks.now in
+    let N0 = c.args.lent.env.now in
     let J0 = c.args.table.now in
     let L0 = c.args.scratch.now in
     let H0 = c.args.finds.now in
@@ -483,9 +473,9 @@ atm-leaf-requires t c =
 pub atm-returns : goal.atm-returns
 unfolding expr.at_exp_head expr.end_closure util.choose plan choose chosen
 atm-returns t c =
-    let X0 = c.args.text.now in
-    let T0 = c.args.toks.now in
-    let N0 = c.args.env.now in
+    let X0 = c.args.lent.text.now in
+    let T0 = c.args.lent.toks.now in
+    let N0 = c.args.lent.env.now in
     let J0 = c.args.table.now in
     let L0 = c.args.scratch.now in
     let H0 = c.args.finds.now in
@@ -510,9 +500,9 @@ bd-close-requires t c =
 pub bd-returns : goal.bd-returns
 unfolding util.many_sep_node util.many_sep plan choose chosen
 bd-returns t c =
-    let X0 = c.args.text.now in
-    let T0 = c.args.toks.now in
-    let N0 = c.args.env.now in
+    let X0 = c.args.lent.text.now in
+    let T0 = c.args.lent.toks.now in
+    let N0 = c.args.lent.env.now in
     let J0 = c.args.table.now in
     let L0 = c.args.scratch.now in
     let H0 = c.args.finds.now in
@@ -530,34 +520,34 @@ bdy-dec-got-requires t c =
     let pre0 = c.requires in
     (omega arith, pre0)
 
-pub bdy-state-s1-requires : goal.bdy-state-s1-requires
-bdy-state-s1-requires t c =
+pub bdy-either-s1-requires : goal.bdy-either-s1-requires
+bdy-either-s1-requires t c =
     tt
 
 pub bdy-want-s2-requires : goal.bdy-want-s2-requires
 bdy-want-s2-requires t c =
     let dec = c.dec-got.ensures in
     let dec_ok = dec.ok in
-    let state = c.state-s1.ensures in
-    let state_ok = ok_state state dec_ok in
-    (state_ok.reads, state_ok.logs, state_ok.holds, omega arith)
+    let either = c.either-s1.ensures in
+    let either_ok = ok_state either dec_ok in
+    (either_ok.reads, either_ok.logs, either_ok.holds, omega arith)
 
 pub bdy-sep-requires : goal.bdy-sep-requires
 bdy-sep-requires t c =
     let dec = c.dec-got.ensures in
     let dec_ok = dec.ok in
-    let state = c.state-s1.ensures in
-    let state_ok = ok_state state dec_ok in
+    let either = c.either-s1.ensures in
+    let either_ok = ok_state either dec_ok in
     let want = c.want-s2.ensures in
-    let want_ok = ok_eats want state_ok in
+    let want_ok = ok_eats want either_ok in
     (omega arith, (want_ok, omega arith))
 
 pub bdy-returns : goal.bdy-returns
 unfolding expr.let_body util.end_sep expr.end_closure util.choose plan choose chosen
 bdy-returns t c =
-    let X0 = c.args.text.now in
-    let T0 = c.args.toks.now in
-    let N0 = c.args.env.now in
+    let X0 = c.args.lent.text.now in
+    let T0 = c.args.lent.toks.now in
+    let N0 = c.args.lent.env.now in
     let J0 = c.args.table.now in
     let L0 = c.args.scratch.now in
     let H0 = c.args.finds.now in
@@ -566,7 +556,7 @@ bdy-returns t c =
     let L1 = c.dec-got.new.scratch in
     let H1 = c.dec-got.new.finds in
     let S1 = out_state c.dec-got.result in
-    let S2 = c.state-s1.result in
+    let S2 = c.either-s1.result in
     let L3 = c.want-s2.new.scratch in
     let H3 = c.want-s2.new.finds in
     let S3 = c.want-s2.result in
@@ -574,7 +564,7 @@ bdy-returns t c =
     let L4 = c.sep.new.scratch in
     let H4 = c.sep.new.finds in
     let S4 = c.sep.result in
-    in_steps {m = (mem X0 T0 N0 J0 L0 H0 S0)} {m' = (mem X0 T0 N0 J4 L4 H4 S4)} (c.requires) (s_run {a = (mem X0 T0 N0 J0 L0 H0 S0)} {c = (mem X0 T0 N0 J1 L1 H1 S2)} {e = (mem X0 T0 N0 J4 L4 H4 S4)} (settled (c.state-s1.ensures) (runs_in {a = (mem X0 T0 N0 J0 L0 H0 S0)} {c = (mem X0 T0 N0 J1 L1 H1 S1)} (c.dec-got.ensures))) (s_eats _ _ {x = X0} {t = T0} {n = N0} {j = J1} {l = L1} {h = H1} {l' = L3} {s = S2} {s' = S3} {e = (mem X0 T0 N0 J4 L4 H4 S4)} _ {h' = H3} (c.want-s2.ensures) (s_run {a = (mem X0 T0 N0 J1 L3 H3 S3)} {c = (mem X0 T0 N0 J4 L4 H4 S4)} {e = (mem X0 T0 N0 J4 L4 H4 S4)} (c.sep.ensures) s_end)))
+    in_steps {m = (mem X0 T0 N0 J0 L0 H0 S0)} {m' = (mem X0 T0 N0 J4 L4 H4 S4)} (c.requires) (s_run {a = (mem X0 T0 N0 J0 L0 H0 S0)} {c = (mem X0 T0 N0 J1 L1 H1 S2)} {e = (mem X0 T0 N0 J4 L4 H4 S4)} (settled (c.either-s1.ensures) (runs_in {a = (mem X0 T0 N0 J0 L0 H0 S0)} {c = (mem X0 T0 N0 J1 L1 H1 S1)} (c.dec-got.ensures))) (s_eats _ _ {x = X0} {t = T0} {n = N0} {j = J1} {l = L1} {h = H1} {l' = L3} {s = S2} {s' = S3} {e = (mem X0 T0 N0 J4 L4 H4 S4)} _ {h' = H3} (c.want-s2.ensures) (s_run {a = (mem X0 T0 N0 J1 L3 H3 S3)} {c = (mem X0 T0 N0 J4 L4 H4 S4)} {e = (mem X0 T0 N0 J4 L4 H4 S4)} (c.sep.ensures) s_end)))
 
 pub cel-lab-s1-requires : goal.cel-lab-s1-requires
 cel-lab-s1-requires t c =
@@ -588,45 +578,25 @@ cel-eq-requires t c =
     let lab_ok = ok_eats lab pre0 in
     (omega arith, lab_ok)
 
-pub cel-returns-then-q-eq-EXP_ROW : goal.cel-returns-then-q-eq-EXP_ROW
-unfolding expr.end_closure expr.exp_row plan choose chosen
-cel-returns-then-q-eq-EXP_ROW t c =
-    let X0 = c.args.text.now in
-    let T0 = c.args.toks.now in
-    let N0 = c.args.env.now in
-    let J0 = c.args.table.now in
-    let L0 = c.args.scratch.now in
-    let H0 = c.args.finds.now in
-    let S0 = c.args.s in
-    let L2 = c.lab-s1.new.scratch in
-    let H2 = c.lab-s1.new.finds in
-    let S2 = c.lab-s1.result in
-    let J3 = c.eq.new.table in
-    let L3 = c.eq.new.scratch in
-    let H3 = c.eq.new.finds in
-    let S3 = c.eq.result in
-    by_steps {m = (mem X0 T0 N0 J0 L0 H0 S0)} {m' = (mem X0 T0 N0 J3 L3 H3 S3)} (c.requires) (λ b. s_first {a = (mem X0 T0 N0 J0 L0 H0 S0)} {e = (mem X0 T0 N0 J3 L3 H3 S3)} _ _ _ _ _ _ (eq-eqb _ _ (c.if-q-eq-EXP_ROW.true)) (s_eats _ _ {x = X0} {t = T0} {n = N0} {j = J0} {l = L0} {h = H0} {l' = L2} {s = S0} {s' = S2} {e = (mem X0 T0 N0 J3 L3 H3 S3)} _ {h' = H2} (c.lab-s1.ensures) (s_by {a = (mem X0 T0 N0 J0 L2 H2 S2)} {c = (mem X0 T0 N0 J3 L3 H3 S3)} {e = (mem X0 T0 N0 J3 L3 H3 S3)} _ (runs_in {a = (mem X0 T0 N0 J0 L2 H2 S2)} {c = (mem X0 T0 N0 J3 L3 H3 S3)} (c.eq.ensures)) s_end)))
-
 pub cel-exp-requires : goal.cel-exp-requires
 cel-exp-requires t c =
     let pre0 = c.requires in
     (omega arith, pre0)
 
-pub cel-returns : goal.cel-returns
+pub cel-returns-in-ExpRow : goal.cel-returns-in-ExpRow
+unfolding expr.end_closure expr.exp_row util.choose plan choose chosen
+cel-returns-in-ExpRow t c =
+    let pre0 = c.requires in
+    let lab = c.lab-s1.ensures in
+    let eq = c.eq.ensures in
+    rw c.in-ExpRow.is (by_steps pre0 (λ b. s_eats _ _ _ lab (s_by _ (runs_in eq) s_end)))
+
+pub cel-returns-in_default : goal.cel-returns-in_default
 unfolding expr.end_closure expr.exp_row plan choose chosen
-cel-returns t c =
-    let X0 = c.args.text.now in
-    let T0 = c.args.toks.now in
-    let N0 = c.args.env.now in
-    let J0 = c.args.table.now in
-    let L0 = c.args.scratch.now in
-    let H0 = c.args.finds.now in
-    let S0 = c.args.s in
-    let J2 = c.exp.new.table in
-    let L2 = c.exp.new.scratch in
-    let H2 = c.exp.new.finds in
-    let S2 = c.exp.result in
-    by_steps {m = (mem X0 T0 N0 J0 L0 H0 S0)} {m' = (mem X0 T0 N0 J2 L2 H2 S2)} (c.requires) (λ b. s_second {a = (mem X0 T0 N0 J0 L0 H0 S0)} {e = (mem X0 T0 N0 J2 L2 H2 S2)} _ _ _ _ _ _ (ne_eqb _ _ (c.if-q-eq-EXP_ROW.false)) (s_by {a = (mem X0 T0 N0 J0 L0 H0 S0)} {c = (mem X0 T0 N0 J2 L2 H2 S2)} {e = (mem X0 T0 N0 J2 L2 H2 S2)} _ (runs_in {a = (mem X0 T0 N0 J0 L0 H0 S0)} {c = (mem X0 T0 N0 J2 L2 H2 S2)} (c.exp.ensures)) s_end))
+cel-returns-in_default t c =
+    let pre0 = c.requires in
+    let exp = c.exp.ensures in
+    by_steps pre0 (λ b. s_second _ _ _ _ _ _ (other_node _ _ c.in_default.not-ExpRow) (s_by _ (runs_in exp) s_end))
 
 pub cl-sep-s1-requires : goal.cl-sep-s1-requires
 cl-sep-s1-requires t c =
@@ -643,9 +613,9 @@ cl-close-requires t c =
 pub cl-returns : goal.cl-returns
 unfolding util.end_sep_node util.end_sep plan choose chosen
 cl-returns t c =
-    let X0 = c.args.text.now in
-    let T0 = c.args.toks.now in
-    let N0 = c.args.env.now in
+    let X0 = c.args.lent.text.now in
+    let T0 = c.args.lent.toks.now in
+    let N0 = c.args.lent.env.now in
     let J0 = c.args.table.now in
     let L0 = c.args.scratch.now in
     let H0 = c.args.finds.now in
@@ -673,9 +643,9 @@ cor-bd-s2-requires t c =
 pub cor-returns-then-k-eq-VAL_KW : goal.cor-returns-then-k-eq-VAL_KW
 unfolding decl.core_dec decl.many_closure util.choose plan choose chosen
 cor-returns-then-k-eq-VAL_KW t c =
-    let X0 = c.args.text.now in
-    let T0 = c.args.toks.now in
-    let N0 = c.args.env.now in
+    let X0 = c.args.lent.text.now in
+    let T0 = c.args.lent.toks.now in
+    let N0 = c.args.lent.env.now in
     let J0 = c.args.table.now in
     let L0 = c.args.scratch.now in
     let H0 = c.args.finds.now in
@@ -704,9 +674,9 @@ cor-bd-s2-requires-then-k-eq-FUN_KW t c =
 pub cor-returns-then-k-eq-FUN_KW : goal.cor-returns-then-k-eq-FUN_KW
 unfolding decl.core_dec decl.many_closure util.choose plan choose chosen
 cor-returns-then-k-eq-FUN_KW t c =
-    let X0 = c.args.text.now in
-    let T0 = c.args.toks.now in
-    let N0 = c.args.env.now in
+    let X0 = c.args.lent.text.now in
+    let T0 = c.args.lent.toks.now in
+    let N0 = c.args.lent.env.now in
     let J0 = c.args.table.now in
     let L0 = c.args.scratch.now in
     let H0 = c.args.finds.now in
@@ -736,9 +706,9 @@ cor-bd-s2-requires-then-k-eq-EXCEPTION_KW t c =
 pub cor-returns-then-k-eq-EXCEPTION_KW : goal.cor-returns-then-k-eq-EXCEPTION_KW
 unfolding decl.core_dec decl.many_closure util.choose plan choose chosen
 cor-returns-then-k-eq-EXCEPTION_KW t c =
-    let X0 = c.args.text.now in
-    let T0 = c.args.toks.now in
-    let N0 = c.args.env.now in
+    let X0 = c.args.lent.text.now in
+    let T0 = c.args.lent.toks.now in
+    let N0 = c.args.lent.env.now in
     let J0 = c.args.table.now in
     let L0 = c.args.scratch.now in
     let H0 = c.args.finds.now in
@@ -773,9 +743,9 @@ cor-close-requires t c =
 pub cor-returns-then-k-eq-DO_KW : goal.cor-returns-then-k-eq-DO_KW
 unfolding decl.core_dec decl.many_closure util.choose plan choose chosen
 cor-returns-then-k-eq-DO_KW t c =
-    let X0 = c.args.text.now in
-    let T0 = c.args.toks.now in
-    let N0 = c.args.env.now in
+    let X0 = c.args.lent.text.now in
+    let T0 = c.args.lent.toks.now in
+    let N0 = c.args.lent.env.now in
     let J0 = c.args.table.now in
     let L0 = c.args.scratch.now in
     let H0 = c.args.finds.now in
@@ -799,9 +769,9 @@ cor-mds-requires t c =
 pub cor-returns : goal.cor-returns
 unfolding decl.core_dec decl.many_closure util.choose plan choose chosen
 cor-returns t c =
-    let X0 = c.args.text.now in
-    let T0 = c.args.toks.now in
-    let N0 = c.args.env.now in
+    let X0 = c.args.lent.text.now in
+    let T0 = c.args.lent.toks.now in
+    let N0 = c.args.lent.env.now in
     let J0 = c.args.table.now in
     let L0 = c.args.scratch.now in
     let H0 = c.args.finds.now in
@@ -823,24 +793,24 @@ cs-ty_annotation-got-requires t c =
     let fun_left_ok = fun_left.ok in
     fun_left_ok
 
-pub cs-state-s2-requires : goal.cs-state-s2-requires
-cs-state-s2-requires t c =
+pub cs-either-s2-requires : goal.cs-either-s2-requires
+cs-either-s2-requires t c =
     tt
 
 pub cs-eq-s3-requires : goal.cs-eq-s3-requires
 cs-eq-s3-requires t c =
     let ty_annotation = c.ty_annotation-got.ensures in
     let ty_annotation_ok = ty_annotation.ok in
-    let state = c.state-s2.ensures in
-    let state_ok = ok_state state ty_annotation_ok in
-    (omega arith, state_ok)
+    let either = c.either-s2.ensures in
+    let either_ok = ok_state either ty_annotation_ok in
+    (omega arith, either_ok)
 
 pub cs-returns : goal.cs-returns
 unfolding decl.fun_case plan choose chosen
 cs-returns t c =
-    let X0 = c.args.text.now in
-    let T0 = c.args.toks.now in
-    let N0 = c.args.env.now in
+    let X0 = c.args.lent.text.now in
+    let T0 = c.args.lent.toks.now in
+    let N0 = c.args.lent.env.now in
     let J0 = c.args.table.now in
     let L0 = c.args.scratch.now in
     let H0 = c.args.finds.now in
@@ -851,12 +821,12 @@ cs-returns t c =
     let L2 = c.ty_annotation-got.new.scratch in
     let H2 = c.ty_annotation-got.new.finds in
     let S2 = out_state c.ty_annotation-got.result in
-    let S3 = c.state-s2.result in
+    let S3 = c.either-s2.result in
     let J4 = c.eq-s3.new.table in
     let L4 = c.eq-s3.new.scratch in
     let H4 = c.eq-s3.new.finds in
     let S4 = c.eq-s3.result in
-    by_steps {m = (mem X0 T0 N0 J0 L0 H0 S0)} {m' = (mem X0 T0 N0 J4 L4 H4 S4)} (c.requires) (λ b. s_by {a = (mem X0 T0 N0 J0 L0 H0 S0)} {c = (mem X0 T0 N0 J0 L1 H1 S1)} {e = (mem X0 T0 N0 J4 L4 H4 S4)} _ (runs_in {a = (mem X0 T0 N0 J0 L0 H0 S0)} {c = (mem X0 T0 N0 J0 L1 H1 S1)} (c.fun_left-s1.ensures)) (s_by {a = (mem X0 T0 N0 J0 L1 H1 S1)} {c = (mem X0 T0 N0 J0 L2 H2 S3)} {e = (mem X0 T0 N0 J4 L4 H4 S4)} _ (settled (c.state-s2.ensures) (runs_in {a = (mem X0 T0 N0 J0 L1 H1 S1)} {c = (mem X0 T0 N0 J0 L2 H2 S2)} (c.ty_annotation-got.ensures))) (s_by {a = (mem X0 T0 N0 J0 L2 H2 S3)} {c = (mem X0 T0 N0 J4 L4 H4 S4)} {e = (mem X0 T0 N0 J4 L4 H4 S4)} _ (runs_in {a = (mem X0 T0 N0 J0 L2 H2 S3)} {c = (mem X0 T0 N0 J4 L4 H4 S4)} (c.eq-s3.ensures)) s_end)))
+    by_steps {m = (mem X0 T0 N0 J0 L0 H0 S0)} {m' = (mem X0 T0 N0 J4 L4 H4 S4)} (c.requires) (λ b. s_by {a = (mem X0 T0 N0 J0 L0 H0 S0)} {c = (mem X0 T0 N0 J0 L1 H1 S1)} {e = (mem X0 T0 N0 J4 L4 H4 S4)} _ (runs_in {a = (mem X0 T0 N0 J0 L0 H0 S0)} {c = (mem X0 T0 N0 J0 L1 H1 S1)} (c.fun_left-s1.ensures)) (s_by {a = (mem X0 T0 N0 J0 L1 H1 S1)} {c = (mem X0 T0 N0 J0 L2 H2 S3)} {e = (mem X0 T0 N0 J4 L4 H4 S4)} _ (settled (c.either-s2.ensures) (runs_in {a = (mem X0 T0 N0 J0 L1 H1 S1)} {c = (mem X0 T0 N0 J0 L2 H2 S2)} (c.ty_annotation-got.ensures))) (s_by {a = (mem X0 T0 N0 J0 L2 H2 S3)} {c = (mem X0 T0 N0 J4 L4 H4 S4)} {e = (mem X0 T0 N0 J4 L4 H4 S4)} _ (runs_in {a = (mem X0 T0 N0 J0 L2 H2 S3)} {c = (mem X0 T0 N0 J4 L4 H4 S4)} (c.eq-s3.ensures)) s_end)))
 
 pub dec-sem-turn-requires : goal.dec-sem-turn-requires
 dec-sem-turn-requires t c =
@@ -865,16 +835,16 @@ dec-sem-turn-requires t c =
 
 pub dec-seq-s2-requires : goal.dec-seq-s2-requires
 dec-seq-s2-requires t c =
-    let sem = c.in-At.ensures in
+    let sem = c.in-Ok.ensures in
     let sem_ok = (sem true).ok in
     (omega arith, sem_ok)
 
-pub dec-returns-in-Missing : goal.dec-returns-in-Missing
+pub dec-returns-in-Err : goal.dec-returns-in-Err
 unfolding root.body decl.decs util.maybe_semi_sep decl.semi_closure util.choose plan choose chosen
-dec-returns-in-Missing t c =
-    let X0 = c.args.text.now in
-    let T0 = c.args.toks.now in
-    let N0 = c.args.env.now in
+dec-returns-in-Err t c =
+    let X0 = c.args.lent.text.now in
+    let T0 = c.args.lent.toks.now in
+    let N0 = c.args.lent.env.now in
     let J0 = c.args.table.now in
     let L0 = c.args.scratch.now in
     let H0 = c.args.finds.now in
@@ -882,15 +852,15 @@ dec-returns-in-Missing t c =
     let J1 = c.sem-turn.new.table in
     let L1 = c.sem-turn.new.scratch in
     let H1 = c.sem-turn.new.finds in
-    let S1 = c.in-Missing.s1 in
-    by_steps {m = (mem X0 T0 N0 J0 L0 H0 S0)} {m' = (mem X0 T0 N0 J1 L1 H1 S1)} (c.requires) (λ b. s_rule {a = (mem X0 T0 N0 J0 L0 H0 S0)} {e = (mem X0 T0 N0 J1 L1 H1 S1)} (s_by {a = (mem X0 T0 N0 J0 L0 H0 S0)} {c = (mem X0 T0 N0 J1 L1 H1 S1)} {e = (mem X0 T0 N0 J1 L1 H1 S1)} _ (runs_in {a = (mem X0 T0 N0 J0 L0 H0 S0)} {c = (mem X0 T0 N0 J1 L1 H1 S1)} ((c.in-Missing.ensures) _)) s_end))
+    let S1 = c.in-Err.s1 in
+    by_steps {m = (mem X0 T0 N0 J0 L0 H0 S0)} {m' = (mem X0 T0 N0 J1 L1 H1 S1)} (c.requires) (λ b. s_rule {a = (mem X0 T0 N0 J0 L0 H0 S0)} {e = (mem X0 T0 N0 J1 L1 H1 S1)} (s_by {a = (mem X0 T0 N0 J0 L0 H0 S0)} {c = (mem X0 T0 N0 J1 L1 H1 S1)} {e = (mem X0 T0 N0 J1 L1 H1 S1)} _ (runs_in {a = (mem X0 T0 N0 J0 L0 H0 S0)} {c = (mem X0 T0 N0 J1 L1 H1 S1)} ((c.in-Err.ensures) _)) s_end))
 
-pub dec-returns-in-At : goal.dec-returns-in-At
+pub dec-returns-in-Ok : goal.dec-returns-in-Ok
 unfolding root.body decl.decs util.maybe_semi_sep decl.semi_closure util.choose plan choose chosen
-dec-returns-in-At t c =
-    let X0 = c.args.text.now in
-    let T0 = c.args.toks.now in
-    let N0 = c.args.env.now in
+dec-returns-in-Ok t c =
+    let X0 = c.args.lent.text.now in
+    let T0 = c.args.lent.toks.now in
+    let N0 = c.args.lent.env.now in
     let J0 = c.args.table.now in
     let L0 = c.args.scratch.now in
     let H0 = c.args.finds.now in
@@ -898,12 +868,12 @@ dec-returns-in-At t c =
     let J1 = c.sem-turn.new.table in
     let L1 = c.sem-turn.new.scratch in
     let H1 = c.sem-turn.new.finds in
-    let S1 = c.in-At.s1 in
+    let S1 = c.in-Ok.s1 in
     let J2 = c.seq-s2.new.table in
     let L2 = c.seq-s2.new.scratch in
     let H2 = c.seq-s2.new.finds in
     let S2 = c.seq-s2.result in
-    by_steps {m = (mem X0 T0 N0 J0 L0 H0 S0)} {m' = (mem X0 T0 N0 J2 L2 H2 S2)} (c.requires) (λ b. s_rule {a = (mem X0 T0 N0 J0 L0 H0 S0)} {e = (mem X0 T0 N0 J2 L2 H2 S2)} (s_by {a = (mem X0 T0 N0 J0 L0 H0 S0)} {c = (mem X0 T0 N0 J1 L1 H1 S1)} {e = (mem X0 T0 N0 J2 L2 H2 S2)} _ (runs_in {a = (mem X0 T0 N0 J0 L0 H0 S0)} {c = (mem X0 T0 N0 J1 L1 H1 S1)} ((c.in-At.ensures) _)) (s_run {a = (mem X0 T0 N0 J1 L1 H1 S1)} {c = (mem X0 T0 N0 J2 L2 H2 S2)} {e = (mem X0 T0 N0 J2 L2 H2 S2)} ((c.seq-s2.ensures) _) s_end)))
+    by_steps {m = (mem X0 T0 N0 J0 L0 H0 S0)} {m' = (mem X0 T0 N0 J2 L2 H2 S2)} (c.requires) (λ b. s_rule {a = (mem X0 T0 N0 J0 L0 H0 S0)} {e = (mem X0 T0 N0 J2 L2 H2 S2)} (s_by {a = (mem X0 T0 N0 J0 L0 H0 S0)} {c = (mem X0 T0 N0 J1 L1 H1 S1)} {e = (mem X0 T0 N0 J2 L2 H2 S2)} _ (runs_in {a = (mem X0 T0 N0 J0 L0 H0 S0)} {c = (mem X0 T0 N0 J1 L1 H1 S1)} ((c.in-Ok.ensures) _)) (s_run {a = (mem X0 T0 N0 J1 L1 H1 S1)} {c = (mem X0 T0 N0 J2 L2 H2 S2)} {e = (mem X0 T0 N0 J2 L2 H2 S2)} ((c.seq-s2.ensures) _) s_end)))
 
 pub end-refuse-requires : goal.end-refuse-requires
 end-refuse-requires t c =
@@ -912,9 +882,9 @@ end-refuse-requires t c =
 pub end-returns-then-left-eq0 : goal.end-returns-then-left-eq0
 unfolding decl.local_tail plan choose chosen decl.ended util.want util.eat hushed
 end-returns-then-left-eq0 t c =
-    let X0 = c.args.text.now in
-    let T0 = c.args.toks.now in
-    let N0 = c.args.env.now in
+    let X0 = c.args.lent.text.now in
+    let T0 = c.args.lent.toks.now in
+    let N0 = c.args.lent.env.now in
     let J0 = c.args.table.now in
     let L0 = c.args.scratch.now in
     let H0 = c.args.finds.now in
@@ -942,8 +912,8 @@ end-dec-got-requires t c =
     let want_ok = ok_eats want mark_ok in
     (omega arith, want_ok)
 
-pub end-state-s3-requires : goal.end-state-s3-requires
-end-state-s3-requires t c =
+pub end-either-s3-requires : goal.end-either-s3-requires
+end-either-s3-requires t c =
     tt
 
 pub end-close-s4-requires : goal.end-close-s4-requires
@@ -953,27 +923,27 @@ end-close-s4-requires t c =
     let mark_ok = ok_marks mark pre0 in
     let dec = c.dec-got.ensures in
     let dec_ok = dec.ok in
-    let state = c.state-s3.ensures in
-    let state_ok = ok_state state dec_ok in
-    (state_ok.logs, small_len mark_ok)
+    let either = c.either-s3.ensures in
+    let either_ok = ok_state either dec_ok in
+    (either_ok.logs, small_len mark_ok)
 
 pub end-end_node-end-requires : goal.end-end_node-end-requires
 end-end_node-end-requires t c =
     let pre1 = c.requires.1 in
     let dec = c.dec-got.ensures in
     let dec_ok = dec.ok in
-    let state = c.state-s3.ensures in
-    let state_ok = ok_state state dec_ok in
+    let either = c.either-s3.ensures in
+    let either_ok = ok_state either dec_ok in
     let close = c.close-s4.ensures in
-    let close_ok = ok_adds close state_ok in
+    let close_ok = ok_adds close either_ok in
     (close_ok, pre1, omega arith)
 
 pub end-returns : goal.end-returns
 unfolding decl.local_tail plan choose chosen
 end-returns t c =
-    let X0 = c.args.text.now in
-    let T0 = c.args.toks.now in
-    let N0 = c.args.env.now in
+    let X0 = c.args.lent.text.now in
+    let T0 = c.args.lent.toks.now in
+    let N0 = c.args.lent.env.now in
     let J0 = c.args.table.now in
     let L0 = c.args.scratch.now in
     let H0 = c.args.finds.now in
@@ -986,13 +956,13 @@ end-returns t c =
     let L4 = c.dec-got.new.scratch in
     let H4 = c.dec-got.new.finds in
     let S4 = out_state c.dec-got.result in
-    let S5 = c.state-s3.result in
+    let S5 = c.either-s3.result in
     let L6 = c.close-s4.new.scratch in
     let S6 = c.close-s4.result in
     let L7 = c.end_node-end.new.scratch in
     let H7 = c.end_node-end.new.finds in
     let S7 = c.end_node-end.result in
-    in_steps {m = (mem X0 T0 N0 J0 L0 H0 S0)} {m' = (mem X0 T0 N0 J4 L7 H7 S7)} (c.requires.0) (s_mark {e = (mem X0 T0 N0 J4 L7 H7 S7)} {x = X0} {t = T0} {n = N0} {j = J0} {l = L0} {h = H0} {s = S0} {s' = S2} (c.if-left-eq0.false) (c.mark-s1.ensures) (s_eats _ _ {x = X0} {t = T0} {n = N0} {j = J0} {l = L0} {h = H0} {l' = L3} {s = S2} {s' = S3} {e = (mem X0 T0 N0 J4 L7 H7 S7)} _ {h' = H3} (c.want-s2.ensures) (s_run {a = (mem X0 T0 N0 J0 L3 H3 S3)} {c = (mem X0 T0 N0 J4 L4 H4 S5)} {e = (mem X0 T0 N0 J4 L7 H7 S7)} (settled (c.state-s3.ensures) (runs_in {a = (mem X0 T0 N0 J0 L3 H3 S3)} {c = (mem X0 T0 N0 J4 L4 H4 S4)} (c.dec-got.ensures))) (s_close {e = (mem X0 T0 N0 J4 L7 H7 S7)} {x = X0} {t = T0} {n = N0} {j = J4} {l = L4} {h = H4} {s = S5} {s' = S6} {l' = L6} (c.close-s4.ensures) (s_by {a = (mem X0 T0 N0 J4 L6 H4 S6)} {c = (mem X0 T0 N0 J4 L7 H7 S7)} {e = (mem X0 T0 N0 J4 L7 H7 S7)} _ (c.end_node-end.ensures) s_end)))))
+    in_steps {m = (mem X0 T0 N0 J0 L0 H0 S0)} {m' = (mem X0 T0 N0 J4 L7 H7 S7)} (c.requires.0) (s_mark {e = (mem X0 T0 N0 J4 L7 H7 S7)} {x = X0} {t = T0} {n = N0} {j = J0} {l = L0} {h = H0} {s = S0} {s' = S2} (c.if-left-eq0.false) (c.mark-s1.ensures) (s_eats _ _ {x = X0} {t = T0} {n = N0} {j = J0} {l = L0} {h = H0} {l' = L3} {s = S2} {s' = S3} {e = (mem X0 T0 N0 J4 L7 H7 S7)} _ {h' = H3} (c.want-s2.ensures) (s_run {a = (mem X0 T0 N0 J0 L3 H3 S3)} {c = (mem X0 T0 N0 J4 L4 H4 S5)} {e = (mem X0 T0 N0 J4 L7 H7 S7)} (settled (c.either-s3.ensures) (runs_in {a = (mem X0 T0 N0 J0 L3 H3 S3)} {c = (mem X0 T0 N0 J4 L4 H4 S4)} (c.dec-got.ensures))) (s_close {e = (mem X0 T0 N0 J4 L7 H7 S7)} {x = X0} {t = T0} {n = N0} {j = J4} {l = L4} {h = H4} {s = S5} {s' = S6} {l' = L6} (c.close-s4.ensures) (s_by {a = (mem X0 T0 N0 J4 L6 H4 S6)} {c = (mem X0 T0 N0 J4 L7 H7 S7)} {e = (mem X0 T0 N0 J4 L7 H7 S7)} _ (c.end_node-end.ensures) s_end)))))
 
 pub eq-at-requires : goal.eq-at-requires
 eq-at-requires t c =
@@ -1006,9 +976,9 @@ eq-refuse-requires t c =
 pub eq-returns-then-left-eq0 : goal.eq-returns-then-left-eq0
 unfolding expr.eq_exp plan choose chosen hushed
 eq-returns-then-left-eq0 t c =
-    let X0 = c.args.text.now in
-    let T0 = c.args.toks.now in
-    let N0 = c.args.env.now in
+    let X0 = c.args.lent.text.now in
+    let T0 = c.args.lent.toks.now in
+    let N0 = c.args.lent.env.now in
     let J0 = c.args.table.now in
     let L0 = c.args.scratch.now in
     let H0 = c.args.finds.now in
@@ -1048,9 +1018,9 @@ eq-close-requires t c =
 pub eq-returns-then-at : goal.eq-returns-then-at
 unfolding expr.eq_exp plan choose chosen
 eq-returns-then-at t c =
-    let X0 = c.args.text.now in
-    let T0 = c.args.toks.now in
-    let N0 = c.args.env.now in
+    let X0 = c.args.lent.text.now in
+    let T0 = c.args.lent.toks.now in
+    let N0 = c.args.lent.env.now in
     let J0 = c.args.table.now in
     let L0 = c.args.scratch.now in
     let H0 = c.args.finds.now in
@@ -1069,9 +1039,9 @@ eq-returns-then-at t c =
 pub eq-returns : goal.eq-returns
 unfolding expr.eq_exp plan choose chosen
 eq-returns t c =
-    let X0 = c.args.text.now in
-    let T0 = c.args.toks.now in
-    let N0 = c.args.env.now in
+    let X0 = c.args.lent.text.now in
+    let T0 = c.args.lent.toks.now in
+    let N0 = c.args.lent.env.now in
     let J0 = c.args.table.now in
     let L0 = c.args.scratch.now in
     let H0 = c.args.finds.now in
@@ -1085,70 +1055,70 @@ ex-op_name-name-requires t c =
 
 pub ex-of_ty-typed-requires : goal.ex-of_ty-typed-requires
 ex-of_ty-typed-requires t c =
-    let op_name = c.in-At.ensures in
+    let op_name = c.in-Ok.ensures in
     let op_name_ok = op_name.ok in
     op_name_ok
 
 pub ex-eq-s3-requires : goal.ex-eq-s3-requires
 ex-eq-s3-requires t c =
-    let of_ty = c.in-Missing-typed.ensures in
+    let of_ty = c.in-Err-typed.ensures in
     let of_ty_ok = of_ty.ok in
     (omega arith, of_ty_ok)
 
-pub ex-returns-in-Missing : goal.ex-returns-in-Missing
+pub ex-returns-in-Err : goal.ex-returns-in-Err
 unfolding decl.ex_bind plan choose chosen
-ex-returns-in-Missing t c =
-    let X0 = c.args.text.now in
-    let T0 = c.args.toks.now in
-    let N0 = c.args.env.now in
+ex-returns-in-Err t c =
+    let X0 = c.args.lent.text.now in
+    let T0 = c.args.lent.toks.now in
+    let N0 = c.args.lent.env.now in
     let J0 = c.args.table.now in
     let L0 = c.args.scratch.now in
     let H0 = c.args.finds.now in
     let S0 = c.args.s in
     let L1 = c.op_name-name.new.scratch in
     let H1 = c.op_name-name.new.finds in
-    let S1 = c.in-Missing.s1 in
-    by_steps {m = (mem X0 T0 N0 J0 L0 H0 S0)} {m' = (mem X0 T0 N0 J0 L1 H1 S1)} (c.requires) (λ b. s_by {a = (mem X0 T0 N0 J0 L0 H0 S0)} {c = (mem X0 T0 N0 J0 L1 H1 S1)} {e = (mem X0 T0 N0 J0 L1 H1 S1)} _ (runs_always {a = (mem X0 T0 N0 J0 L0 H0 S0)} {c = (mem X0 T0 N0 J0 L1 H1 S1)} (c.in-Missing.ensures)) s_end)
+    let S1 = c.in-Err.s1 in
+    by_steps {m = (mem X0 T0 N0 J0 L0 H0 S0)} {m' = (mem X0 T0 N0 J0 L1 H1 S1)} (c.requires) (λ b. s_by {a = (mem X0 T0 N0 J0 L0 H0 S0)} {c = (mem X0 T0 N0 J0 L1 H1 S1)} {e = (mem X0 T0 N0 J0 L1 H1 S1)} _ (runs_always {a = (mem X0 T0 N0 J0 L0 H0 S0)} {c = (mem X0 T0 N0 J0 L1 H1 S1)} (c.in-Err.ensures)) s_end)
 
-pub ex-returns-in-Missing-typed : goal.ex-returns-in-Missing-typed
+pub ex-returns-in-Err-typed : goal.ex-returns-in-Err-typed
 unfolding decl.ex_bind plan choose chosen
-ex-returns-in-Missing-typed t c =
-    let X0 = c.args.text.now in
-    let T0 = c.args.toks.now in
-    let N0 = c.args.env.now in
+ex-returns-in-Err-typed t c =
+    let X0 = c.args.lent.text.now in
+    let T0 = c.args.lent.toks.now in
+    let N0 = c.args.lent.env.now in
     let J0 = c.args.table.now in
     let L0 = c.args.scratch.now in
     let H0 = c.args.finds.now in
     let S0 = c.args.s in
     let L1 = c.op_name-name.new.scratch in
     let H1 = c.op_name-name.new.finds in
-    let S1 = c.in-At.s1 in
+    let S1 = c.in-Ok.s1 in
     let L2 = c.of_ty-typed.new.scratch in
     let H2 = c.of_ty-typed.new.finds in
-    let S2 = c.in-Missing-typed.s2 in
+    let S2 = c.in-Err-typed.s2 in
     let J3 = c.eq-s3.new.table in
     let L3 = c.eq-s3.new.scratch in
     let H3 = c.eq-s3.new.finds in
     let S3 = c.eq-s3.result in
-    by_steps {m = (mem X0 T0 N0 J0 L0 H0 S0)} {m' = (mem X0 T0 N0 J3 L3 H3 S3)} (c.requires) (λ b. s_by {a = (mem X0 T0 N0 J0 L0 H0 S0)} {c = (mem X0 T0 N0 J0 L1 H1 S1)} {e = (mem X0 T0 N0 J3 L3 H3 S3)} _ (runs_always {a = (mem X0 T0 N0 J0 L0 H0 S0)} {c = (mem X0 T0 N0 J0 L1 H1 S1)} (c.in-At.ensures)) (s_by {a = (mem X0 T0 N0 J0 L1 H1 S1)} {c = (mem X0 T0 N0 J0 L2 H2 S2)} {e = (mem X0 T0 N0 J3 L3 H3 S3)} _ (runs_in {a = (mem X0 T0 N0 J0 L1 H1 S1)} {c = (mem X0 T0 N0 J0 L2 H2 S2)} (c.in-Missing-typed.ensures)) (s_by {a = (mem X0 T0 N0 J0 L2 H2 S2)} {c = (mem X0 T0 N0 J3 L3 H3 S3)} {e = (mem X0 T0 N0 J3 L3 H3 S3)} _ (runs_in {a = (mem X0 T0 N0 J0 L2 H2 S2)} {c = (mem X0 T0 N0 J3 L3 H3 S3)} (c.eq-s3.ensures)) s_end)))
+    by_steps {m = (mem X0 T0 N0 J0 L0 H0 S0)} {m' = (mem X0 T0 N0 J3 L3 H3 S3)} (c.requires) (λ b. s_by {a = (mem X0 T0 N0 J0 L0 H0 S0)} {c = (mem X0 T0 N0 J0 L1 H1 S1)} {e = (mem X0 T0 N0 J3 L3 H3 S3)} _ (runs_always {a = (mem X0 T0 N0 J0 L0 H0 S0)} {c = (mem X0 T0 N0 J0 L1 H1 S1)} (c.in-Ok.ensures)) (s_by {a = (mem X0 T0 N0 J0 L1 H1 S1)} {c = (mem X0 T0 N0 J0 L2 H2 S2)} {e = (mem X0 T0 N0 J3 L3 H3 S3)} _ (runs_in {a = (mem X0 T0 N0 J0 L1 H1 S1)} {c = (mem X0 T0 N0 J0 L2 H2 S2)} (c.in-Err-typed.ensures)) (s_by {a = (mem X0 T0 N0 J0 L2 H2 S2)} {c = (mem X0 T0 N0 J3 L3 H3 S3)} {e = (mem X0 T0 N0 J3 L3 H3 S3)} _ (runs_in {a = (mem X0 T0 N0 J0 L2 H2 S2)} {c = (mem X0 T0 N0 J3 L3 H3 S3)} (c.eq-s3.ensures)) s_end)))
 
-pub ex-returns-in-At-typed : goal.ex-returns-in-At-typed
+pub ex-returns-in-Ok-typed : goal.ex-returns-in-Ok-typed
 unfolding decl.ex_bind plan choose chosen
-ex-returns-in-At-typed t c =
-    let X0 = c.args.text.now in
-    let T0 = c.args.toks.now in
-    let N0 = c.args.env.now in
+ex-returns-in-Ok-typed t c =
+    let X0 = c.args.lent.text.now in
+    let T0 = c.args.lent.toks.now in
+    let N0 = c.args.lent.env.now in
     let J0 = c.args.table.now in
     let L0 = c.args.scratch.now in
     let H0 = c.args.finds.now in
     let S0 = c.args.s in
     let L1 = c.op_name-name.new.scratch in
     let H1 = c.op_name-name.new.finds in
-    let S1 = c.in-At.s1 in
+    let S1 = c.in-Ok.s1 in
     let L2 = c.of_ty-typed.new.scratch in
     let H2 = c.of_ty-typed.new.finds in
-    let S2 = c.in-At-typed.s2 in
-    by_steps {m = (mem X0 T0 N0 J0 L0 H0 S0)} {m' = (mem X0 T0 N0 J0 L2 H2 S2)} (c.requires) (λ b. s_by {a = (mem X0 T0 N0 J0 L0 H0 S0)} {c = (mem X0 T0 N0 J0 L1 H1 S1)} {e = (mem X0 T0 N0 J0 L2 H2 S2)} _ (runs_always {a = (mem X0 T0 N0 J0 L0 H0 S0)} {c = (mem X0 T0 N0 J0 L1 H1 S1)} (c.in-At.ensures)) (s_by {a = (mem X0 T0 N0 J0 L1 H1 S1)} {c = (mem X0 T0 N0 J0 L2 H2 S2)} {e = (mem X0 T0 N0 J0 L2 H2 S2)} _ (runs_in {a = (mem X0 T0 N0 J0 L1 H1 S1)} {c = (mem X0 T0 N0 J0 L2 H2 S2)} (c.in-At-typed.ensures)) s_end))
+    let S2 = c.in-Ok-typed.s2 in
+    by_steps {m = (mem X0 T0 N0 J0 L0 H0 S0)} {m' = (mem X0 T0 N0 J0 L2 H2 S2)} (c.requires) (λ b. s_by {a = (mem X0 T0 N0 J0 L0 H0 S0)} {c = (mem X0 T0 N0 J0 L1 H1 S1)} {e = (mem X0 T0 N0 J0 L2 H2 S2)} _ (runs_always {a = (mem X0 T0 N0 J0 L0 H0 S0)} {c = (mem X0 T0 N0 J0 L1 H1 S1)} (c.in-Ok.ensures)) (s_by {a = (mem X0 T0 N0 J0 L1 H1 S1)} {c = (mem X0 T0 N0 J0 L2 H2 S2)} {e = (mem X0 T0 N0 J0 L2 H2 S2)} _ (runs_in {a = (mem X0 T0 N0 J0 L1 H1 S1)} {c = (mem X0 T0 N0 J0 L2 H2 S2)} (c.in-Ok-typed.ensures)) s_end))
 
 pub exp-pre-got-requires : goal.exp-pre-got-requires
 exp-pre-got-requires t c =
@@ -1157,16 +1127,16 @@ exp-pre-got-requires t c =
 
 pub exp-report-requires : goal.exp-report-requires
 exp-report-requires t c =
-    let pre = c.in-Missing.ensures in
+    let pre = c.in-Err.ensures in
     let pre_ok = pre.ok in
     (pre_ok.holds, (let few = pre_ok.reads.few in let inside = pre_ok.reads.inside in omega arith), omega arith)
 
-pub exp-returns-in-At : goal.exp-returns-in-At
+pub exp-returns-in-Ok : goal.exp-returns-in-Ok
 unfolding expr.exp_must plan choose chosen
-exp-returns-in-At t c =
-    let X0 = c.args.text.now in
-    let T0 = c.args.toks.now in
-    let N0 = c.args.env.now in
+exp-returns-in-Ok t c =
+    let X0 = c.args.lent.text.now in
+    let T0 = c.args.lent.toks.now in
+    let N0 = c.args.lent.env.now in
     let J0 = c.args.table.now in
     let L0 = c.args.scratch.now in
     let H0 = c.args.finds.now in
@@ -1174,15 +1144,15 @@ exp-returns-in-At t c =
     let J1 = c.pre-got.new.table in
     let L1 = c.pre-got.new.scratch in
     let H1 = c.pre-got.new.finds in
-    let S1 = c.in-At.s1 in
-    by_steps {m = (mem X0 T0 N0 J0 L0 H0 S0)} {m' = (mem X0 T0 N0 J1 L1 H1 S1)} (c.requires) (λ b. s_run {a = (mem X0 T0 N0 J0 L0 H0 S0)} {c = (mem X0 T0 N0 J1 L1 H1 S1)} {e = (mem X0 T0 N0 J1 L1 H1 S1)} (runs_in {a = (mem X0 T0 N0 J0 L0 H0 S0)} {c = (mem X0 T0 N0 J1 L1 H1 S1)} (c.in-At.ensures)) s_end)
+    let S1 = c.in-Ok.s1 in
+    by_steps {m = (mem X0 T0 N0 J0 L0 H0 S0)} {m' = (mem X0 T0 N0 J1 L1 H1 S1)} (c.requires) (λ b. s_run {a = (mem X0 T0 N0 J0 L0 H0 S0)} {c = (mem X0 T0 N0 J1 L1 H1 S1)} {e = (mem X0 T0 N0 J1 L1 H1 S1)} (runs_in {a = (mem X0 T0 N0 J0 L0 H0 S0)} {c = (mem X0 T0 N0 J1 L1 H1 S1)} (c.in-Ok.ensures)) s_end)
 
-pub exp-returns-in-Missing : goal.exp-returns-in-Missing
+pub exp-returns-in-Err : goal.exp-returns-in-Err
 unfolding expr.exp_must plan choose chosen
-exp-returns-in-Missing t c =
-    let X0 = c.args.text.now in
-    let T0 = c.args.toks.now in
-    let N0 = c.args.env.now in
+exp-returns-in-Err t c =
+    let X0 = c.args.lent.text.now in
+    let T0 = c.args.lent.toks.now in
+    let N0 = c.args.lent.env.now in
     let J0 = c.args.table.now in
     let L0 = c.args.scratch.now in
     let H0 = c.args.finds.now in
@@ -1190,10 +1160,10 @@ exp-returns-in-Missing t c =
     let J1 = c.pre-got.new.table in
     let L1 = c.pre-got.new.scratch in
     let H1 = c.pre-got.new.finds in
-    let S1 = c.in-Missing.s1 in
+    let S1 = c.in-Err.s1 in
     let H2 = c.report.new.finds in
     let S2 = c.report.result in
-    by_steps {m = (mem X0 T0 N0 J0 L0 H0 S0)} {m' = (mem X0 T0 N0 J1 L1 H2 S2)} (c.requires) (λ b. s_run {a = (mem X0 T0 N0 J0 L0 H0 S0)} {c = (mem X0 T0 N0 J1 L1 H1 S1)} {e = (mem X0 T0 N0 J1 L1 H2 S2)} (runs_in {a = (mem X0 T0 N0 J0 L0 H0 S0)} {c = (mem X0 T0 N0 J1 L1 H1 S1)} (c.in-Missing.ensures)) (s_report {e = (mem X0 T0 N0 J1 L1 H2 S2)} {x = X0} {t = T0} {n = N0} {j = J1} {l = L1} {h = H1} {s = S1} {s' = S2} {h' = H2} (c.report.ensures) s_end))
+    by_steps {m = (mem X0 T0 N0 J0 L0 H0 S0)} {m' = (mem X0 T0 N0 J1 L1 H2 S2)} (c.requires) (λ b. s_run {a = (mem X0 T0 N0 J0 L0 H0 S0)} {c = (mem X0 T0 N0 J1 L1 H1 S1)} {e = (mem X0 T0 N0 J1 L1 H2 S2)} (runs_in {a = (mem X0 T0 N0 J0 L0 H0 S0)} {c = (mem X0 T0 N0 J1 L1 H1 S1)} (c.in-Err.ensures)) (s_report {e = (mem X0 T0 N0 J1 L1 H2 S2)} {x = X0} {t = T0} {n = N0} {j = J1} {l = L1} {h = H1} {s = S1} {s' = S2} {h' = H2} (c.report.ensures) s_end))
 
 pub fap-app_start-s1-requires : goal.fap-app_start-s1-requires
 fap-app_start-s1-requires t c =
@@ -1207,9 +1177,9 @@ fap-refuse-requires t c =
 pub fap-returns-then-left-eq0 : goal.fap-returns-then-left-eq0
 unfolding decl.str_app plan choose chosen decl.ended util.want util.eat hushed
 fap-returns-then-left-eq0 t c =
-    let X0 = c.args.text.now in
-    let T0 = c.args.toks.now in
-    let N0 = c.args.env.now in
+    let X0 = c.args.lent.text.now in
+    let T0 = c.args.lent.toks.now in
+    let N0 = c.args.lent.env.now in
     let J0 = c.args.table.now in
     let L0 = c.args.scratch.now in
     let H0 = c.args.finds.now in
@@ -1238,14 +1208,14 @@ fap-close-s4-requires t c =
     let app_start_ok = app_start.ok in
     let mark = c.mark-s2.ensures in
     let mark_ok = ok_marks mark app_start_ok in
-    let stx = c.in-At.ensures in
+    let stx = c.in-Ok.ensures in
     let stx_ok = stx.ok in
     (stx_ok.logs, small_len mark_ok)
 
 pub fap-end_node-end-requires : goal.fap-end_node-end-requires
 fap-end_node-end-requires t c =
     let pre1 = c.requires.1 in
-    let stx = c.in-At.ensures in
+    let stx = c.in-Ok.ensures in
     let stx_ok = stx.ok in
     let close = c.close-s4.ensures in
     let close_ok = ok_adds close stx_ok in
@@ -1253,35 +1223,35 @@ fap-end_node-end-requires t c =
 
 pub fap-dec-got-requires : goal.fap-dec-got-requires
 fap-dec-got-requires t c =
-    let stx = c.in-Missing.ensures in
+    let stx = c.in-Err.ensures in
     let stx_ok = stx.ok in
     (omega arith, stx_ok)
 
-pub fap-state-s4-requires : goal.fap-state-s4-requires
-fap-state-s4-requires t c =
+pub fap-either-s4-requires : goal.fap-either-s4-requires
+fap-either-s4-requires t c =
     tt
 
 pub fap-give_back-s5-requires : goal.fap-give_back-s5-requires
 fap-give_back-s5-requires t c =
     tt
 
-pub fap-end_node-end-requires-in-Missing : goal.fap-end_node-end-requires-in-Missing
-fap-end_node-end-requires-in-Missing t c =
+pub fap-end_node-end-requires-in-Err : goal.fap-end_node-end-requires-in-Err
+fap-end_node-end-requires-in-Err t c =
     let pre1 = c.requires.1 in
-    let stx = c.in-Missing.ensures in
+    let stx = c.in-Err.ensures in
     let stx_ok = stx.ok in
     let dec = c.dec-got.ensures in
-    let state = c.state-s4.ensures in
+    let either = c.either-s4.ensures in
     let give_back = c.give_back-s5.ensures in
-    let give_back_ok = ok_back (settled state (runs_in {b = 0} dec)) give_back stx_ok in
+    let give_back_ok = ok_back (settled either (runs_in {b = 0} dec)) give_back stx_ok in
     (give_back_ok, pre1, omega arith)
 
-pub fap-returns-in-At : goal.fap-returns-in-At
+pub fap-returns-in-Ok : goal.fap-returns-in-Ok
 unfolding decl.str_app plan choose chosen
-fap-returns-in-At t c =
-    let X0 = c.args.text.now in
-    let T0 = c.args.toks.now in
-    let N0 = c.args.env.now in
+fap-returns-in-Ok t c =
+    let X0 = c.args.lent.text.now in
+    let T0 = c.args.lent.toks.now in
+    let N0 = c.args.lent.env.now in
     let J0 = c.args.table.now in
     let L0 = c.args.scratch.now in
     let H0 = c.args.finds.now in
@@ -1293,20 +1263,20 @@ fap-returns-in-At t c =
     let J4 = c.stx-found.new.table in
     let L4 = c.stx-found.new.scratch in
     let H4 = c.stx-found.new.finds in
-    let S4 = c.in-At.s3 in
+    let S4 = c.in-Ok.s3 in
     let L5 = c.close-s4.new.scratch in
     let S5 = c.close-s4.result in
     let L6 = c.end_node-end.new.scratch in
     let H6 = c.end_node-end.new.finds in
     let S6 = c.end_node-end.result in
-    in_steps {m = (mem X0 T0 N0 J0 L0 H0 S0)} {m' = (mem X0 T0 N0 J4 L6 H6 S6)} (c.requires.0) (s_by {a = (mem X0 T0 N0 J0 L0 H0 S0)} {c = (mem X0 T0 N0 J0 L1 H1 S1)} {e = (mem X0 T0 N0 J4 L6 H6 S6)} _ (runs_in {a = (mem X0 T0 N0 J0 L0 H0 S0)} {c = (mem X0 T0 N0 J0 L1 H1 S1)} (c.app_start-s1.ensures)) (s_mark {e = (mem X0 T0 N0 J4 L6 H6 S6)} {x = X0} {t = T0} {n = N0} {j = J0} {l = L1} {h = H1} {s = S1} {s' = S3} (c.if-left-eq0.false) (c.mark-s2.ensures) (s_run {a = (mem X0 T0 N0 J0 L1 H1 S3)} {c = (mem X0 T0 N0 J4 L4 H4 S4)} {e = (mem X0 T0 N0 J4 L6 H6 S6)} (runs_in {a = (mem X0 T0 N0 J0 L1 H1 S3)} {c = (mem X0 T0 N0 J4 L4 H4 S4)} (c.in-At.ensures)) (s_close {e = (mem X0 T0 N0 J4 L6 H6 S6)} {x = X0} {t = T0} {n = N0} {j = J4} {l = L4} {h = H4} {s = S4} {s' = S5} {l' = L5} (c.close-s4.ensures) (s_by {a = (mem X0 T0 N0 J4 L5 H4 S5)} {c = (mem X0 T0 N0 J4 L6 H6 S6)} {e = (mem X0 T0 N0 J4 L6 H6 S6)} _ (c.end_node-end.ensures) s_end)))))
+    in_steps {m = (mem X0 T0 N0 J0 L0 H0 S0)} {m' = (mem X0 T0 N0 J4 L6 H6 S6)} (c.requires.0) (s_by {a = (mem X0 T0 N0 J0 L0 H0 S0)} {c = (mem X0 T0 N0 J0 L1 H1 S1)} {e = (mem X0 T0 N0 J4 L6 H6 S6)} _ (runs_in {a = (mem X0 T0 N0 J0 L0 H0 S0)} {c = (mem X0 T0 N0 J0 L1 H1 S1)} (c.app_start-s1.ensures)) (s_mark {e = (mem X0 T0 N0 J4 L6 H6 S6)} {x = X0} {t = T0} {n = N0} {j = J0} {l = L1} {h = H1} {s = S1} {s' = S3} (c.if-left-eq0.false) (c.mark-s2.ensures) (s_run {a = (mem X0 T0 N0 J0 L1 H1 S3)} {c = (mem X0 T0 N0 J4 L4 H4 S4)} {e = (mem X0 T0 N0 J4 L6 H6 S6)} (runs_in {a = (mem X0 T0 N0 J0 L1 H1 S3)} {c = (mem X0 T0 N0 J4 L4 H4 S4)} (c.in-Ok.ensures)) (s_close {e = (mem X0 T0 N0 J4 L6 H6 S6)} {x = X0} {t = T0} {n = N0} {j = J4} {l = L4} {h = H4} {s = S4} {s' = S5} {l' = L5} (c.close-s4.ensures) (s_by {a = (mem X0 T0 N0 J4 L5 H4 S5)} {c = (mem X0 T0 N0 J4 L6 H6 S6)} {e = (mem X0 T0 N0 J4 L6 H6 S6)} _ (c.end_node-end.ensures) s_end)))))
 
-pub fap-returns-in-Missing : goal.fap-returns-in-Missing
+pub fap-returns-in-Err : goal.fap-returns-in-Err
 unfolding decl.str_app plan choose chosen
-fap-returns-in-Missing t c =
-    let X0 = c.args.text.now in
-    let T0 = c.args.toks.now in
-    let N0 = c.args.env.now in
+fap-returns-in-Err t c =
+    let X0 = c.args.lent.text.now in
+    let T0 = c.args.lent.toks.now in
+    let N0 = c.args.lent.env.now in
     let J0 = c.args.table.now in
     let L0 = c.args.scratch.now in
     let H0 = c.args.finds.now in
@@ -1318,17 +1288,17 @@ fap-returns-in-Missing t c =
     let J4 = c.stx-found.new.table in
     let L4 = c.stx-found.new.scratch in
     let H4 = c.stx-found.new.finds in
-    let S4 = c.in-Missing.s3 in
+    let S4 = c.in-Err.s3 in
     let J5 = c.dec-got.new.table in
     let L5 = c.dec-got.new.scratch in
     let H5 = c.dec-got.new.finds in
     let S5 = out_state c.dec-got.result in
-    let S6 = c.state-s4.result in
+    let S6 = c.either-s4.result in
     let S7 = c.give_back-s5.result in
-    let L8 = c.end_node-end-in-Missing.new.scratch in
-    let H8 = c.end_node-end-in-Missing.new.finds in
-    let S8 = c.end_node-end-in-Missing.result in
-    in_steps {m = (mem X0 T0 N0 J0 L0 H0 S0)} {m' = (mem X0 T0 N0 J5 L8 H8 S8)} (c.requires.0) (s_by {a = (mem X0 T0 N0 J0 L0 H0 S0)} {c = (mem X0 T0 N0 J0 L1 H1 S1)} {e = (mem X0 T0 N0 J5 L8 H8 S8)} _ (runs_in {a = (mem X0 T0 N0 J0 L0 H0 S0)} {c = (mem X0 T0 N0 J0 L1 H1 S1)} (c.app_start-s1.ensures)) (s_mark {e = (mem X0 T0 N0 J5 L8 H8 S8)} {x = X0} {t = T0} {n = N0} {j = J0} {l = L1} {h = H1} {s = S1} {s' = S3} (c.if-left-eq0.false) (c.mark-s2.ensures) (s_run {a = (mem X0 T0 N0 J0 L1 H1 S3)} {c = (mem X0 T0 N0 J4 L4 H4 S4)} {e = (mem X0 T0 N0 J5 L8 H8 S8)} (runs_in {a = (mem X0 T0 N0 J0 L1 H1 S3)} {c = (mem X0 T0 N0 J4 L4 H4 S4)} (c.in-Missing.ensures)) (s_scoped {x = X0} {t = T0} {e = N0} {j = J4} {l = L4} {y = H4} {j' = J5} {l' = L5} {y' = H5} {s = S4} {s' = S6} {c = (mem X0 T0 N0 J5 L8 H8 S8)} {r = S7} (settled (c.state-s4.ensures) (runs_in {a = (mem X0 T0 N0 J4 L4 H4 S4)} {c = (mem X0 T0 N0 J5 L5 H5 S5)} (c.dec-got.ensures))) (c.give_back-s5.ensures) (s_by {a = (mem X0 T0 N0 J5 L5 H5 S7)} {c = (mem X0 T0 N0 J5 L8 H8 S8)} {e = (mem X0 T0 N0 J5 L8 H8 S8)} _ (c.end_node-end-in-Missing.ensures) s_end)))))
+    let L8 = c.end_node-end-in-Err.new.scratch in
+    let H8 = c.end_node-end-in-Err.new.finds in
+    let S8 = c.end_node-end-in-Err.result in
+    in_steps {m = (mem X0 T0 N0 J0 L0 H0 S0)} {m' = (mem X0 T0 N0 J5 L8 H8 S8)} (c.requires.0) (s_by {a = (mem X0 T0 N0 J0 L0 H0 S0)} {c = (mem X0 T0 N0 J0 L1 H1 S1)} {e = (mem X0 T0 N0 J5 L8 H8 S8)} _ (runs_in {a = (mem X0 T0 N0 J0 L0 H0 S0)} {c = (mem X0 T0 N0 J0 L1 H1 S1)} (c.app_start-s1.ensures)) (s_mark {e = (mem X0 T0 N0 J5 L8 H8 S8)} {x = X0} {t = T0} {n = N0} {j = J0} {l = L1} {h = H1} {s = S1} {s' = S3} (c.if-left-eq0.false) (c.mark-s2.ensures) (s_run {a = (mem X0 T0 N0 J0 L1 H1 S3)} {c = (mem X0 T0 N0 J4 L4 H4 S4)} {e = (mem X0 T0 N0 J5 L8 H8 S8)} (runs_in {a = (mem X0 T0 N0 J0 L1 H1 S3)} {c = (mem X0 T0 N0 J4 L4 H4 S4)} (c.in-Err.ensures)) (s_scoped {x = X0} {t = T0} {e = N0} {j = J4} {l = L4} {y = H4} {j' = J5} {l' = L5} {y' = H5} {s = S4} {s' = S6} {c = (mem X0 T0 N0 J5 L8 H8 S8)} {r = S7} (settled (c.either-s4.ensures) (runs_in {a = (mem X0 T0 N0 J4 L4 H4 S4)} {c = (mem X0 T0 N0 J5 L5 H5 S5)} (c.dec-got.ensures))) (c.give_back-s5.ensures) (s_by {a = (mem X0 T0 N0 J5 L5 H5 S7)} {c = (mem X0 T0 N0 J5 L8 H8 S8)} {e = (mem X0 T0 N0 J5 L8 H8 S8)} _ (c.end_node-end-in-Err.ensures) s_end)))))
 
 pub fct-eat-name-requires : goal.fct-eat-name-requires
 fct-eat-name-requires t c =
@@ -1338,14 +1308,14 @@ fct-eat-name-requires t c =
 pub fct-want-s2-requires : goal.fct-want-s2-requires
 fct-want-s2-requires t c =
     let pre0 = c.requires in
-    let eat = c.in-At.ensures in
+    let eat = c.in-Ok.ensures in
     let eat_ok = ok_eats eat pre0 in
     (eat_ok.reads, eat_ok.logs, eat_ok.holds, omega arith)
 
 pub fct-pa-s3-requires : goal.fct-pa-s3-requires
 fct-pa-s3-requires t c =
     let pre0 = c.requires in
-    let eat = c.in-At.ensures in
+    let eat = c.in-Ok.ensures in
     let eat_ok = ok_eats eat pre0 in
     let want = c.want-s2.ensures in
     let want_ok = ok_eats want eat_ok in
@@ -1379,34 +1349,34 @@ fct-stm-s7-requires t c =
     let want3_ok = ok_eats want3 aso_ok in
     (omega arith, want3_ok)
 
-pub fct-returns-in-Missing : goal.fct-returns-in-Missing
+pub fct-returns-in-Err : goal.fct-returns-in-Err
 unfolding decl.functor_bind plan choose chosen
-fct-returns-in-Missing t c =
-    let X0 = c.args.text.now in
-    let T0 = c.args.toks.now in
-    let N0 = c.args.env.now in
+fct-returns-in-Err t c =
+    let X0 = c.args.lent.text.now in
+    let T0 = c.args.lent.toks.now in
+    let N0 = c.args.lent.env.now in
     let J0 = c.args.table.now in
     let L0 = c.args.scratch.now in
     let H0 = c.args.finds.now in
     let S0 = c.args.s in
     let L1 = c.eat-name.new.scratch in
     let H1 = c.eat-name.new.finds in
-    let S1 = c.in-Missing.s1 in
-    by_steps {m = (mem X0 T0 N0 J0 L0 H0 S0)} {m' = (mem X0 T0 N0 J0 L1 H1 S1)} (c.requires) (λ b. s_eats _ _ {x = X0} {t = T0} {n = N0} {j = J0} {l = L0} {h = H0} {l' = L1} {s = S0} {s' = S1} {e = (mem X0 T0 N0 J0 L1 H1 S1)} _ {h' = H1} (c.in-Missing.ensures) s_end)
+    let S1 = c.in-Err.s1 in
+    by_steps {m = (mem X0 T0 N0 J0 L0 H0 S0)} {m' = (mem X0 T0 N0 J0 L1 H1 S1)} (c.requires) (λ b. s_eats _ _ {x = X0} {t = T0} {n = N0} {j = J0} {l = L0} {h = H0} {l' = L1} {s = S0} {s' = S1} {e = (mem X0 T0 N0 J0 L1 H1 S1)} _ {h' = H1} (c.in-Err.ensures) s_end)
 
-pub fct-returns-in-At : goal.fct-returns-in-At
+pub fct-returns-in-Ok : goal.fct-returns-in-Ok
 unfolding decl.functor_bind plan choose chosen
-fct-returns-in-At t c =
-    let X0 = c.args.text.now in
-    let T0 = c.args.toks.now in
-    let N0 = c.args.env.now in
+fct-returns-in-Ok t c =
+    let X0 = c.args.lent.text.now in
+    let T0 = c.args.lent.toks.now in
+    let N0 = c.args.lent.env.now in
     let J0 = c.args.table.now in
     let L0 = c.args.scratch.now in
     let H0 = c.args.finds.now in
     let S0 = c.args.s in
     let L1 = c.eat-name.new.scratch in
     let H1 = c.eat-name.new.finds in
-    let S1 = c.in-At.s1 in
+    let S1 = c.in-Ok.s1 in
     let L2 = c.want-s2.new.scratch in
     let H2 = c.want-s2.new.finds in
     let S2 = c.want-s2.result in
@@ -1428,7 +1398,7 @@ fct-returns-in-At t c =
     let L7 = c.stm-s7.new.scratch in
     let H7 = c.stm-s7.new.finds in
     let S7 = c.stm-s7.result in
-    by_steps {m = (mem X0 T0 N0 J0 L0 H0 S0)} {m' = (mem X0 T0 N0 J7 L7 H7 S7)} (c.requires) (λ b. s_eats _ _ {x = X0} {t = T0} {n = N0} {j = J0} {l = L0} {h = H0} {l' = L1} {s = S0} {s' = S1} {e = (mem X0 T0 N0 J7 L7 H7 S7)} _ {h' = H1} (c.in-At.ensures) (s_eats _ _ {x = X0} {t = T0} {n = N0} {j = J0} {l = L1} {h = H1} {l' = L2} {s = S1} {s' = S2} {e = (mem X0 T0 N0 J7 L7 H7 S7)} _ {h' = H2} (c.want-s2.ensures) (s_by {a = (mem X0 T0 N0 J0 L2 H2 S2)} {c = (mem X0 T0 N0 J3 L3 H3 S3)} {e = (mem X0 T0 N0 J7 L7 H7 S7)} _ (runs_in {a = (mem X0 T0 N0 J0 L2 H2 S2)} {c = (mem X0 T0 N0 J3 L3 H3 S3)} (c.pa-s3.ensures)) (s_eats _ _ {x = X0} {t = T0} {n = N0} {j = J3} {l = L3} {h = H3} {l' = L4} {s = S3} {s' = S4} {e = (mem X0 T0 N0 J7 L7 H7 S7)} _ {h' = H4} (c.want-s4.ensures) (s_by {a = (mem X0 T0 N0 J3 L4 H4 S4)} {c = (mem X0 T0 N0 J5 L5 H5 S5)} {e = (mem X0 T0 N0 J7 L7 H7 S7)} _ (runs_in {a = (mem X0 T0 N0 J3 L4 H4 S4)} {c = (mem X0 T0 N0 J5 L5 H5 S5)} (c.aso-s5.ensures)) (s_eats _ _ {x = X0} {t = T0} {n = N0} {j = J5} {l = L5} {h = H5} {l' = L6} {s = S5} {s' = S6} {e = (mem X0 T0 N0 J7 L7 H7 S7)} _ {h' = H6} (c.want-s6.ensures) (s_by {a = (mem X0 T0 N0 J5 L6 H6 S6)} {c = (mem X0 T0 N0 J7 L7 H7 S7)} {e = (mem X0 T0 N0 J7 L7 H7 S7)} _ (runs_in {a = (mem X0 T0 N0 J5 L6 H6 S6)} {c = (mem X0 T0 N0 J7 L7 H7 S7)} (c.stm-s7.ensures)) s_end)))))))
+    by_steps {m = (mem X0 T0 N0 J0 L0 H0 S0)} {m' = (mem X0 T0 N0 J7 L7 H7 S7)} (c.requires) (λ b. s_eats _ _ {x = X0} {t = T0} {n = N0} {j = J0} {l = L0} {h = H0} {l' = L1} {s = S0} {s' = S1} {e = (mem X0 T0 N0 J7 L7 H7 S7)} _ {h' = H1} (c.in-Ok.ensures) (s_eats _ _ {x = X0} {t = T0} {n = N0} {j = J0} {l = L1} {h = H1} {l' = L2} {s = S1} {s' = S2} {e = (mem X0 T0 N0 J7 L7 H7 S7)} _ {h' = H2} (c.want-s2.ensures) (s_by {a = (mem X0 T0 N0 J0 L2 H2 S2)} {c = (mem X0 T0 N0 J3 L3 H3 S3)} {e = (mem X0 T0 N0 J7 L7 H7 S7)} _ (runs_in {a = (mem X0 T0 N0 J0 L2 H2 S2)} {c = (mem X0 T0 N0 J3 L3 H3 S3)} (c.pa-s3.ensures)) (s_eats _ _ {x = X0} {t = T0} {n = N0} {j = J3} {l = L3} {h = H3} {l' = L4} {s = S3} {s' = S4} {e = (mem X0 T0 N0 J7 L7 H7 S7)} _ {h' = H4} (c.want-s4.ensures) (s_by {a = (mem X0 T0 N0 J3 L4 H4 S4)} {c = (mem X0 T0 N0 J5 L5 H5 S5)} {e = (mem X0 T0 N0 J7 L7 H7 S7)} _ (runs_in {a = (mem X0 T0 N0 J3 L4 H4 S4)} {c = (mem X0 T0 N0 J5 L5 H5 S5)} (c.aso-s5.ensures)) (s_eats _ _ {x = X0} {t = T0} {n = N0} {j = J5} {l = L5} {h = H5} {l' = L6} {s = S5} {s' = S6} {e = (mem X0 T0 N0 J7 L7 H7 S7)} _ {h' = H6} (c.want-s6.ensures) (s_by {a = (mem X0 T0 N0 J5 L6 H6 S6)} {c = (mem X0 T0 N0 J7 L7 H7 S7)} {e = (mem X0 T0 N0 J7 L7 H7 S7)} _ (runs_in {a = (mem X0 T0 N0 J5 L6 H6 S6)} {c = (mem X0 T0 N0 J7 L7 H7 S7)} (c.stm-s7.ensures)) s_end)))))))
 
 pub fun-bump_if-s1-requires : goal.fun-bump_if-s1-requires
 fun-bump_if-s1-requires t c =
@@ -1445,9 +1415,9 @@ fun-mny-s2-requires t c =
 pub fun-returns : goal.fun-returns
 unfolding decl.fun_bind util.many_sep decl.many_closure util.choose plan choose chosen
 fun-returns t c =
-    let X0 = c.args.text.now in
-    let T0 = c.args.toks.now in
-    let N0 = c.args.env.now in
+    let X0 = c.args.lent.text.now in
+    let T0 = c.args.lent.toks.now in
+    let N0 = c.args.lent.env.now in
     let J0 = c.args.table.now in
     let L0 = c.args.scratch.now in
     let H0 = c.args.finds.now in
@@ -1479,9 +1449,9 @@ hs-refuse-requires t c =
 pub hs-returns-then-left-eq0 : goal.hs-returns-then-left-eq0
 unfolding expr.hash_exp expr.end_closure util.choose plan choose chosen hushed
 hs-returns-then-left-eq0 t c =
-    let X0 = c.args.text.now in
-    let T0 = c.args.toks.now in
-    let N0 = c.args.env.now in
+    let X0 = c.args.lent.text.now in
+    let T0 = c.args.lent.toks.now in
+    let N0 = c.args.lent.env.now in
     let J0 = c.args.table.now in
     let L0 = c.args.scratch.now in
     let H0 = c.args.finds.now in
@@ -1525,9 +1495,9 @@ hs-close-requires t c =
 pub hs-returns-then-at : goal.hs-returns-then-at
 unfolding expr.hash_exp expr.end_closure util.choose plan choose chosen
 hs-returns-then-at t c =
-    let X0 = c.args.text.now in
-    let T0 = c.args.toks.now in
-    let N0 = c.args.env.now in
+    let X0 = c.args.lent.text.now in
+    let T0 = c.args.lent.toks.now in
+    let N0 = c.args.lent.env.now in
     let J0 = c.args.table.now in
     let L0 = c.args.scratch.now in
     let H0 = c.args.finds.now in
@@ -1565,9 +1535,9 @@ hs-close-requires-2 t c =
 pub hs-returns : goal.hs-returns
 unfolding expr.hash_exp expr.end_closure util.choose plan choose chosen
 hs-returns t c =
-    let X0 = c.args.text.now in
-    let T0 = c.args.toks.now in
-    let N0 = c.args.env.now in
+    let X0 = c.args.lent.text.now in
+    let T0 = c.args.lent.toks.now in
+    let N0 = c.args.lent.env.now in
     let J0 = c.args.table.now in
     let L0 = c.args.scratch.now in
     let H0 = c.args.finds.now in
@@ -1593,19 +1563,19 @@ ic-sgx-turn-requires t c =
 
 pub ic-loop-s2-smaller : goal.ic-loop-s2-smaller
 ic-loop-s2-smaller t c =
-    let sgx = c.in-At.ensures in
+    let sgx = c.in-Ok.ensures in
     loop_falls (sig_exp_advances _ _) (runs_in {b = 0} sgx)
 
 pub ic-loop-s2-preserved : goal.ic-loop-s2-preserved
 ic-loop-s2-preserved t c =
     let inv = c.loop-s2.invariant in
-    let sgx = c.in-At.ensures in
+    let sgx = c.in-Ok.ensures in
     loop_goes (sig_exp_advances _ _) inv (runs_in sgx)
 
-pub ic-returns-in-Missing : goal.ic-returns-in-Missing
-ic-returns-in-Missing t c =
+pub ic-returns-in-Err : goal.ic-returns-in-Err
+ic-returns-in-Err t c =
     let inv = c.loop-s2.invariant in
-    let sgx = c.in-Missing.ensures in
+    let sgx = c.in-Err.ensures in
     loop_ends (sig_exp_advances _ _) inv (runs_in sgx)
 
 pub id-fixity_at-fix-requires : goal.id-fixity_at-fix-requires
@@ -1625,12 +1595,12 @@ id-opr-requires t c =
     let pre1 = c.requires.1 in
     (omega arith, (pre0, pre1))
 
-pub id-returns-in-Nonfix : goal.id-returns-in-Nonfix
+pub id-returns-in-None : goal.id-returns-in-None
 unfolding expr.name_step plan choose chosen
-id-returns-in-Nonfix t c =
-    let X0 = c.args.text.now in
-    let T0 = c.args.toks.now in
-    let N0 = c.args.env.now in
+id-returns-in-None t c =
+    let X0 = c.args.lent.text.now in
+    let T0 = c.args.lent.toks.now in
+    let N0 = c.args.lent.env.now in
     let J0 = c.args.table.now in
     let L0 = c.args.scratch.now in
     let H0 = c.args.finds.now in
@@ -1639,14 +1609,14 @@ id-returns-in-Nonfix t c =
     let L2 = c.app-s1.new.scratch in
     let H2 = c.app-s1.new.finds in
     let S2 = c.app-s1.result in
-    in_steps {m = (mem X0 T0 N0 J0 L0 H0 S0)} {m' = (mem X0 T0 N0 J2 L2 H2 S2)} (c.requires.0) (s_fixed {a = (mem X0 T0 N0 J0 L0 H0 S0)} {e = (mem X0 T0 N0 J2 L2 H2 S2)} (c.in-Nonfix.ensures) (s_by {a = (mem X0 T0 N0 J0 L0 H0 S0)} {c = (mem X0 T0 N0 J2 L2 H2 S2)} {e = (mem X0 T0 N0 J2 L2 H2 S2)} _ (c.app-s1.ensures) s_end))
+    in_steps {m = (mem X0 T0 N0 J0 L0 H0 S0)} {m' = (mem X0 T0 N0 J2 L2 H2 S2)} (c.requires.0) (s_fixed {a = (mem X0 T0 N0 J0 L0 H0 S0)} {e = (mem X0 T0 N0 J2 L2 H2 S2)} (c.in-None.ensures) (s_by {a = (mem X0 T0 N0 J0 L0 H0 S0)} {c = (mem X0 T0 N0 J2 L2 H2 S2)} {e = (mem X0 T0 N0 J2 L2 H2 S2)} _ (c.app-s1.ensures) s_end))
 
-pub id-returns-in-Is : goal.id-returns-in-Is
+pub id-returns-in-Some : goal.id-returns-in-Some
 unfolding expr.name_step plan choose chosen
-id-returns-in-Is t c =
-    let X0 = c.args.text.now in
-    let T0 = c.args.toks.now in
-    let N0 = c.args.env.now in
+id-returns-in-Some t c =
+    let X0 = c.args.lent.text.now in
+    let T0 = c.args.lent.toks.now in
+    let N0 = c.args.lent.env.now in
     let J0 = c.args.table.now in
     let L0 = c.args.scratch.now in
     let H0 = c.args.finds.now in
@@ -1655,175 +1625,103 @@ id-returns-in-Is t c =
     let L2 = c.opr.new.scratch in
     let H2 = c.opr.new.finds in
     let S2 = out_state c.opr.result in
-    in_steps {m = (mem X0 T0 N0 J0 L0 H0 S0)} {m' = (mem X0 T0 N0 J2 L2 H2 S2)} (c.requires.0) (s_fixed {a = (mem X0 T0 N0 J0 L0 H0 S0)} {e = (mem X0 T0 N0 J2 L2 H2 S2)} (c.in-Is.ensures) (s_by {a = (mem X0 T0 N0 J0 L0 H0 S0)} {c = (mem X0 T0 N0 J2 L2 H2 S2)} {e = (mem X0 T0 N0 J2 L2 H2 S2)} _ (c.opr.ensures) s_end))
+    in_steps {m = (mem X0 T0 N0 J0 L0 H0 S0)} {m' = (mem X0 T0 N0 J2 L2 H2 S2)} (c.requires.0) (s_fixed {a = (mem X0 T0 N0 J0 L0 H0 S0)} {e = (mem X0 T0 N0 J2 L2 H2 S2)} (c.in-Some.ensures) (s_by {a = (mem X0 T0 N0 J0 L0 H0 S0)} {c = (mem X0 T0 N0 J2 L2 H2 S2)} {e = (mem X0 T0 N0 J2 L2 H2 S2)} _ (c.opr.ensures) s_end))
 
 pub itm-arm-requires : goal.itm-arm-requires
 itm-arm-requires t c =
     let pre0 = c.requires in
     (omega arith, pre0)
 
-pub itm-returns-then-q-eq-ARM : goal.itm-returns-then-q-eq-ARM
-unfolding decl.many_closure plan choose chosen
-itm-returns-then-q-eq-ARM t c =
-    let X0 = c.args.text.now in
-    let T0 = c.args.toks.now in
-    let N0 = c.args.env.now in
-    let J0 = c.args.table.now in
-    let L0 = c.args.scratch.now in
-    let H0 = c.args.finds.now in
-    let S0 = c.args.s in
-    let J2 = c.arm.new.table in
-    let L2 = c.arm.new.scratch in
-    let H2 = c.arm.new.finds in
-    let S2 = out_state c.arm.result in
-    by_steps {m = (mem X0 T0 N0 J0 L0 H0 S0)} {m' = (mem X0 T0 N0 J2 L2 H2 S2)} (c.requires) (λ b. s_first {a = (mem X0 T0 N0 J0 L0 H0 S0)} {e = (mem X0 T0 N0 J2 L2 H2 S2)} _ _ _ _ _ _ (eq-eqb _ _ (c.if-q-eq-ARM.true)) (s_by {a = (mem X0 T0 N0 J0 L0 H0 S0)} {c = (mem X0 T0 N0 J2 L2 H2 S2)} {e = (mem X0 T0 N0 J2 L2 H2 S2)} _ (runs_in {a = (mem X0 T0 N0 J0 L0 H0 S0)} {c = (mem X0 T0 N0 J2 L2 H2 S2)} (c.arm.ensures)) s_end))
-
 pub itm-vl-requires : goal.itm-vl-requires
 itm-vl-requires t c =
     let pre0 = c.requires in
     (omega arith, pre0)
-
-pub itm-returns-then-q-eq-VAL_BIND : goal.itm-returns-then-q-eq-VAL_BIND
-unfolding decl.many_closure plan choose chosen
-itm-returns-then-q-eq-VAL_BIND t c =
-    let X0 = c.args.text.now in
-    let T0 = c.args.toks.now in
-    let N0 = c.args.env.now in
-    let J0 = c.args.table.now in
-    let L0 = c.args.scratch.now in
-    let H0 = c.args.finds.now in
-    let S0 = c.args.s in
-    let J3 = c.vl.new.table in
-    let L3 = c.vl.new.scratch in
-    let H3 = c.vl.new.finds in
-    let S3 = out_state c.vl.result in
-    by_steps {m = (mem X0 T0 N0 J0 L0 H0 S0)} {m' = (mem X0 T0 N0 J3 L3 H3 S3)} (c.requires) (λ b. s_second {a = (mem X0 T0 N0 J0 L0 H0 S0)} {e = (mem X0 T0 N0 J3 L3 H3 S3)} _ _ _ _ _ _ (ne_eqb _ _ (c.if-q-eq-ARM.false)) (s_first {a = (mem X0 T0 N0 J0 L0 H0 S0)} {e = (mem X0 T0 N0 J3 L3 H3 S3)} _ _ _ _ _ _ (eq-eqb _ _ (c.if-q-eq-VAL_BIND.true)) (s_by {a = (mem X0 T0 N0 J0 L0 H0 S0)} {c = (mem X0 T0 N0 J3 L3 H3 S3)} {e = (mem X0 T0 N0 J3 L3 H3 S3)} _ (runs_in {a = (mem X0 T0 N0 J0 L0 H0 S0)} {c = (mem X0 T0 N0 J3 L3 H3 S3)} (c.vl.ensures)) s_end)))
 
 pub itm-fun-requires : goal.itm-fun-requires
 itm-fun-requires t c =
     let pre0 = c.requires in
     (omega arith, pre0)
 
-pub itm-returns-then-q-eq-FUN_BIND : goal.itm-returns-then-q-eq-FUN_BIND
-unfolding decl.many_closure plan choose chosen
-itm-returns-then-q-eq-FUN_BIND t c =
-    let X0 = c.args.text.now in
-    let T0 = c.args.toks.now in
-    let N0 = c.args.env.now in
-    let J0 = c.args.table.now in
-    let L0 = c.args.scratch.now in
-    let H0 = c.args.finds.now in
-    let S0 = c.args.s in
-    let J4 = c.fun.new.table in
-    let L4 = c.fun.new.scratch in
-    let H4 = c.fun.new.finds in
-    let S4 = out_state c.fun.result in
-    by_steps {m = (mem X0 T0 N0 J0 L0 H0 S0)} {m' = (mem X0 T0 N0 J4 L4 H4 S4)} (c.requires) (λ b. s_second {a = (mem X0 T0 N0 J0 L0 H0 S0)} {e = (mem X0 T0 N0 J4 L4 H4 S4)} _ _ _ _ _ _ (ne_eqb _ _ (c.if-q-eq-ARM.false)) (s_second {a = (mem X0 T0 N0 J0 L0 H0 S0)} {e = (mem X0 T0 N0 J4 L4 H4 S4)} _ _ _ _ _ _ (ne_eqb _ _ (c.if-q-eq-VAL_BIND.false)) (s_first {a = (mem X0 T0 N0 J0 L0 H0 S0)} {e = (mem X0 T0 N0 J4 L4 H4 S4)} _ _ _ _ _ _ (eq-eqb _ _ (c.if-q-eq-FUN_BIND.true)) (s_by {a = (mem X0 T0 N0 J0 L0 H0 S0)} {c = (mem X0 T0 N0 J4 L4 H4 S4)} {e = (mem X0 T0 N0 J4 L4 H4 S4)} _ (runs_in {a = (mem X0 T0 N0 J0 L0 H0 S0)} {c = (mem X0 T0 N0 J4 L4 H4 S4)} (c.fun.ensures)) s_end))))
-
 pub itm-cs-requires : goal.itm-cs-requires
 itm-cs-requires t c =
     let pre0 = c.requires in
     (omega arith, pre0)
-
-pub itm-returns-then-q-eq-FUN_BIND_CASE : goal.itm-returns-then-q-eq-FUN_BIND_CASE
-unfolding decl.many_closure plan choose chosen
-itm-returns-then-q-eq-FUN_BIND_CASE t c =
-    let X0 = c.args.text.now in
-    let T0 = c.args.toks.now in
-    let N0 = c.args.env.now in
-    let J0 = c.args.table.now in
-    let L0 = c.args.scratch.now in
-    let H0 = c.args.finds.now in
-    let S0 = c.args.s in
-    let J5 = c.cs.new.table in
-    let L5 = c.cs.new.scratch in
-    let H5 = c.cs.new.finds in
-    let S5 = out_state c.cs.result in
-    by_steps {m = (mem X0 T0 N0 J0 L0 H0 S0)} {m' = (mem X0 T0 N0 J5 L5 H5 S5)} (c.requires) (λ b. s_second {a = (mem X0 T0 N0 J0 L0 H0 S0)} {e = (mem X0 T0 N0 J5 L5 H5 S5)} _ _ _ _ _ _ (ne_eqb _ _ (c.if-q-eq-ARM.false)) (s_second {a = (mem X0 T0 N0 J0 L0 H0 S0)} {e = (mem X0 T0 N0 J5 L5 H5 S5)} _ _ _ _ _ _ (ne_eqb _ _ (c.if-q-eq-VAL_BIND.false)) (s_second {a = (mem X0 T0 N0 J0 L0 H0 S0)} {e = (mem X0 T0 N0 J5 L5 H5 S5)} _ _ _ _ _ _ (ne_eqb _ _ (c.if-q-eq-FUN_BIND.false)) (s_first {a = (mem X0 T0 N0 J0 L0 H0 S0)} {e = (mem X0 T0 N0 J5 L5 H5 S5)} _ _ _ _ _ _ (eq-eqb _ _ (c.if-q-eq-FUN_BIND_CASE.true)) (s_by {a = (mem X0 T0 N0 J0 L0 H0 S0)} {c = (mem X0 T0 N0 J5 L5 H5 S5)} {e = (mem X0 T0 N0 J5 L5 H5 S5)} _ (runs_in {a = (mem X0 T0 N0 J0 L0 H0 S0)} {c = (mem X0 T0 N0 J5 L5 H5 S5)} (c.cs.ensures)) s_end)))))
 
 pub itm-ex-requires : goal.itm-ex-requires
 itm-ex-requires t c =
     let pre0 = c.requires in
     (omega arith, pre0)
 
-pub itm-returns-then-q-eq-EX_BIND : goal.itm-returns-then-q-eq-EX_BIND
-unfolding decl.many_closure plan choose chosen
-itm-returns-then-q-eq-EX_BIND t c =
-    let X0 = c.args.text.now in
-    let T0 = c.args.toks.now in
-    let N0 = c.args.env.now in
-    let J0 = c.args.table.now in
-    let L0 = c.args.scratch.now in
-    let H0 = c.args.finds.now in
-    let S0 = c.args.s in
-    let J6 = c.ex.new.table in
-    let L6 = c.ex.new.scratch in
-    let H6 = c.ex.new.finds in
-    let S6 = out_state c.ex.result in
-    by_steps {m = (mem X0 T0 N0 J0 L0 H0 S0)} {m' = (mem X0 T0 N0 J6 L6 H6 S6)} (c.requires) (λ b. s_second {a = (mem X0 T0 N0 J0 L0 H0 S0)} {e = (mem X0 T0 N0 J6 L6 H6 S6)} _ _ _ _ _ _ (ne_eqb _ _ (c.if-q-eq-ARM.false)) (s_second {a = (mem X0 T0 N0 J0 L0 H0 S0)} {e = (mem X0 T0 N0 J6 L6 H6 S6)} _ _ _ _ _ _ (ne_eqb _ _ (c.if-q-eq-VAL_BIND.false)) (s_second {a = (mem X0 T0 N0 J0 L0 H0 S0)} {e = (mem X0 T0 N0 J6 L6 H6 S6)} _ _ _ _ _ _ (ne_eqb _ _ (c.if-q-eq-FUN_BIND.false)) (s_second {a = (mem X0 T0 N0 J0 L0 H0 S0)} {e = (mem X0 T0 N0 J6 L6 H6 S6)} _ _ _ _ _ _ (ne_eqb _ _ (c.if-q-eq-FUN_BIND_CASE.false)) (s_first {a = (mem X0 T0 N0 J0 L0 H0 S0)} {e = (mem X0 T0 N0 J6 L6 H6 S6)} _ _ _ _ _ _ (eq-eqb _ _ (c.if-q-eq-EX_BIND.true)) (s_by {a = (mem X0 T0 N0 J0 L0 H0 S0)} {c = (mem X0 T0 N0 J6 L6 H6 S6)} {e = (mem X0 T0 N0 J6 L6 H6 S6)} _ (runs_in {a = (mem X0 T0 N0 J0 L0 H0 S0)} {c = (mem X0 T0 N0 J6 L6 H6 S6)} (c.ex.ensures)) s_end))))))
-
 pub itm-stb-requires : goal.itm-stb-requires
 itm-stb-requires t c =
     let pre0 = c.requires in
     (omega arith, pre0)
-
-pub itm-returns-then-q-eq-STR_BIND : goal.itm-returns-then-q-eq-STR_BIND
-unfolding decl.many_closure plan choose chosen
-itm-returns-then-q-eq-STR_BIND t c =
-    let X0 = c.args.text.now in
-    let T0 = c.args.toks.now in
-    let N0 = c.args.env.now in
-    let J0 = c.args.table.now in
-    let L0 = c.args.scratch.now in
-    let H0 = c.args.finds.now in
-    let S0 = c.args.s in
-    let J7 = c.stb.new.table in
-    let L7 = c.stb.new.scratch in
-    let H7 = c.stb.new.finds in
-    let S7 = out_state c.stb.result in
-    by_steps {m = (mem X0 T0 N0 J0 L0 H0 S0)} {m' = (mem X0 T0 N0 J7 L7 H7 S7)} (c.requires) (λ b. s_second {a = (mem X0 T0 N0 J0 L0 H0 S0)} {e = (mem X0 T0 N0 J7 L7 H7 S7)} _ _ _ _ _ _ (ne_eqb _ _ (c.if-q-eq-ARM.false)) (s_second {a = (mem X0 T0 N0 J0 L0 H0 S0)} {e = (mem X0 T0 N0 J7 L7 H7 S7)} _ _ _ _ _ _ (ne_eqb _ _ (c.if-q-eq-VAL_BIND.false)) (s_second {a = (mem X0 T0 N0 J0 L0 H0 S0)} {e = (mem X0 T0 N0 J7 L7 H7 S7)} _ _ _ _ _ _ (ne_eqb _ _ (c.if-q-eq-FUN_BIND.false)) (s_second {a = (mem X0 T0 N0 J0 L0 H0 S0)} {e = (mem X0 T0 N0 J7 L7 H7 S7)} _ _ _ _ _ _ (ne_eqb _ _ (c.if-q-eq-FUN_BIND_CASE.false)) (s_second {a = (mem X0 T0 N0 J0 L0 H0 S0)} {e = (mem X0 T0 N0 J7 L7 H7 S7)} _ _ _ _ _ _ (ne_eqb _ _ (c.if-q-eq-EX_BIND.false)) (s_first {a = (mem X0 T0 N0 J0 L0 H0 S0)} {e = (mem X0 T0 N0 J7 L7 H7 S7)} _ _ _ _ _ _ (eq-eqb _ _ (c.if-q-eq-STR_BIND.true)) (s_by {a = (mem X0 T0 N0 J0 L0 H0 S0)} {c = (mem X0 T0 N0 J7 L7 H7 S7)} {e = (mem X0 T0 N0 J7 L7 H7 S7)} _ (runs_in {a = (mem X0 T0 N0 J0 L0 H0 S0)} {c = (mem X0 T0 N0 J7 L7 H7 S7)} (c.stb.ensures)) s_end)))))))
 
 pub itm-sgb-requires : goal.itm-sgb-requires
 itm-sgb-requires t c =
     let pre0 = c.requires in
     (omega arith, pre0)
 
-pub itm-returns-then-q-eq-SIG_BIND : goal.itm-returns-then-q-eq-SIG_BIND
-unfolding decl.many_closure plan choose chosen
-itm-returns-then-q-eq-SIG_BIND t c =
-    let X0 = c.args.text.now in
-    let T0 = c.args.toks.now in
-    let N0 = c.args.env.now in
-    let J0 = c.args.table.now in
-    let L0 = c.args.scratch.now in
-    let H0 = c.args.finds.now in
-    let S0 = c.args.s in
-    let J8 = c.sgb.new.table in
-    let L8 = c.sgb.new.scratch in
-    let H8 = c.sgb.new.finds in
-    let S8 = out_state c.sgb.result in
-    by_steps {m = (mem X0 T0 N0 J0 L0 H0 S0)} {m' = (mem X0 T0 N0 J8 L8 H8 S8)} (c.requires) (λ b. s_second {a = (mem X0 T0 N0 J0 L0 H0 S0)} {e = (mem X0 T0 N0 J8 L8 H8 S8)} _ _ _ _ _ _ (ne_eqb _ _ (c.if-q-eq-ARM.false)) (s_second {a = (mem X0 T0 N0 J0 L0 H0 S0)} {e = (mem X0 T0 N0 J8 L8 H8 S8)} _ _ _ _ _ _ (ne_eqb _ _ (c.if-q-eq-VAL_BIND.false)) (s_second {a = (mem X0 T0 N0 J0 L0 H0 S0)} {e = (mem X0 T0 N0 J8 L8 H8 S8)} _ _ _ _ _ _ (ne_eqb _ _ (c.if-q-eq-FUN_BIND.false)) (s_second {a = (mem X0 T0 N0 J0 L0 H0 S0)} {e = (mem X0 T0 N0 J8 L8 H8 S8)} _ _ _ _ _ _ (ne_eqb _ _ (c.if-q-eq-FUN_BIND_CASE.false)) (s_second {a = (mem X0 T0 N0 J0 L0 H0 S0)} {e = (mem X0 T0 N0 J8 L8 H8 S8)} _ _ _ _ _ _ (ne_eqb _ _ (c.if-q-eq-EX_BIND.false)) (s_second {a = (mem X0 T0 N0 J0 L0 H0 S0)} {e = (mem X0 T0 N0 J8 L8 H8 S8)} _ _ _ _ _ _ (ne_eqb _ _ (c.if-q-eq-STR_BIND.false)) (s_first {a = (mem X0 T0 N0 J0 L0 H0 S0)} {e = (mem X0 T0 N0 J8 L8 H8 S8)} _ _ _ _ _ _ (eq-eqb _ _ (c.if-q-eq-SIG_BIND.true)) (s_by {a = (mem X0 T0 N0 J0 L0 H0 S0)} {c = (mem X0 T0 N0 J8 L8 H8 S8)} {e = (mem X0 T0 N0 J8 L8 H8 S8)} _ (runs_in {a = (mem X0 T0 N0 J0 L0 H0 S0)} {c = (mem X0 T0 N0 J8 L8 H8 S8)} (c.sgb.ensures)) s_end))))))))
-
 pub itm-fct-requires : goal.itm-fct-requires
 itm-fct-requires t c =
     let pre0 = c.requires in
     (omega arith, pre0)
 
-pub itm-returns : goal.itm-returns
+pub itm-returns-in-Arm : goal.itm-returns-in-Arm
+unfolding decl.many_closure util.choose plan choose chosen
+itm-returns-in-Arm t c =
+    let pre0 = c.requires in
+    let arm = c.arm.ensures in
+    rw c.in-Arm.is (by_steps pre0 (λ b. s_by _ (runs_in arm) s_end))
+
+pub itm-returns-in-ValBind : goal.itm-returns-in-ValBind
+unfolding decl.many_closure util.choose plan choose chosen
+itm-returns-in-ValBind t c =
+    let pre0 = c.requires in
+    let vl = c.vl.ensures in
+    rw c.in-ValBind.is (by_steps pre0 (λ b. s_by _ (runs_in vl) s_end))
+
+pub itm-returns-in-FunBind : goal.itm-returns-in-FunBind
+unfolding decl.many_closure util.choose plan choose chosen
+itm-returns-in-FunBind t c =
+    let pre0 = c.requires in
+    let fun = c.fun.ensures in
+    rw c.in-FunBind.is (by_steps pre0 (λ b. s_by _ (runs_in fun) s_end))
+
+pub itm-returns-in-FunBindCase : goal.itm-returns-in-FunBindCase
+unfolding decl.many_closure util.choose plan choose chosen
+itm-returns-in-FunBindCase t c =
+    let pre0 = c.requires in
+    let cs = c.cs.ensures in
+    rw c.in-FunBindCase.is (by_steps pre0 (λ b. s_by _ (runs_in cs) s_end))
+
+pub itm-returns-in-ExBind : goal.itm-returns-in-ExBind
+unfolding decl.many_closure util.choose plan choose chosen
+itm-returns-in-ExBind t c =
+    let pre0 = c.requires in
+    let ex = c.ex.ensures in
+    rw c.in-ExBind.is (by_steps pre0 (λ b. s_by _ (runs_in ex) s_end))
+
+pub itm-returns-in-StrBind : goal.itm-returns-in-StrBind
+unfolding decl.many_closure util.choose plan choose chosen
+itm-returns-in-StrBind t c =
+    let pre0 = c.requires in
+    let stb = c.stb.ensures in
+    rw c.in-StrBind.is (by_steps pre0 (λ b. s_by _ (runs_in stb) s_end))
+
+pub itm-returns-in-SigBind : goal.itm-returns-in-SigBind
+unfolding decl.many_closure util.choose plan choose chosen
+itm-returns-in-SigBind t c =
+    let pre0 = c.requires in
+    let sgb = c.sgb.ensures in
+    rw c.in-SigBind.is (by_steps pre0 (λ b. s_by _ (runs_in sgb) s_end))
+
+pub itm-returns-in_default : goal.itm-returns-in_default
 unfolding decl.many_closure plan choose chosen
-itm-returns t c =
-    let X0 = c.args.text.now in
-    let T0 = c.args.toks.now in
-    let N0 = c.args.env.now in
-    let J0 = c.args.table.now in
-    let L0 = c.args.scratch.now in
-    let H0 = c.args.finds.now in
-    let S0 = c.args.s in
-    let J8 = c.fct.new.table in
-    let L8 = c.fct.new.scratch in
-    let H8 = c.fct.new.finds in
-    let S8 = out_state c.fct.result in
-    by_steps {m = (mem X0 T0 N0 J0 L0 H0 S0)} {m' = (mem X0 T0 N0 J8 L8 H8 S8)} (c.requires) (λ b. s_second {a = (mem X0 T0 N0 J0 L0 H0 S0)} {e = (mem X0 T0 N0 J8 L8 H8 S8)} _ _ _ _ _ _ (ne_eqb _ _ (c.if-q-eq-ARM.false)) (s_second {a = (mem X0 T0 N0 J0 L0 H0 S0)} {e = (mem X0 T0 N0 J8 L8 H8 S8)} _ _ _ _ _ _ (ne_eqb _ _ (c.if-q-eq-VAL_BIND.false)) (s_second {a = (mem X0 T0 N0 J0 L0 H0 S0)} {e = (mem X0 T0 N0 J8 L8 H8 S8)} _ _ _ _ _ _ (ne_eqb _ _ (c.if-q-eq-FUN_BIND.false)) (s_second {a = (mem X0 T0 N0 J0 L0 H0 S0)} {e = (mem X0 T0 N0 J8 L8 H8 S8)} _ _ _ _ _ _ (ne_eqb _ _ (c.if-q-eq-FUN_BIND_CASE.false)) (s_second {a = (mem X0 T0 N0 J0 L0 H0 S0)} {e = (mem X0 T0 N0 J8 L8 H8 S8)} _ _ _ _ _ _ (ne_eqb _ _ (c.if-q-eq-EX_BIND.false)) (s_second {a = (mem X0 T0 N0 J0 L0 H0 S0)} {e = (mem X0 T0 N0 J8 L8 H8 S8)} _ _ _ _ _ _ (ne_eqb _ _ (c.if-q-eq-STR_BIND.false)) (s_second {a = (mem X0 T0 N0 J0 L0 H0 S0)} {e = (mem X0 T0 N0 J8 L8 H8 S8)} _ _ _ _ _ _ (ne_eqb _ _ (c.if-q-eq-SIG_BIND.false)) (s_by {a = (mem X0 T0 N0 J0 L0 H0 S0)} {c = (mem X0 T0 N0 J8 L8 H8 S8)} {e = (mem X0 T0 N0 J8 L8 H8 S8)} _ (runs_in {a = (mem X0 T0 N0 J0 L0 H0 S0)} {c = (mem X0 T0 N0 J8 L8 H8 S8)} (c.fct.ensures)) s_end))))))))
+itm-returns-in_default t c =
+    let pre0 = c.requires in
+    let fct = c.fct.ensures in
+    by_steps pre0 (λ b. s_second _ _ _ _ _ _ (other_node _ _ c.in_default.not-Arm) (s_second _ _ _ _ _ _ (other_node _ _ c.in_default.not-ValBind) (s_second _ _ _ _ _ _ (other_node _ _ c.in_default.not-FunBind) (s_second _ _ _ _ _ _ (other_node _ _ c.in_default.not-FunBindCase) (s_second _ _ _ _ _ _ (other_node _ _ c.in_default.not-ExBind) (s_second _ _ _ _ _ _ (other_node _ _ c.in_default.not-StrBind) (s_second _ _ _ _ _ _ (other_node _ _ c.in_default.not-SigBind) (s_by _ (runs_in fct) s_end))))))))
 
 pub kw-mat-s1-requires : goal.kw-mat-s1-requires
 kw-mat-s1-requires t c =
@@ -1840,9 +1738,9 @@ kw-close-requires t c =
 pub kw-returns-then-k-eq-FN_KW : goal.kw-returns-then-k-eq-FN_KW
 unfolding expr.keyed plan choose chosen
 kw-returns-then-k-eq-FN_KW t c =
-    let X0 = c.args.text.now in
-    let T0 = c.args.toks.now in
-    let N0 = c.args.env.now in
+    let X0 = c.args.lent.text.now in
+    let T0 = c.args.lent.toks.now in
+    let N0 = c.args.lent.env.now in
     let J0 = c.args.table.now in
     let L0 = c.args.scratch.now in
     let H0 = c.args.finds.now in
@@ -1870,9 +1768,9 @@ kw-close-requires-then-k-eq-RAISE_KW t c =
 pub kw-returns-then-k-eq-RAISE_KW : goal.kw-returns-then-k-eq-RAISE_KW
 unfolding expr.keyed plan choose chosen
 kw-returns-then-k-eq-RAISE_KW t c =
-    let X0 = c.args.text.now in
-    let T0 = c.args.toks.now in
-    let N0 = c.args.env.now in
+    let X0 = c.args.lent.text.now in
+    let T0 = c.args.lent.toks.now in
+    let N0 = c.args.lent.env.now in
     let J0 = c.args.table.now in
     let L0 = c.args.scratch.now in
     let H0 = c.args.finds.now in
@@ -1907,9 +1805,9 @@ kw-close-requires-then-k-eq-IF_KW t c =
 pub kw-returns-then-k-eq-IF_KW : goal.kw-returns-then-k-eq-IF_KW
 unfolding expr.keyed plan choose chosen
 kw-returns-then-k-eq-IF_KW t c =
-    let X0 = c.args.text.now in
-    let T0 = c.args.toks.now in
-    let N0 = c.args.env.now in
+    let X0 = c.args.lent.text.now in
+    let T0 = c.args.lent.toks.now in
+    let N0 = c.args.lent.env.now in
     let J0 = c.args.table.now in
     let L0 = c.args.scratch.now in
     let H0 = c.args.finds.now in
@@ -1946,9 +1844,9 @@ kw-close-requires-then-k-eq-WHILE_KW t c =
 pub kw-returns-then-k-eq-WHILE_KW : goal.kw-returns-then-k-eq-WHILE_KW
 unfolding expr.keyed plan choose chosen
 kw-returns-then-k-eq-WHILE_KW t c =
-    let X0 = c.args.text.now in
-    let T0 = c.args.toks.now in
-    let N0 = c.args.env.now in
+    let X0 = c.args.lent.text.now in
+    let T0 = c.args.lent.toks.now in
+    let N0 = c.args.lent.env.now in
     let J0 = c.args.table.now in
     let L0 = c.args.scratch.now in
     let H0 = c.args.finds.now in
@@ -1989,9 +1887,9 @@ kw-close-requires-2 t c =
 pub kw-returns : goal.kw-returns
 unfolding expr.keyed plan choose chosen
 kw-returns t c =
-    let X0 = c.args.text.now in
-    let T0 = c.args.toks.now in
-    let N0 = c.args.env.now in
+    let X0 = c.args.lent.text.now in
+    let T0 = c.args.lent.toks.now in
+    let N0 = c.args.lent.env.now in
     let J0 = c.args.table.now in
     let L0 = c.args.scratch.now in
     let H0 = c.args.finds.now in
@@ -2054,9 +1952,9 @@ lo-end-requires t c =
 pub lo-returns-then-left-eq0 : goal.lo-returns-then-left-eq0
 unfolding decl.local_dec plan choose chosen
 lo-returns-then-left-eq0 t c =
-    let X0 = c.args.text.now in
-    let T0 = c.args.toks.now in
-    let N0 = c.args.env.now in
+    let X0 = c.args.lent.text.now in
+    let T0 = c.args.lent.toks.now in
+    let N0 = c.args.lent.env.now in
     let J0 = c.args.table.now in
     let L0 = c.args.scratch.now in
     let H0 = c.args.finds.now in
@@ -2088,8 +1986,8 @@ lo-dec-got-requires t c =
     let bump_ok = ok_bumps bump mark_ok in
     (omega arith, bump_ok)
 
-pub lo-state-s3-requires : goal.lo-state-s3-requires
-lo-state-s3-requires t c =
+pub lo-either-s3-requires : goal.lo-either-s3-requires
+lo-either-s3-requires t c =
     tt
 
 pub lo-leave-s4-requires : goal.lo-leave-s4-requires
@@ -2099,27 +1997,27 @@ lo-leave-s4-requires t c =
     let mark_ok = ok_marks mark pre0 in
     let dec = c.dec-got.ensures in
     let dec_ok = dec.ok in
-    let state = c.state-s3.ensures in
-    let state_ok = ok_state state dec_ok in
-    (state_ok.logs, small_len mark_ok)
+    let either = c.either-s3.ensures in
+    let either_ok = ok_state either dec_ok in
+    (either_ok.logs, small_len mark_ok)
 
 pub lo-end-requires-2 : goal.lo-end-requires-2
 lo-end-requires-2 t c =
     let pre1 = c.requires.1 in
     let dec = c.dec-got.ensures in
     let dec_ok = dec.ok in
-    let state = c.state-s3.ensures in
-    let state_ok = ok_state state dec_ok in
+    let either = c.either-s3.ensures in
+    let either_ok = ok_state either dec_ok in
     let leave = c.leave-s4.ensures in
-    let leave_ok = ok_adds leave state_ok in
+    let leave_ok = ok_adds leave either_ok in
     (omega arith, (leave_ok, pre1))
 
 pub lo-returns : goal.lo-returns
 unfolding decl.local_dec plan choose chosen
 lo-returns t c =
-    let X0 = c.args.text.now in
-    let T0 = c.args.toks.now in
-    let N0 = c.args.env.now in
+    let X0 = c.args.lent.text.now in
+    let T0 = c.args.lent.toks.now in
+    let N0 = c.args.lent.env.now in
     let J0 = c.args.table.now in
     let L0 = c.args.scratch.now in
     let H0 = c.args.finds.now in
@@ -2131,14 +2029,14 @@ lo-returns t c =
     let L4 = c.dec-got.new.scratch in
     let H4 = c.dec-got.new.finds in
     let S4 = out_state c.dec-got.result in
-    let S5 = c.state-s3.result in
+    let S5 = c.either-s3.result in
     let L6 = c.leave-s4.new.scratch in
     let S6 = c.leave-s4.result in
     let J7 = c.end-2.new.table in
     let L7 = c.end-2.new.scratch in
     let H7 = c.end-2.new.finds in
     let S7 = out_state c.end-2.result in
-    in_steps {m = (mem X0 T0 N0 J0 L0 H0 S0)} {m' = (mem X0 T0 N0 J7 L7 H7 S7)} (c.requires.0) (s_mark {e = (mem X0 T0 N0 J7 L7 H7 S7)} {x = X0} {t = T0} {n = N0} {j = J0} {l = L0} {h = H0} {s = S0} {s' = S2} (c.if-left-eq0.false) (c.mark-s1.ensures) (s_bump {e = (mem X0 T0 N0 J7 L7 H7 S7)} {x = X0} {t = T0} {n = N0} {j = J0} {l = L0} {h = H0} {s = S2} {s' = S3} {l' = L3} (c.bump-s2.ensures) (s_run {a = (mem X0 T0 N0 J0 L3 H0 S3)} {c = (mem X0 T0 N0 J4 L4 H4 S5)} {e = (mem X0 T0 N0 J7 L7 H7 S7)} (settled (c.state-s3.ensures) (runs_in {a = (mem X0 T0 N0 J0 L3 H0 S3)} {c = (mem X0 T0 N0 J4 L4 H4 S4)} (c.dec-got.ensures))) (s_close {e = (mem X0 T0 N0 J7 L7 H7 S7)} {x = X0} {t = T0} {n = N0} {j = J4} {l = L4} {h = H4} {s = S5} {s' = S6} {l' = L6} (c.leave-s4.ensures) (s_by {a = (mem X0 T0 N0 J4 L6 H4 S6)} {c = (mem X0 T0 N0 J7 L7 H7 S7)} {e = (mem X0 T0 N0 J7 L7 H7 S7)} _ (c.end-2.ensures) s_end)))))
+    in_steps {m = (mem X0 T0 N0 J0 L0 H0 S0)} {m' = (mem X0 T0 N0 J7 L7 H7 S7)} (c.requires.0) (s_mark {e = (mem X0 T0 N0 J7 L7 H7 S7)} {x = X0} {t = T0} {n = N0} {j = J0} {l = L0} {h = H0} {s = S0} {s' = S2} (c.if-left-eq0.false) (c.mark-s1.ensures) (s_bump {e = (mem X0 T0 N0 J7 L7 H7 S7)} {x = X0} {t = T0} {n = N0} {j = J0} {l = L0} {h = H0} {s = S2} {s' = S3} {l' = L3} (c.bump-s2.ensures) (s_run {a = (mem X0 T0 N0 J0 L3 H0 S3)} {c = (mem X0 T0 N0 J4 L4 H4 S5)} {e = (mem X0 T0 N0 J7 L7 H7 S7)} (settled (c.either-s3.ensures) (runs_in {a = (mem X0 T0 N0 J0 L3 H0 S3)} {c = (mem X0 T0 N0 J4 L4 H4 S4)} (c.dec-got.ensures))) (s_close {e = (mem X0 T0 N0 J7 L7 H7 S7)} {x = X0} {t = T0} {n = N0} {j = J4} {l = L4} {h = H4} {s = S5} {s' = S6} {l' = L6} (c.leave-s4.ensures) (s_by {a = (mem X0 T0 N0 J4 L6 H4 S6)} {c = (mem X0 T0 N0 J7 L7 H7 S7)} {e = (mem X0 T0 N0 J7 L7 H7 S7)} _ (c.end-2.ensures) s_end)))))
 
 pub mat-refuse-requires : goal.mat-refuse-requires
 mat-refuse-requires t c =
@@ -2147,9 +2045,9 @@ mat-refuse-requires t c =
 pub mat-returns-then-left-eq0 : goal.mat-returns-then-left-eq0
 unfolding expr.matcher decl.many_closure util.choose plan choose chosen hushed
 mat-returns-then-left-eq0 t c =
-    let X0 = c.args.text.now in
-    let T0 = c.args.toks.now in
-    let N0 = c.args.env.now in
+    let X0 = c.args.lent.text.now in
+    let T0 = c.args.lent.toks.now in
+    let N0 = c.args.lent.env.now in
     let J0 = c.args.table.now in
     let L0 = c.args.scratch.now in
     let H0 = c.args.finds.now in
@@ -2180,9 +2078,9 @@ mat-bd-requires t c =
 pub mat-returns : goal.mat-returns
 unfolding expr.matcher decl.many_closure util.choose plan choose chosen
 mat-returns t c =
-    let X0 = c.args.text.now in
-    let T0 = c.args.toks.now in
-    let N0 = c.args.env.now in
+    let X0 = c.args.lent.text.now in
+    let T0 = c.args.lent.toks.now in
+    let N0 = c.args.lent.env.now in
     let J0 = c.args.table.now in
     let L0 = c.args.scratch.now in
     let H0 = c.args.finds.now in
@@ -2212,9 +2110,9 @@ mds-bd-s2-requires t c =
 pub mds-returns-then-k-eq-STRUCTURE_KW : goal.mds-returns-then-k-eq-STRUCTURE_KW
 unfolding decl.module_dec decl.many_closure util.choose plan choose chosen
 mds-returns-then-k-eq-STRUCTURE_KW t c =
-    let X0 = c.args.text.now in
-    let T0 = c.args.toks.now in
-    let N0 = c.args.env.now in
+    let X0 = c.args.lent.text.now in
+    let T0 = c.args.lent.toks.now in
+    let N0 = c.args.lent.env.now in
     let J0 = c.args.table.now in
     let L0 = c.args.scratch.now in
     let H0 = c.args.finds.now in
@@ -2243,9 +2141,9 @@ mds-bd-s2-requires-then-k-eq-SIGNATURE_KW t c =
 pub mds-returns-then-k-eq-SIGNATURE_KW : goal.mds-returns-then-k-eq-SIGNATURE_KW
 unfolding decl.module_dec decl.many_closure util.choose plan choose chosen
 mds-returns-then-k-eq-SIGNATURE_KW t c =
-    let X0 = c.args.text.now in
-    let T0 = c.args.toks.now in
-    let N0 = c.args.env.now in
+    let X0 = c.args.lent.text.now in
+    let T0 = c.args.lent.toks.now in
+    let N0 = c.args.lent.env.now in
     let J0 = c.args.table.now in
     let L0 = c.args.scratch.now in
     let H0 = c.args.finds.now in
@@ -2274,9 +2172,9 @@ mds-bd-s2-requires-then-k-eq-FUNCTOR_KW t c =
 pub mds-returns-then-k-eq-FUNCTOR_KW : goal.mds-returns-then-k-eq-FUNCTOR_KW
 unfolding decl.module_dec decl.many_closure util.choose plan choose chosen
 mds-returns-then-k-eq-FUNCTOR_KW t c =
-    let X0 = c.args.text.now in
-    let T0 = c.args.toks.now in
-    let N0 = c.args.env.now in
+    let X0 = c.args.lent.text.now in
+    let T0 = c.args.lent.toks.now in
+    let N0 = c.args.lent.env.now in
     let J0 = c.args.table.now in
     let L0 = c.args.scratch.now in
     let H0 = c.args.finds.now in
@@ -2311,9 +2209,9 @@ mds-close-requires t c =
 pub mds-returns-then-k-eq-INCLUDE_KW : goal.mds-returns-then-k-eq-INCLUDE_KW
 unfolding decl.module_dec decl.many_closure util.choose plan choose chosen
 mds-returns-then-k-eq-INCLUDE_KW t c =
-    let X0 = c.args.text.now in
-    let T0 = c.args.toks.now in
-    let N0 = c.args.env.now in
+    let X0 = c.args.lent.text.now in
+    let T0 = c.args.lent.toks.now in
+    let N0 = c.args.lent.env.now in
     let J0 = c.args.table.now in
     let L0 = c.args.scratch.now in
     let H0 = c.args.finds.now in
@@ -2337,9 +2235,9 @@ mds-oth-requires t c =
 pub mds-returns : goal.mds-returns
 unfolding decl.module_dec decl.many_closure util.choose plan choose chosen
 mds-returns t c =
-    let X0 = c.args.text.now in
-    let T0 = c.args.toks.now in
-    let N0 = c.args.env.now in
+    let X0 = c.args.lent.text.now in
+    let T0 = c.args.lent.toks.now in
+    let N0 = c.args.lent.env.now in
     let J0 = c.args.table.now in
     let L0 = c.args.scratch.now in
     let H0 = c.args.finds.now in
@@ -2378,24 +2276,24 @@ mny-itm-got-requires t c =
     let mark_ok = ok_marks mark inv in
     (omega arith, mark_ok)
 
-pub mny-returns-in-Missing : goal.mny-returns-in-Missing
+pub mny-returns-in-Err : goal.mny-returns-in-Err
 unfolding util.many_turn plan choose chosen
-mny-returns-in-Missing t c =
+mny-returns-in-Err t c =
     let inv = c.loop-q.invariant in
     let if1 = c.if-left-eq0.false in
     let mark = c.mark-s2.ensures in
-    let itm = c.in-Missing.ensures in
+    let itm = c.in-Err.ensures in
     loop_ends (many_turn_advances true _ _ _ _ _) inv (in_steps inv.ok {n = c.args.left} {b = c.args.b} (s_mark if1 mark (s_by _ (runs_in itm) s_end)))
 
 pub mny-at-requires : goal.mny-at-requires
 mny-at-requires t c =
-    let itm = c.in-At.ensures in
+    let itm = c.in-Ok.ensures in
     let itm_ok = itm.ok in
     itm_ok.reads
 
 pub mny-bump-s4-requires : goal.mny-bump-s4-requires
 mny-bump-s4-requires t c =
-    let itm = c.in-At.ensures in
+    let itm = c.in-Ok.ensures in
     let itm_ok = itm.ok in
     (itm_ok.reads, itm_ok.logs)
 
@@ -2404,7 +2302,7 @@ mny-close-s1-requires t c =
     let inv = c.loop-q.invariant.ok in
     let mark = c.mark-s2.ensures in
     let mark_ok = ok_marks mark inv in
-    let itm = c.in-At.ensures in
+    let itm = c.in-Ok.ensures in
     let itm_ok = itm.ok in
     let bump = c.bump-s4.ensures in
     let bump_ok = ok_bumps bump itm_ok in
@@ -2416,12 +2314,12 @@ mny-loop-q-smaller t c =
     let inv = c.loop-q.invariant in
     let if1 = c.if-left-eq0.false in
     let mark = c.mark-s2.ensures in
-    let itm = c.in-At.ensures in
+    let itm = c.in-Ok.ensures in
     let at = c.at.ensures in
     let if2 = c.if-at.true in
     let bump = c.bump-s4.ensures in
     let close = c.close-s1.ensures in
-    loop_falls {p = (util.many_turn {g = true} c.args.q.sep c.args.q.wrap (decl.many_closure c.args.q.wrap (err_of c.args.e)))} (many_turn_advances true _ _ _ _ _) (in_steps inv.ok {n = c.args.left} {b = c.args.b} (s_mark if1 mark (s_by _ (runs_in itm) (s_kind (s_true _ _ (kind_at _ _ _ _ at if2) (s_bump bump (s_close close s_end)))))))
+    loop_falls {p = (util.many_turn {g = true} c.args.q.sep (node_number c.args.q.wrap) (decl.many_closure (node_number c.args.q.wrap) (err_of c.args.e)))} (many_turn_advances true _ _ _ _ _) (in_steps inv.ok {n = c.args.left} {b = c.args.b} (s_mark if1 mark (s_by _ (runs_in itm) (s_kind (s_true _ _ (kind_at _ _ _ _ at if2) (s_bump bump (s_close close s_end)))))))
 
 pub mny-loop-q-preserved : goal.mny-loop-q-preserved
 unfolding util.many_turn plan choose chosen
@@ -2429,7 +2327,7 @@ mny-loop-q-preserved t c =
     let inv = c.loop-q.invariant in
     let if1 = c.if-left-eq0.false in
     let mark = c.mark-s2.ensures in
-    let itm = c.in-At.ensures in
+    let itm = c.in-Ok.ensures in
     let at = c.at.ensures in
     let if2 = c.if-at.true in
     let bump = c.bump-s4.ensures in
@@ -2441,17 +2339,17 @@ mny-close-requires t c =
     let inv = c.loop-q.invariant.ok in
     let mark = c.mark-s2.ensures in
     let mark_ok = ok_marks mark inv in
-    let itm = c.in-At.ensures in
+    let itm = c.in-Ok.ensures in
     let itm_ok = itm.ok in
     (itm_ok.logs, small_len mark_ok)
 
-pub mny-returns-in-At : goal.mny-returns-in-At
+pub mny-returns-in-Ok : goal.mny-returns-in-Ok
 unfolding util.many_turn plan choose chosen
-mny-returns-in-At t c =
+mny-returns-in-Ok t c =
     let inv = c.loop-q.invariant in
     let if1 = c.if-left-eq0.false in
     let mark = c.mark-s2.ensures in
-    let itm = c.in-At.ensures in
+    let itm = c.in-Ok.ensures in
     let at = c.at.ensures in
     let if2 = c.if-at.false in
     let close2 = c.close.ensures in
@@ -2465,14 +2363,9 @@ one-peek-requires t c =
 pub one-returns-in_default : goal.one-returns-in_default
 unfolding decl.dec_one decl.dec_head plan choose chosen
 one-returns-in_default t c =
-    let X0 = c.args.text.now in
-    let T0 = c.args.toks.now in
-    let N0 = c.args.env.now in
-    let J0 = c.args.table.now in
-    let L0 = c.args.scratch.now in
-    let H0 = c.args.finds.now in
-    let S0 = c.args.s in
-    by_steps {m = (mem X0 T0 N0 J0 L0 H0 S0)} {m' = (mem X0 T0 N0 J0 L0 H0 S0)} (c.requires) (λ b. s_look {a = (mem X0 T0 N0 J0 L0 H0 S0)} {e = (mem X0 T0 N0 J0 L0 H0 S0)} (c.in_default.ensures) s_end)
+    let pre0 = c.requires in
+    let peek = c.in_default.ensures in
+    by_steps pre0 (λ b. s_look peek s_end)
 
 pub one-refuse-requires : goal.one-refuse-requires
 one-refuse-requires t c =
@@ -2481,15 +2374,15 @@ one-refuse-requires t c =
 pub one-returns-then-left-eq0 : goal.one-returns-then-left-eq0
 unfolding decl.dec_one decl.dec_head plan choose chosen hushed
 one-returns-then-left-eq0 t c =
-    let X0 = c.args.text.now in
-    let T0 = c.args.toks.now in
-    let N0 = c.args.env.now in
+    let X0 = c.args.lent.text.now in
+    let T0 = c.args.lent.toks.now in
+    let N0 = c.args.lent.env.now in
     let J0 = c.args.table.now in
     let L0 = c.args.scratch.now in
     let H0 = c.args.finds.now in
     let S0 = c.args.s in
     let S3 = c.refuse.result in
-    by_steps {m = (mem X0 T0 N0 J0 L0 H0 S0)} {m' = (mem X0 T0 N0 J0 L0 H0 S3)} (c.requires) (λ b. s_look {a = (mem X0 T0 N0 J0 L0 H0 S0)} {e = (mem X0 T0 N0 J0 L0 H0 S3)} (c.in-Kind.ensures) (s_shut (c.if-left-eq0.true) (c.refuse.ensures) (λ k l. refl)))
+    by_steps {m = (mem X0 T0 N0 J0 L0 H0 S0)} {m' = (mem X0 T0 N0 J0 L0 H0 S3)} (c.requires) (λ b. s_look {a = (mem X0 T0 N0 J0 L0 H0 S0)} {e = (mem X0 T0 N0 J0 L0 H0 S3)} (c.in-Some.ensures) (s_shut (c.if-left-eq0.true) (c.refuse.ensures) (λ k l. refl)))
 
 pub one-mark-s1-requires : goal.one-mark-s1-requires
 one-mark-s1-requires t c =
@@ -2507,16 +2400,16 @@ one-cor-requires t c =
     let pre0 = c.requires in
     let mark = c.mark-s1.ensures in
     let mark_ok = ok_marks mark pre0 in
-    let leaf_dec = c.in-Missing.ensures in
+    let leaf_dec = c.in-Err.ensures in
     let leaf_dec_ok = leaf_dec.ok in
     (omega arith, (leaf_dec_ok, small_len mark_ok))
 
-pub one-returns-in-At : goal.one-returns-in-At
+pub one-returns-in-Ok : goal.one-returns-in-Ok
 unfolding decl.dec_one decl.dec_head plan choose chosen
-one-returns-in-At t c =
-    let X0 = c.args.text.now in
-    let T0 = c.args.toks.now in
-    let N0 = c.args.env.now in
+one-returns-in-Ok t c =
+    let X0 = c.args.lent.text.now in
+    let T0 = c.args.lent.toks.now in
+    let N0 = c.args.lent.env.now in
     let J0 = c.args.table.now in
     let L0 = c.args.scratch.now in
     let H0 = c.args.finds.now in
@@ -2525,15 +2418,15 @@ one-returns-in-At t c =
     let J4 = c.leaf_dec-got.new.table in
     let L4 = c.leaf_dec-got.new.scratch in
     let H4 = c.leaf_dec-got.new.finds in
-    let S4 = c.in-At.s2 in
-    by_steps {m = (mem X0 T0 N0 J0 L0 H0 S0)} {m' = (mem X0 T0 N0 J4 L4 H4 S4)} (c.requires) (λ b. s_look {a = (mem X0 T0 N0 J0 L0 H0 S0)} {e = (mem X0 T0 N0 J4 L4 H4 S4)} (c.in-Kind.ensures) (s_mark {e = (mem X0 T0 N0 J4 L4 H4 S4)} {x = X0} {t = T0} {n = N0} {j = J0} {l = L0} {h = H0} {s = S0} {s' = S3} (c.if-left-eq0.false) (c.mark-s1.ensures) (s_by {a = (mem X0 T0 N0 J0 L0 H0 S3)} {c = (mem X0 T0 N0 J4 L4 H4 S4)} {e = (mem X0 T0 N0 J4 L4 H4 S4)} _ (c.in-At.ensures) s_end)))
+    let S4 = c.in-Ok.s2 in
+    by_steps {m = (mem X0 T0 N0 J0 L0 H0 S0)} {m' = (mem X0 T0 N0 J4 L4 H4 S4)} (c.requires) (λ b. s_look {a = (mem X0 T0 N0 J0 L0 H0 S0)} {e = (mem X0 T0 N0 J4 L4 H4 S4)} (c.in-Some.ensures) (s_mark {e = (mem X0 T0 N0 J4 L4 H4 S4)} {x = X0} {t = T0} {n = N0} {j = J0} {l = L0} {h = H0} {s = S0} {s' = S3} (c.if-left-eq0.false) (c.mark-s1.ensures) (s_by {a = (mem X0 T0 N0 J0 L0 H0 S3)} {c = (mem X0 T0 N0 J4 L4 H4 S4)} {e = (mem X0 T0 N0 J4 L4 H4 S4)} _ (c.in-Ok.ensures) s_end)))
 
-pub one-returns-in-Missing : goal.one-returns-in-Missing
+pub one-returns-in-Err : goal.one-returns-in-Err
 unfolding decl.dec_one decl.dec_head plan choose chosen
-one-returns-in-Missing t c =
-    let X0 = c.args.text.now in
-    let T0 = c.args.toks.now in
-    let N0 = c.args.env.now in
+one-returns-in-Err t c =
+    let X0 = c.args.lent.text.now in
+    let T0 = c.args.lent.toks.now in
+    let N0 = c.args.lent.env.now in
     let J0 = c.args.table.now in
     let L0 = c.args.scratch.now in
     let H0 = c.args.finds.now in
@@ -2542,12 +2435,12 @@ one-returns-in-Missing t c =
     let J4 = c.leaf_dec-got.new.table in
     let L4 = c.leaf_dec-got.new.scratch in
     let H4 = c.leaf_dec-got.new.finds in
-    let S4 = c.in-Missing.s2 in
+    let S4 = c.in-Err.s2 in
     let J5 = c.cor.new.table in
     let L5 = c.cor.new.scratch in
     let H5 = c.cor.new.finds in
     let S5 = out_state c.cor.result in
-    by_steps {m = (mem X0 T0 N0 J0 L0 H0 S0)} {m' = (mem X0 T0 N0 J5 L5 H5 S5)} (c.requires) (λ b. s_look {a = (mem X0 T0 N0 J0 L0 H0 S0)} {e = (mem X0 T0 N0 J5 L5 H5 S5)} (c.in-Kind.ensures) (s_mark {e = (mem X0 T0 N0 J5 L5 H5 S5)} {x = X0} {t = T0} {n = N0} {j = J0} {l = L0} {h = H0} {s = S0} {s' = S3} (c.if-left-eq0.false) (c.mark-s1.ensures) (s_by {a = (mem X0 T0 N0 J0 L0 H0 S3)} {c = (mem X0 T0 N0 J4 L4 H4 S4)} {e = (mem X0 T0 N0 J5 L5 H5 S5)} _ (c.in-Missing.ensures) (s_by {a = (mem X0 T0 N0 J4 L4 H4 S4)} {c = (mem X0 T0 N0 J5 L5 H5 S5)} {e = (mem X0 T0 N0 J5 L5 H5 S5)} _ (c.cor.ensures) s_end))))
+    by_steps {m = (mem X0 T0 N0 J0 L0 H0 S0)} {m' = (mem X0 T0 N0 J5 L5 H5 S5)} (c.requires) (λ b. s_look {a = (mem X0 T0 N0 J0 L0 H0 S0)} {e = (mem X0 T0 N0 J5 L5 H5 S5)} (c.in-Some.ensures) (s_mark {e = (mem X0 T0 N0 J5 L5 H5 S5)} {x = X0} {t = T0} {n = N0} {j = J0} {l = L0} {h = H0} {s = S0} {s' = S3} (c.if-left-eq0.false) (c.mark-s1.ensures) (s_by {a = (mem X0 T0 N0 J0 L0 H0 S3)} {c = (mem X0 T0 N0 J4 L4 H4 S4)} {e = (mem X0 T0 N0 J5 L5 H5 S5)} _ (c.in-Err.ensures) (s_by {a = (mem X0 T0 N0 J4 L4 H4 S4)} {c = (mem X0 T0 N0 J5 L5 H5 S5)} {e = (mem X0 T0 N0 J5 L5 H5 S5)} _ (c.cor.ensures) s_end))))
 
 pub opr-should_break_exp-ends-requires : goal.opr-should_break_exp-ends-requires
 opr-should_break_exp-ends-requires t c =
@@ -2561,18 +2454,18 @@ opr-refuse-requires t c =
 pub opr-returns-then-left-eq0 : goal.opr-returns-then-left-eq0
 unfolding expr.climb plan choose chosen hushed
 opr-returns-then-left-eq0 t c =
-    let X0 = c.args.text.now in
-    let T0 = c.args.toks.now in
-    let N0 = c.args.env.now in
+    let X0 = c.args.lent.text.now in
+    let T0 = c.args.lent.toks.now in
+    let N0 = c.args.lent.env.now in
     let J0 = c.args.table.now in
     let L0 = c.args.scratch.now in
     let H0 = c.args.finds.now in
     let S0 = c.args.s in
     let L1 = c.should_break_exp-ends.new.scratch in
     let H1 = c.should_break_exp-ends.new.finds in
-    let S1 = c.in-Missing.s1 in
+    let S1 = c.in-Err.s1 in
     let S3 = c.refuse.result in
-    in_steps {m = (mem X0 T0 N0 J0 L0 H0 S0)} {m' = (mem X0 T0 N0 J0 L1 H1 S3)} (c.requires.0) (s_by {a = (mem X0 T0 N0 J0 L0 H0 S0)} {c = (mem X0 T0 N0 J0 L1 H1 S1)} {e = (mem X0 T0 N0 J0 L1 H1 S3)} _ (runs_always {a = (mem X0 T0 N0 J0 L0 H0 S0)} {c = (mem X0 T0 N0 J0 L1 H1 S1)} (c.in-Missing.ensures)) (s_shut (c.if-left-eq0.true) (c.refuse.ensures) (λ k l. refl)))
+    in_steps {m = (mem X0 T0 N0 J0 L0 H0 S0)} {m' = (mem X0 T0 N0 J0 L1 H1 S3)} (c.requires.0) (s_by {a = (mem X0 T0 N0 J0 L0 H0 S0)} {c = (mem X0 T0 N0 J0 L1 H1 S1)} {e = (mem X0 T0 N0 J0 L1 H1 S3)} _ (runs_always {a = (mem X0 T0 N0 J0 L0 H0 S0)} {c = (mem X0 T0 N0 J0 L1 H1 S1)} (c.in-Err.ensures)) (s_shut (c.if-left-eq0.true) (c.refuse.ensures) (λ k l. refl)))
 
 pub opr-mark-s2-requires : goal.opr-mark-s2-requires
 opr-mark-s2-requires t c =
@@ -2580,7 +2473,7 @@ opr-mark-s2-requires t c =
 
 pub opr-bump-s3-requires : goal.opr-bump-s3-requires
 opr-bump-s3-requires t c =
-    let should_break_exp = c.in-Missing.ensures in
+    let should_break_exp = c.in-Err.ensures in
     let should_break_exp_ok = should_break_exp.ok in
     let mark = c.mark-s2.ensures in
     let mark_ok = ok_marks mark should_break_exp_ok in
@@ -2589,7 +2482,7 @@ opr-bump-s3-requires t c =
 pub opr-rhs-s4-requires : goal.opr-rhs-s4-requires
 opr-rhs-s4-requires t c =
     let pre1 = c.requires.1 in
-    let should_break_exp = c.in-Missing.ensures in
+    let should_break_exp = c.in-Err.ensures in
     let should_break_exp_ok = should_break_exp.ok in
     let mark = c.mark-s2.ensures in
     let mark_ok = ok_marks mark should_break_exp_ok in
@@ -2597,34 +2490,34 @@ opr-rhs-s4-requires t c =
     let bump_ok = ok_bumps bump mark_ok in
     (omega arith, (bump_ok, pre1))
 
-pub opr-returns-in-At : goal.opr-returns-in-At
+pub opr-returns-in-Ok : goal.opr-returns-in-Ok
 unfolding expr.climb plan choose chosen
-opr-returns-in-At t c =
-    let X0 = c.args.text.now in
-    let T0 = c.args.toks.now in
-    let N0 = c.args.env.now in
+opr-returns-in-Ok t c =
+    let X0 = c.args.lent.text.now in
+    let T0 = c.args.lent.toks.now in
+    let N0 = c.args.lent.env.now in
     let J0 = c.args.table.now in
     let L0 = c.args.scratch.now in
     let H0 = c.args.finds.now in
     let S0 = c.args.s in
     let L1 = c.should_break_exp-ends.new.scratch in
     let H1 = c.should_break_exp-ends.new.finds in
-    let S1 = c.in-At.s1 in
-    in_steps {m = (mem X0 T0 N0 J0 L0 H0 S0)} {m' = (mem X0 T0 N0 J0 L1 H1 S1)} (c.requires.0) (s_by {a = (mem X0 T0 N0 J0 L0 H0 S0)} {c = (mem X0 T0 N0 J0 L1 H1 S1)} {e = (mem X0 T0 N0 J0 L1 H1 S1)} _ (runs_always {a = (mem X0 T0 N0 J0 L0 H0 S0)} {c = (mem X0 T0 N0 J0 L1 H1 S1)} (c.in-At.ensures)) s_end)
+    let S1 = c.in-Ok.s1 in
+    in_steps {m = (mem X0 T0 N0 J0 L0 H0 S0)} {m' = (mem X0 T0 N0 J0 L1 H1 S1)} (c.requires.0) (s_by {a = (mem X0 T0 N0 J0 L0 H0 S0)} {c = (mem X0 T0 N0 J0 L1 H1 S1)} {e = (mem X0 T0 N0 J0 L1 H1 S1)} _ (runs_always {a = (mem X0 T0 N0 J0 L0 H0 S0)} {c = (mem X0 T0 N0 J0 L1 H1 S1)} (c.in-Ok.ensures)) s_end)
 
 pub opr-returns-else-left-eq0 : goal.opr-returns-else-left-eq0
 unfolding expr.climb plan choose chosen
 opr-returns-else-left-eq0 t c =
-    let X0 = c.args.text.now in
-    let T0 = c.args.toks.now in
-    let N0 = c.args.env.now in
+    let X0 = c.args.lent.text.now in
+    let T0 = c.args.lent.toks.now in
+    let N0 = c.args.lent.env.now in
     let J0 = c.args.table.now in
     let L0 = c.args.scratch.now in
     let H0 = c.args.finds.now in
     let S0 = c.args.s in
     let L1 = c.should_break_exp-ends.new.scratch in
     let H1 = c.should_break_exp-ends.new.finds in
-    let S1 = c.in-Missing.s1 in
+    let S1 = c.in-Err.s1 in
     let S3 = c.mark-s2.result in
     let L4 = c.bump-s3.new.scratch in
     let S4 = c.bump-s3.result in
@@ -2632,7 +2525,7 @@ opr-returns-else-left-eq0 t c =
     let L5 = c.rhs-s4.new.scratch in
     let H5 = c.rhs-s4.new.finds in
     let S5 = c.rhs-s4.result in
-    in_steps {m = (mem X0 T0 N0 J0 L0 H0 S0)} {m' = (mem X0 T0 N0 J5 L5 H5 S5)} (c.requires.0) (s_by {a = (mem X0 T0 N0 J0 L0 H0 S0)} {c = (mem X0 T0 N0 J0 L1 H1 S1)} {e = (mem X0 T0 N0 J5 L5 H5 S5)} _ (runs_always {a = (mem X0 T0 N0 J0 L0 H0 S0)} {c = (mem X0 T0 N0 J0 L1 H1 S1)} (c.in-Missing.ensures)) (s_mark {e = (mem X0 T0 N0 J5 L5 H5 S5)} {x = X0} {t = T0} {n = N0} {j = J0} {l = L1} {h = H1} {s = S1} {s' = S3} (c.if-left-eq0.false) (c.mark-s2.ensures) (s_bump {e = (mem X0 T0 N0 J5 L5 H5 S5)} {x = X0} {t = T0} {n = N0} {j = J0} {l = L1} {h = H1} {s = S3} {s' = S4} {l' = L4} (c.bump-s3.ensures) (s_by {a = (mem X0 T0 N0 J0 L4 H1 S4)} {c = (mem X0 T0 N0 J5 L5 H5 S5)} {e = (mem X0 T0 N0 J5 L5 H5 S5)} _ (c.rhs-s4.ensures) s_end))))
+    in_steps {m = (mem X0 T0 N0 J0 L0 H0 S0)} {m' = (mem X0 T0 N0 J5 L5 H5 S5)} (c.requires.0) (s_by {a = (mem X0 T0 N0 J0 L0 H0 S0)} {c = (mem X0 T0 N0 J0 L1 H1 S1)} {e = (mem X0 T0 N0 J5 L5 H5 S5)} _ (runs_always {a = (mem X0 T0 N0 J0 L0 H0 S0)} {c = (mem X0 T0 N0 J0 L1 H1 S1)} (c.in-Err.ensures)) (s_mark {e = (mem X0 T0 N0 J5 L5 H5 S5)} {x = X0} {t = T0} {n = N0} {j = J0} {l = L1} {h = H1} {s = S1} {s' = S3} (c.if-left-eq0.false) (c.mark-s2.ensures) (s_bump {e = (mem X0 T0 N0 J5 L5 H5 S5)} {x = X0} {t = T0} {n = N0} {j = J0} {l = L1} {h = H1} {s = S3} {s' = S4} {l' = L4} (c.bump-s3.ensures) (s_by {a = (mem X0 T0 N0 J0 L4 H1 S4)} {c = (mem X0 T0 N0 J5 L5 H5 S5)} {e = (mem X0 T0 N0 J5 L5 H5 S5)} _ (c.rhs-s4.ensures) s_end))))
 
 pub ops-loop-s2-init : goal.ops-loop-s2-init
 ops-loop-s2-init t c =
@@ -2648,19 +2541,19 @@ ops-stp-turn-requires t c =
 
 pub ops-loop-s2-smaller : goal.ops-loop-s2-smaller
 ops-loop-s2-smaller t c =
-    let stp = c.in-At.ensures in
+    let stp = c.in-Ok.ensures in
     loop_falls (exp_step_advances _ _ _) stp
 
 pub ops-loop-s2-preserved : goal.ops-loop-s2-preserved
 ops-loop-s2-preserved t c =
     let inv = c.loop-s2.invariant in
-    let stp = c.in-At.ensures in
+    let stp = c.in-Ok.ensures in
     loop_goes (exp_step_advances _ _ _) inv stp
 
-pub ops-returns-in-Missing : goal.ops-returns-in-Missing
-ops-returns-in-Missing t c =
+pub ops-returns-in-Err : goal.ops-returns-in-Err
+ops-returns-in-Err t c =
     let inv = c.loop-s2.invariant in
-    let stp = c.in-Missing.ensures in
+    let stp = c.in-Err.ensures in
     loop_ends (exp_step_advances _ _ _) inv stp
 
 pub oth-abs_head-s1-requires : goal.oth-abs_head-s1-requires
@@ -2674,8 +2567,8 @@ oth-dec-got-requires t c =
     let abs_head_ok = abs_head.ok in
     (omega arith, abs_head_ok)
 
-pub oth-state-s2-requires : goal.oth-state-s2-requires
-oth-state-s2-requires t c =
+pub oth-either-s2-requires : goal.oth-either-s2-requires
+oth-either-s2-requires t c =
     tt
 
 pub oth-end_node-end-requires : goal.oth-end_node-end-requires
@@ -2683,16 +2576,16 @@ oth-end_node-end-requires t c =
     let pre1 = c.requires.1 in
     let dec = c.dec-got.ensures in
     let dec_ok = dec.ok in
-    let state = c.state-s2.ensures in
-    let state_ok = ok_state state dec_ok in
-    (state_ok, pre1, omega arith)
+    let either = c.either-s2.ensures in
+    let either_ok = ok_state either dec_ok in
+    (either_ok, pre1, omega arith)
 
 pub oth-returns-then-k-eq-ABSTYPE_KW : goal.oth-returns-then-k-eq-ABSTYPE_KW
 unfolding decl.other_dec plan choose chosen
 oth-returns-then-k-eq-ABSTYPE_KW t c =
-    let X0 = c.args.text.now in
-    let T0 = c.args.toks.now in
-    let N0 = c.args.env.now in
+    let X0 = c.args.lent.text.now in
+    let T0 = c.args.lent.toks.now in
+    let N0 = c.args.lent.env.now in
     let J0 = c.args.table.now in
     let L0 = c.args.scratch.now in
     let H0 = c.args.finds.now in
@@ -2704,11 +2597,11 @@ oth-returns-then-k-eq-ABSTYPE_KW t c =
     let L3 = c.dec-got.new.scratch in
     let H3 = c.dec-got.new.finds in
     let S3 = out_state c.dec-got.result in
-    let S4 = c.state-s2.result in
+    let S4 = c.either-s2.result in
     let L5 = c.end_node-end.new.scratch in
     let H5 = c.end_node-end.new.finds in
     let S5 = c.end_node-end.result in
-    in_steps {m = (mem X0 T0 N0 J0 L0 H0 S0)} {m' = (mem X0 T0 N0 J3 L5 H5 S5)} (c.requires.0) (s_true {a = (mem X0 T0 N0 J0 L0 H0 S0)} {e = (mem X0 T0 N0 J3 L5 H5 S5)} _ _ (kind_is (c.if-k-eq-ABSTYPE_KW.true)) (s_by {a = (mem X0 T0 N0 J0 L0 H0 S0)} {c = (mem X0 T0 N0 J0 L2 H2 S2)} {e = (mem X0 T0 N0 J3 L5 H5 S5)} _ (c.abs_head-s1.ensures) (s_run {a = (mem X0 T0 N0 J0 L2 H2 S2)} {c = (mem X0 T0 N0 J3 L3 H3 S4)} {e = (mem X0 T0 N0 J3 L5 H5 S5)} (settled (c.state-s2.ensures) (runs_in {a = (mem X0 T0 N0 J0 L2 H2 S2)} {c = (mem X0 T0 N0 J3 L3 H3 S3)} (c.dec-got.ensures))) (s_by {a = (mem X0 T0 N0 J3 L3 H3 S4)} {c = (mem X0 T0 N0 J3 L5 H5 S5)} {e = (mem X0 T0 N0 J3 L5 H5 S5)} _ (c.end_node-end.ensures) s_end))))
+    in_steps {m = (mem X0 T0 N0 J0 L0 H0 S0)} {m' = (mem X0 T0 N0 J3 L5 H5 S5)} (c.requires.0) (s_true {a = (mem X0 T0 N0 J0 L0 H0 S0)} {e = (mem X0 T0 N0 J3 L5 H5 S5)} _ _ (kind_is (c.if-k-eq-ABSTYPE_KW.true)) (s_by {a = (mem X0 T0 N0 J0 L0 H0 S0)} {c = (mem X0 T0 N0 J0 L2 H2 S2)} {e = (mem X0 T0 N0 J3 L5 H5 S5)} _ (c.abs_head-s1.ensures) (s_run {a = (mem X0 T0 N0 J0 L2 H2 S2)} {c = (mem X0 T0 N0 J3 L3 H3 S4)} {e = (mem X0 T0 N0 J3 L5 H5 S5)} (settled (c.either-s2.ensures) (runs_in {a = (mem X0 T0 N0 J0 L2 H2 S2)} {c = (mem X0 T0 N0 J3 L3 H3 S3)} (c.dec-got.ensures))) (s_by {a = (mem X0 T0 N0 J3 L3 H3 S4)} {c = (mem X0 T0 N0 J3 L5 H5 S5)} {e = (mem X0 T0 N0 J3 L5 H5 S5)} _ (c.end_node-end.ensures) s_end))))
 
 pub oth-lo-requires : goal.oth-lo-requires
 oth-lo-requires t c =
@@ -2719,9 +2612,9 @@ oth-lo-requires t c =
 pub oth-returns-then-k-eq-LOCAL_KW : goal.oth-returns-then-k-eq-LOCAL_KW
 unfolding decl.other_dec plan choose chosen
 oth-returns-then-k-eq-LOCAL_KW t c =
-    let X0 = c.args.text.now in
-    let T0 = c.args.toks.now in
-    let N0 = c.args.env.now in
+    let X0 = c.args.lent.text.now in
+    let T0 = c.args.lent.toks.now in
+    let N0 = c.args.lent.env.now in
     let J0 = c.args.table.now in
     let L0 = c.args.scratch.now in
     let H0 = c.args.finds.now in
@@ -2740,16 +2633,16 @@ oth-pre-got-requires t c =
 pub oth-close-requires : goal.oth-close-requires
 oth-close-requires t c =
     let pre1 = c.requires.1 in
-    let pre = c.in-At.ensures in
+    let pre = c.in-Ok.ensures in
     let pre_ok = pre.ok in
     (pre_ok.logs, pre1)
 
-pub oth-returns-in-Missing : goal.oth-returns-in-Missing
+pub oth-returns-in-Err : goal.oth-returns-in-Err
 unfolding decl.other_dec plan choose chosen
-oth-returns-in-Missing t c =
-    let X0 = c.args.text.now in
-    let T0 = c.args.toks.now in
-    let N0 = c.args.env.now in
+oth-returns-in-Err t c =
+    let X0 = c.args.lent.text.now in
+    let T0 = c.args.lent.toks.now in
+    let N0 = c.args.lent.env.now in
     let J0 = c.args.table.now in
     let L0 = c.args.scratch.now in
     let H0 = c.args.finds.now in
@@ -2757,15 +2650,15 @@ oth-returns-in-Missing t c =
     let J3 = c.pre-got.new.table in
     let L3 = c.pre-got.new.scratch in
     let H3 = c.pre-got.new.finds in
-    let S3 = c.in-Missing.s1 in
-    in_steps {m = (mem X0 T0 N0 J0 L0 H0 S0)} {m' = (mem X0 T0 N0 J3 L3 H3 S3)} (c.requires.0) (s_false {a = (mem X0 T0 N0 J0 L0 H0 S0)} {e = (mem X0 T0 N0 J3 L3 H3 S3)} _ _ (kind_not (c.if-k-eq-ABSTYPE_KW.false)) (s_false {a = (mem X0 T0 N0 J0 L0 H0 S0)} {e = (mem X0 T0 N0 J3 L3 H3 S3)} _ _ (kind_not (c.if-k-eq-LOCAL_KW.false)) (s_run {a = (mem X0 T0 N0 J0 L0 H0 S0)} {c = (mem X0 T0 N0 J3 L3 H3 S3)} {e = (mem X0 T0 N0 J3 L3 H3 S3)} (runs_in {a = (mem X0 T0 N0 J0 L0 H0 S0)} {c = (mem X0 T0 N0 J3 L3 H3 S3)} (c.in-Missing.ensures)) s_end)))
+    let S3 = c.in-Err.s1 in
+    in_steps {m = (mem X0 T0 N0 J0 L0 H0 S0)} {m' = (mem X0 T0 N0 J3 L3 H3 S3)} (c.requires.0) (s_false {a = (mem X0 T0 N0 J0 L0 H0 S0)} {e = (mem X0 T0 N0 J3 L3 H3 S3)} _ _ (kind_not (c.if-k-eq-ABSTYPE_KW.false)) (s_false {a = (mem X0 T0 N0 J0 L0 H0 S0)} {e = (mem X0 T0 N0 J3 L3 H3 S3)} _ _ (kind_not (c.if-k-eq-LOCAL_KW.false)) (s_run {a = (mem X0 T0 N0 J0 L0 H0 S0)} {c = (mem X0 T0 N0 J3 L3 H3 S3)} {e = (mem X0 T0 N0 J3 L3 H3 S3)} (runs_in {a = (mem X0 T0 N0 J0 L0 H0 S0)} {c = (mem X0 T0 N0 J3 L3 H3 S3)} (c.in-Err.ensures)) s_end)))
 
-pub oth-returns-in-At : goal.oth-returns-in-At
+pub oth-returns-in-Ok : goal.oth-returns-in-Ok
 unfolding decl.other_dec plan choose chosen
-oth-returns-in-At t c =
-    let X0 = c.args.text.now in
-    let T0 = c.args.toks.now in
-    let N0 = c.args.env.now in
+oth-returns-in-Ok t c =
+    let X0 = c.args.lent.text.now in
+    let T0 = c.args.lent.toks.now in
+    let N0 = c.args.lent.env.now in
     let J0 = c.args.table.now in
     let L0 = c.args.scratch.now in
     let H0 = c.args.finds.now in
@@ -2773,10 +2666,10 @@ oth-returns-in-At t c =
     let J3 = c.pre-got.new.table in
     let L3 = c.pre-got.new.scratch in
     let H3 = c.pre-got.new.finds in
-    let S3 = c.in-At.s1 in
+    let S3 = c.in-Ok.s1 in
     let L4 = c.close.new.scratch in
     let S4 = c.close.result in
-    in_steps {m = (mem X0 T0 N0 J0 L0 H0 S0)} {m' = (mem X0 T0 N0 J3 L4 H3 S4)} (c.requires.0) (s_false {a = (mem X0 T0 N0 J0 L0 H0 S0)} {e = (mem X0 T0 N0 J3 L4 H3 S4)} _ _ (kind_not (c.if-k-eq-ABSTYPE_KW.false)) (s_false {a = (mem X0 T0 N0 J0 L0 H0 S0)} {e = (mem X0 T0 N0 J3 L4 H3 S4)} _ _ (kind_not (c.if-k-eq-LOCAL_KW.false)) (s_run {a = (mem X0 T0 N0 J0 L0 H0 S0)} {c = (mem X0 T0 N0 J3 L3 H3 S3)} {e = (mem X0 T0 N0 J3 L4 H3 S4)} (runs_in {a = (mem X0 T0 N0 J0 L0 H0 S0)} {c = (mem X0 T0 N0 J3 L3 H3 S3)} (c.in-At.ensures)) (s_close {e = (mem X0 T0 N0 J3 L4 H3 S4)} {x = X0} {t = T0} {n = N0} {j = J3} {l = L3} {h = H3} {s = S3} {s' = S4} {l' = L4} (c.close.ensures) s_end))))
+    in_steps {m = (mem X0 T0 N0 J0 L0 H0 S0)} {m' = (mem X0 T0 N0 J3 L4 H3 S4)} (c.requires.0) (s_false {a = (mem X0 T0 N0 J0 L0 H0 S0)} {e = (mem X0 T0 N0 J3 L4 H3 S4)} _ _ (kind_not (c.if-k-eq-ABSTYPE_KW.false)) (s_false {a = (mem X0 T0 N0 J0 L0 H0 S0)} {e = (mem X0 T0 N0 J3 L4 H3 S4)} _ _ (kind_not (c.if-k-eq-LOCAL_KW.false)) (s_run {a = (mem X0 T0 N0 J0 L0 H0 S0)} {c = (mem X0 T0 N0 J3 L3 H3 S3)} {e = (mem X0 T0 N0 J3 L4 H3 S4)} (runs_in {a = (mem X0 T0 N0 J0 L0 H0 S0)} {c = (mem X0 T0 N0 J3 L3 H3 S3)} (c.in-Ok.ensures)) (s_close {e = (mem X0 T0 N0 J3 L4 H3 S4)} {x = X0} {t = T0} {n = N0} {j = J3} {l = L3} {h = H3} {s = S3} {s' = S4} {l' = L4} (c.close.ensures) s_end))))
 
 pub pa-at-requires : goal.pa-at-requires
 pa-at-requires t c =
@@ -2790,9 +2683,9 @@ pa-refuse-requires t c =
 pub pa-returns-then-left-eq0 : goal.pa-returns-then-left-eq0
 unfolding decl.functor_arg plan choose chosen hushed
 pa-returns-then-left-eq0 t c =
-    let X0 = c.args.text.now in
-    let T0 = c.args.toks.now in
-    let N0 = c.args.env.now in
+    let X0 = c.args.lent.text.now in
+    let T0 = c.args.lent.toks.now in
+    let N0 = c.args.lent.env.now in
     let J0 = c.args.table.now in
     let L0 = c.args.scratch.now in
     let H0 = c.args.finds.now in
@@ -2843,9 +2736,9 @@ pa-close-requires t c =
 pub pa-returns-then-at : goal.pa-returns-then-at
 unfolding decl.functor_arg plan choose chosen
 pa-returns-then-at t c =
-    let X0 = c.args.text.now in
-    let T0 = c.args.toks.now in
-    let N0 = c.args.env.now in
+    let X0 = c.args.lent.text.now in
+    let T0 = c.args.lent.toks.now in
+    let N0 = c.args.lent.env.now in
     let J0 = c.args.table.now in
     let L0 = c.args.scratch.now in
     let H0 = c.args.finds.now in
@@ -2868,16 +2761,16 @@ pa-dec-got-requires t c =
     let pre0 = c.requires in
     (omega arith, pre0)
 
-pub pa-state-requires : goal.pa-state-requires
-pa-state-requires t c =
+pub pa-either-requires : goal.pa-either-requires
+pa-either-requires t c =
     tt
 
 pub pa-returns : goal.pa-returns
 unfolding decl.functor_arg plan choose chosen
 pa-returns t c =
-    let X0 = c.args.text.now in
-    let T0 = c.args.toks.now in
-    let N0 = c.args.env.now in
+    let X0 = c.args.lent.text.now in
+    let T0 = c.args.lent.toks.now in
+    let N0 = c.args.lent.env.now in
     let J0 = c.args.table.now in
     let L0 = c.args.scratch.now in
     let H0 = c.args.finds.now in
@@ -2886,8 +2779,8 @@ pa-returns t c =
     let L3 = c.dec-got.new.scratch in
     let H3 = c.dec-got.new.finds in
     let S3 = out_state c.dec-got.result in
-    let S4 = c.state.result in
-    by_steps {m = (mem X0 T0 N0 J0 L0 H0 S0)} {m' = (mem X0 T0 N0 J3 L3 H3 S4)} (c.requires) (λ b. s_kind {a = (mem X0 T0 N0 J0 L0 H0 S0)} {e = (mem X0 T0 N0 J3 L3 H3 S4)} (s_false {a = (mem X0 T0 N0 J0 L0 H0 S0)} {e = (mem X0 T0 N0 J3 L3 H3 S4)} _ _ (kind_off _ _ (mem X0 T0 N0 J0 L0 H0 S0) _ (c.at.ensures) (c.if-at.false)) (s_run {a = (mem X0 T0 N0 J0 L0 H0 S0)} {c = (mem X0 T0 N0 J3 L3 H3 S4)} {e = (mem X0 T0 N0 J3 L3 H3 S4)} (settled (c.state.ensures) (runs_in {a = (mem X0 T0 N0 J0 L0 H0 S0)} {c = (mem X0 T0 N0 J3 L3 H3 S3)} (c.dec-got.ensures))) s_end)))
+    let S4 = c.either.result in
+    by_steps {m = (mem X0 T0 N0 J0 L0 H0 S0)} {m' = (mem X0 T0 N0 J3 L3 H3 S4)} (c.requires) (λ b. s_kind {a = (mem X0 T0 N0 J0 L0 H0 S0)} {e = (mem X0 T0 N0 J3 L3 H3 S4)} (s_false {a = (mem X0 T0 N0 J0 L0 H0 S0)} {e = (mem X0 T0 N0 J3 L3 H3 S4)} _ _ (kind_off _ _ (mem X0 T0 N0 J0 L0 H0 S0) _ (c.at.ensures) (c.if-at.false)) (s_run {a = (mem X0 T0 N0 J0 L0 H0 S0)} {c = (mem X0 T0 N0 J3 L3 H3 S4)} {e = (mem X0 T0 N0 J3 L3 H3 S4)} (settled (c.either.ensures) (runs_in {a = (mem X0 T0 N0 J0 L0 H0 S0)} {c = (mem X0 T0 N0 J3 L3 H3 S3)} (c.dec-got.ensures))) s_end)))
 
 pub pre-peek-requires : goal.pre-peek-requires
 pre-peek-requires t c =
@@ -2897,14 +2790,9 @@ pre-peek-requires t c =
 pub pre-returns-in_default : goal.pre-returns-in_default
 unfolding root.body expr.exp_scope expr.exp_head plan choose chosen
 pre-returns-in_default t c =
-    let X0 = c.args.text.now in
-    let T0 = c.args.toks.now in
-    let N0 = c.args.env.now in
-    let J0 = c.args.table.now in
-    let L0 = c.args.scratch.now in
-    let H0 = c.args.finds.now in
-    let S0 = c.args.s in
-    by_steps {m = (mem X0 T0 N0 J0 L0 H0 S0)} {m' = (mem X0 T0 N0 J0 L0 H0 S0)} (c.requires) (λ b. s_rule {a = (mem X0 T0 N0 J0 L0 H0 S0)} {e = (mem X0 T0 N0 J0 L0 H0 S0)} (s_look {a = (mem X0 T0 N0 J0 L0 H0 S0)} {e = (mem X0 T0 N0 J0 L0 H0 S0)} (c.in_default.ensures) s_end))
+    let pre0 = c.requires in
+    let peek = c.in_default.ensures in
+    by_steps pre0 (λ b. s_rule (s_look peek s_end))
 
 pub pre-refuse-requires : goal.pre-refuse-requires
 pre-refuse-requires t c =
@@ -2913,15 +2801,15 @@ pre-refuse-requires t c =
 pub pre-returns-then-left-eq0 : goal.pre-returns-then-left-eq0
 unfolding root.body expr.exp_scope expr.exp_head plan choose chosen expr.exp_rest expr.at_exp hushed
 pre-returns-then-left-eq0 t c =
-    let X0 = c.args.text.now in
-    let T0 = c.args.toks.now in
-    let N0 = c.args.env.now in
+    let X0 = c.args.lent.text.now in
+    let T0 = c.args.lent.toks.now in
+    let N0 = c.args.lent.env.now in
     let J0 = c.args.table.now in
     let L0 = c.args.scratch.now in
     let H0 = c.args.finds.now in
     let S0 = c.args.s in
     let S3 = c.refuse.result in
-    by_steps {m = (mem X0 T0 N0 J0 L0 H0 S0)} {m' = (mem X0 T0 N0 J0 L0 H0 S3)} (c.requires) (λ b. s_rule {a = (mem X0 T0 N0 J0 L0 H0 S0)} {e = (mem X0 T0 N0 J0 L0 H0 S3)} (s_look {a = (mem X0 T0 N0 J0 L0 H0 S0)} {e = (mem X0 T0 N0 J0 L0 H0 S3)} (c.in-Kind.ensures) (s_shut (c.if-left-eq0.true) (c.refuse.ensures) (λ k l. refl))))
+    by_steps {m = (mem X0 T0 N0 J0 L0 H0 S0)} {m' = (mem X0 T0 N0 J0 L0 H0 S3)} (c.requires) (λ b. s_rule {a = (mem X0 T0 N0 J0 L0 H0 S0)} {e = (mem X0 T0 N0 J0 L0 H0 S3)} (s_look {a = (mem X0 T0 N0 J0 L0 H0 S0)} {e = (mem X0 T0 N0 J0 L0 H0 S3)} (c.in-Some.ensures) (s_shut (c.if-left-eq0.true) (c.refuse.ensures) (λ k l. refl))))
 
 pub pre-mark-s1-requires : goal.pre-mark-s1-requires
 pre-mark-s1-requires t c =
@@ -2948,9 +2836,9 @@ pre-kw-s3-requires t c =
 pub pre-returns-then-starts : goal.pre-returns-then-starts
 unfolding root.body expr.exp_scope expr.exp_head plan choose chosen
 pre-returns-then-starts t c =
-    let X0 = c.args.text.now in
-    let T0 = c.args.toks.now in
-    let N0 = c.args.env.now in
+    let X0 = c.args.lent.text.now in
+    let T0 = c.args.lent.toks.now in
+    let N0 = c.args.lent.env.now in
     let J0 = c.args.table.now in
     let L0 = c.args.scratch.now in
     let H0 = c.args.finds.now in
@@ -2963,7 +2851,7 @@ pre-returns-then-starts t c =
     let L7 = c.kw-s3.new.scratch in
     let H7 = c.kw-s3.new.finds in
     let S7 = c.kw-s3.result in
-    by_steps {m = (mem X0 T0 N0 J0 L0 H0 S0)} {m' = (mem X0 T0 N0 J7 L7 H7 S7)} (c.requires) (λ b. s_rule {a = (mem X0 T0 N0 J0 L0 H0 S0)} {e = (mem X0 T0 N0 J7 L7 H7 S7)} (s_look {a = (mem X0 T0 N0 J0 L0 H0 S0)} {e = (mem X0 T0 N0 J7 L7 H7 S7)} (c.in-Kind.ensures) (s_mark {e = (mem X0 T0 N0 J7 L7 H7 S7)} {x = X0} {t = T0} {n = N0} {j = J0} {l = L0} {h = H0} {s = S0} {s' = S3} (c.if-left-eq0.false) (c.mark-s1.ensures) (s_true {a = (mem X0 T0 N0 J0 L0 H0 S3)} {e = (mem X0 T0 N0 J7 L7 H7 S7)} _ _ (test_true (c.starts.ensures) (c.if-starts.true)) (s_by {a = (mem X0 T0 N0 J0 L0 H0 S3)} {c = (mem X0 T0 N0 J0 L6 H6 S6)} {e = (mem X0 T0 N0 J7 L7 H7 S7)} _ (runs_always {a = (mem X0 T0 N0 J0 L0 H0 S3)} {c = (mem X0 T0 N0 J0 L6 H6 S6)} (c.keyword-s2.ensures)) (s_by {a = (mem X0 T0 N0 J0 L6 H6 S6)} {c = (mem X0 T0 N0 J7 L7 H7 S7)} {e = (mem X0 T0 N0 J7 L7 H7 S7)} _ (c.kw-s3.ensures) s_end))))))
+    by_steps {m = (mem X0 T0 N0 J0 L0 H0 S0)} {m' = (mem X0 T0 N0 J7 L7 H7 S7)} (c.requires) (λ b. s_rule {a = (mem X0 T0 N0 J0 L0 H0 S0)} {e = (mem X0 T0 N0 J7 L7 H7 S7)} (s_look {a = (mem X0 T0 N0 J0 L0 H0 S0)} {e = (mem X0 T0 N0 J7 L7 H7 S7)} (c.in-Some.ensures) (s_mark {e = (mem X0 T0 N0 J7 L7 H7 S7)} {x = X0} {t = T0} {n = N0} {j = J0} {l = L0} {h = H0} {s = S0} {s' = S3} (c.if-left-eq0.false) (c.mark-s1.ensures) (s_true {a = (mem X0 T0 N0 J0 L0 H0 S3)} {e = (mem X0 T0 N0 J7 L7 H7 S7)} _ _ (test_true (c.starts.ensures) (c.if-starts.true)) (s_by {a = (mem X0 T0 N0 J0 L0 H0 S3)} {c = (mem X0 T0 N0 J0 L6 H6 S6)} {e = (mem X0 T0 N0 J7 L7 H7 S7)} _ (runs_always {a = (mem X0 T0 N0 J0 L0 H0 S3)} {c = (mem X0 T0 N0 J0 L6 H6 S6)} (c.keyword-s2.ensures)) (s_by {a = (mem X0 T0 N0 J0 L6 H6 S6)} {c = (mem X0 T0 N0 J7 L7 H7 S7)} {e = (mem X0 T0 N0 J7 L7 H7 S7)} _ (c.kw-s3.ensures) s_end))))))
 
 pub pre-rst-requires : goal.pre-rst-requires
 pre-rst-requires t c =
@@ -2975,9 +2863,9 @@ pre-rst-requires t c =
 pub pre-returns : goal.pre-returns
 unfolding root.body expr.exp_scope expr.exp_head plan choose chosen
 pre-returns t c =
-    let X0 = c.args.text.now in
-    let T0 = c.args.toks.now in
-    let N0 = c.args.env.now in
+    let X0 = c.args.lent.text.now in
+    let T0 = c.args.lent.toks.now in
+    let N0 = c.args.lent.env.now in
     let J0 = c.args.table.now in
     let L0 = c.args.scratch.now in
     let H0 = c.args.finds.now in
@@ -2987,49 +2875,31 @@ pre-returns t c =
     let L6 = c.rst.new.scratch in
     let H6 = c.rst.new.finds in
     let S6 = out_state c.rst.result in
-    by_steps {m = (mem X0 T0 N0 J0 L0 H0 S0)} {m' = (mem X0 T0 N0 J6 L6 H6 S6)} (c.requires) (λ b. s_rule {a = (mem X0 T0 N0 J0 L0 H0 S0)} {e = (mem X0 T0 N0 J6 L6 H6 S6)} (s_look {a = (mem X0 T0 N0 J0 L0 H0 S0)} {e = (mem X0 T0 N0 J6 L6 H6 S6)} (c.in-Kind.ensures) (s_mark {e = (mem X0 T0 N0 J6 L6 H6 S6)} {x = X0} {t = T0} {n = N0} {j = J0} {l = L0} {h = H0} {s = S0} {s' = S3} (c.if-left-eq0.false) (c.mark-s1.ensures) (s_false {a = (mem X0 T0 N0 J0 L0 H0 S3)} {e = (mem X0 T0 N0 J6 L6 H6 S6)} _ _ (test_false (c.starts.ensures) (c.if-starts.false)) (s_by {a = (mem X0 T0 N0 J0 L0 H0 S3)} {c = (mem X0 T0 N0 J6 L6 H6 S6)} {e = (mem X0 T0 N0 J6 L6 H6 S6)} _ (c.rst.ensures) s_end)))))
+    by_steps {m = (mem X0 T0 N0 J0 L0 H0 S0)} {m' = (mem X0 T0 N0 J6 L6 H6 S6)} (c.requires) (λ b. s_rule {a = (mem X0 T0 N0 J0 L0 H0 S0)} {e = (mem X0 T0 N0 J6 L6 H6 S6)} (s_look {a = (mem X0 T0 N0 J0 L0 H0 S0)} {e = (mem X0 T0 N0 J6 L6 H6 S6)} (c.in-Some.ensures) (s_mark {e = (mem X0 T0 N0 J6 L6 H6 S6)} {x = X0} {t = T0} {n = N0} {j = J0} {l = L0} {h = H0} {s = S0} {s' = S3} (c.if-left-eq0.false) (c.mark-s1.ensures) (s_false {a = (mem X0 T0 N0 J0 L0 H0 S3)} {e = (mem X0 T0 N0 J6 L6 H6 S6)} _ _ (test_false (c.starts.ensures) (c.if-starts.false)) (s_by {a = (mem X0 T0 N0 J0 L0 H0 S3)} {c = (mem X0 T0 N0 J6 L6 H6 S6)} {e = (mem X0 T0 N0 J6 L6 H6 S6)} _ (c.rst.ensures) s_end)))))
 
 pub pt-tl-requires : goal.pt-tl-requires
 pt-tl-requires t c =
     let pre0 = c.requires in
     (omega arith, pre0)
 
-pub pt-returns-then-w-eq-DEC : goal.pt-returns-then-w-eq-DEC
-unfolding decl.semi_closure plan choose chosen
-pt-returns-then-w-eq-DEC t c =
-    let X0 = c.args.text.now in
-    let T0 = c.args.toks.now in
-    let N0 = c.args.env.now in
-    let J0 = c.args.table.now in
-    let L0 = c.args.scratch.now in
-    let H0 = c.args.finds.now in
-    let S0 = c.args.s in
-    let J2 = c.tl.new.table in
-    let L2 = c.tl.new.scratch in
-    let H2 = c.tl.new.finds in
-    let S2 = out_state c.tl.result in
-    by_steps {m = (mem X0 T0 N0 J0 L0 H0 S0)} {m' = (mem X0 T0 N0 J2 L2 H2 S2)} (c.requires) (λ b. s_first {a = (mem X0 T0 N0 J0 L0 H0 S0)} {e = (mem X0 T0 N0 J2 L2 H2 S2)} _ _ _ _ _ _ (eq-eqb _ _ (c.if-w-eq-DEC.true)) (s_by {a = (mem X0 T0 N0 J0 L0 H0 S0)} {c = (mem X0 T0 N0 J2 L2 H2 S2)} {e = (mem X0 T0 N0 J2 L2 H2 S2)} _ (runs_in {a = (mem X0 T0 N0 J0 L0 H0 S0)} {c = (mem X0 T0 N0 J2 L2 H2 S2)} (c.tl.ensures)) s_end))
-
 pub pt-one-requires : goal.pt-one-requires
 pt-one-requires t c =
     let pre0 = c.requires in
     (omega arith, pre0)
 
-pub pt-returns : goal.pt-returns
+pub pt-returns-in-Dec : goal.pt-returns-in-Dec
+unfolding decl.semi_closure util.choose plan choose chosen
+pt-returns-in-Dec t c =
+    let pre0 = c.requires in
+    let tl = c.tl.ensures in
+    rw c.in-Dec.is (by_steps pre0 (λ b. s_by _ (runs_in tl) s_end))
+
+pub pt-returns-in_default : goal.pt-returns-in_default
 unfolding decl.semi_closure plan choose chosen
-pt-returns t c =
-    let X0 = c.args.text.now in
-    let T0 = c.args.toks.now in
-    let N0 = c.args.env.now in
-    let J0 = c.args.table.now in
-    let L0 = c.args.scratch.now in
-    let H0 = c.args.finds.now in
-    let S0 = c.args.s in
-    let J2 = c.one.new.table in
-    let L2 = c.one.new.scratch in
-    let H2 = c.one.new.finds in
-    let S2 = out_state c.one.result in
-    by_steps {m = (mem X0 T0 N0 J0 L0 H0 S0)} {m' = (mem X0 T0 N0 J2 L2 H2 S2)} (c.requires) (λ b. s_second {a = (mem X0 T0 N0 J0 L0 H0 S0)} {e = (mem X0 T0 N0 J2 L2 H2 S2)} _ _ _ _ _ _ (ne_eqb _ _ (c.if-w-eq-DEC.false)) (s_by {a = (mem X0 T0 N0 J0 L0 H0 S0)} {c = (mem X0 T0 N0 J2 L2 H2 S2)} {e = (mem X0 T0 N0 J2 L2 H2 S2)} _ (runs_in {a = (mem X0 T0 N0 J0 L0 H0 S0)} {c = (mem X0 T0 N0 J2 L2 H2 S2)} (c.one.ensures)) s_end))
+pt-returns-in_default t c =
+    let pre0 = c.requires in
+    let one = c.one.ensures in
+    by_steps pre0 (λ b. s_second _ _ _ _ _ _ (other_node _ _ c.in_default.not-Dec) (s_by _ (runs_in one) s_end))
 
 pub rhs-is_ascribed-requires : goal.rhs-is_ascribed-requires
 rhs-is_ascribed-requires t c =
@@ -3135,9 +3005,9 @@ rnd-close-requires t c =
 pub rnd-returns-then-at : goal.rnd-returns-then-at
 unfolding expr.at_exp_l_round expr.end_closure util.choose plan choose chosen
 rnd-returns-then-at t c =
-    let X0 = c.args.text.now in
-    let T0 = c.args.toks.now in
-    let N0 = c.args.env.now in
+    let X0 = c.args.lent.text.now in
+    let T0 = c.args.lent.toks.now in
+    let N0 = c.args.lent.env.now in
     let J0 = c.args.table.now in
     let L0 = c.args.scratch.now in
     let H0 = c.args.finds.now in
@@ -3155,9 +3025,9 @@ rnd-refuse-requires t c =
 pub rnd-returns-then-left-eq0 : goal.rnd-returns-then-left-eq0
 unfolding expr.at_exp_l_round expr.end_closure util.choose plan choose chosen expr.paren_end hushed
 rnd-returns-then-left-eq0 t c =
-    let X0 = c.args.text.now in
-    let T0 = c.args.toks.now in
-    let N0 = c.args.env.now in
+    let X0 = c.args.lent.text.now in
+    let T0 = c.args.lent.toks.now in
+    let N0 = c.args.lent.env.now in
     let J0 = c.args.table.now in
     let L0 = c.args.scratch.now in
     let H0 = c.args.finds.now in
@@ -3192,22 +3062,15 @@ rnd-paren_end-requires t c =
 pub rnd-returns-in_default : goal.rnd-returns-in_default
 unfolding expr.at_exp_l_round expr.end_closure util.choose plan choose chosen
 rnd-returns-in_default t c =
-    let X0 = c.args.text.now in
-    let T0 = c.args.toks.now in
-    let N0 = c.args.env.now in
-    let J0 = c.args.table.now in
-    let L0 = c.args.scratch.now in
-    let H0 = c.args.finds.now in
-    let S0 = c.args.s in
-    let S4 = c.mark-s1.result in
-    let J5 = c.exp-s2.new.table in
-    let L5 = c.exp-s2.new.scratch in
-    let H5 = c.exp-s2.new.finds in
-    let S5 = c.exp-s2.result in
-    let L7 = c.paren_end.new.scratch in
-    let H7 = c.paren_end.new.finds in
-    let S7 = out_state c.paren_end.result in
-    in_steps {m = (mem X0 T0 N0 J0 L0 H0 S0)} {m' = (mem X0 T0 N0 J5 L7 H7 S7)} (c.requires.0) (s_kind {a = (mem X0 T0 N0 J0 L0 H0 S0)} {e = (mem X0 T0 N0 J5 L7 H7 S7)} (s_false {a = (mem X0 T0 N0 J0 L0 H0 S0)} {e = (mem X0 T0 N0 J5 L7 H7 S7)} _ _ (kind_off _ _ (mem X0 T0 N0 J0 L0 H0 S0) _ (c.at.ensures) (c.if-at.false)) (s_mark {e = (mem X0 T0 N0 J5 L7 H7 S7)} {x = X0} {t = T0} {n = N0} {j = J0} {l = L0} {h = H0} {s = S0} {s' = S4} (c.if-left-eq0.false) (c.mark-s1.ensures) (s_by {a = (mem X0 T0 N0 J0 L0 H0 S4)} {c = (mem X0 T0 N0 J5 L5 H5 S5)} {e = (mem X0 T0 N0 J5 L7 H7 S7)} _ (runs_in {a = (mem X0 T0 N0 J0 L0 H0 S4)} {c = (mem X0 T0 N0 J5 L5 H5 S5)} (c.exp-s2.ensures)) (s_look {a = (mem X0 T0 N0 J5 L5 H5 S5)} {e = (mem X0 T0 N0 J5 L7 H7 S7)} (c.in_default.ensures) (s_by {a = (mem X0 T0 N0 J5 L5 H5 S5)} {c = (mem X0 T0 N0 J5 L7 H7 S7)} {e = (mem X0 T0 N0 J5 L7 H7 S7)} _ (c.paren_end.ensures) s_end))))))
+    let pre0 = c.requires.0 in
+    let at = c.at.ensures in
+    let if1 = c.if-at.false in
+    let if2 = c.if-left-eq0.false in
+    let mark = c.mark-s1.ensures in
+    let exp = c.exp-s2.ensures in
+    let peek = c.in_default.ensures in
+    let paren_end = c.paren_end.ensures in
+    in_steps pre0 (s_kind (s_false _ _ (kind_off _ _ _ _ at if1) (s_mark if2 mark (s_by _ (runs_in exp) (s_look peek (s_by _ paren_end s_end))))))
 
 pub rnd-bump-s3-requires : goal.rnd-bump-s3-requires
 rnd-bump-s3-requires t c =
@@ -3240,9 +3103,9 @@ rnd-cl-s5-requires t c =
 pub rnd-returns-then-k-eq-SEMICOLON : goal.rnd-returns-then-k-eq-SEMICOLON
 unfolding expr.at_exp_l_round expr.end_closure util.choose plan choose chosen
 rnd-returns-then-k-eq-SEMICOLON t c =
-    let X0 = c.args.text.now in
-    let T0 = c.args.toks.now in
-    let N0 = c.args.env.now in
+    let X0 = c.args.lent.text.now in
+    let T0 = c.args.lent.toks.now in
+    let N0 = c.args.lent.env.now in
     let J0 = c.args.table.now in
     let L0 = c.args.scratch.now in
     let H0 = c.args.finds.now in
@@ -3260,7 +3123,7 @@ rnd-returns-then-k-eq-SEMICOLON t c =
     let L10 = c.cl-s5.new.scratch in
     let H10 = c.cl-s5.new.finds in
     let S10 = c.cl-s5.result in
-    in_steps {m = (mem X0 T0 N0 J0 L0 H0 S0)} {m' = (mem X0 T0 N0 J10 L10 H10 S10)} (c.requires.0) (s_kind {a = (mem X0 T0 N0 J0 L0 H0 S0)} {e = (mem X0 T0 N0 J10 L10 H10 S10)} (s_false {a = (mem X0 T0 N0 J0 L0 H0 S0)} {e = (mem X0 T0 N0 J10 L10 H10 S10)} _ _ (kind_off _ _ (mem X0 T0 N0 J0 L0 H0 S0) _ (c.at.ensures) (c.if-at.false)) (s_mark {e = (mem X0 T0 N0 J10 L10 H10 S10)} {x = X0} {t = T0} {n = N0} {j = J0} {l = L0} {h = H0} {s = S0} {s' = S4} (c.if-left-eq0.false) (c.mark-s1.ensures) (s_by {a = (mem X0 T0 N0 J0 L0 H0 S4)} {c = (mem X0 T0 N0 J5 L5 H5 S5)} {e = (mem X0 T0 N0 J10 L10 H10 S10)} _ (runs_in {a = (mem X0 T0 N0 J0 L0 H0 S4)} {c = (mem X0 T0 N0 J5 L5 H5 S5)} (c.exp-s2.ensures)) (s_look {a = (mem X0 T0 N0 J5 L5 H5 S5)} {e = (mem X0 T0 N0 J10 L10 H10 S10)} (c.in-Kind.ensures) (s_true {a = (mem X0 T0 N0 J5 L5 H5 S5)} {e = (mem X0 T0 N0 J10 L10 H10 S10)} _ _ (kind_is (c.if-k-eq-SEMICOLON.true)) (s_bump {e = (mem X0 T0 N0 J10 L10 H10 S10)} {x = X0} {t = T0} {n = N0} {j = J5} {l = L5} {h = H5} {s = S5} {s' = S8} {l' = L8} (c.bump-s3.ensures) (s_close {e = (mem X0 T0 N0 J10 L10 H10 S10)} {x = X0} {t = T0} {n = N0} {j = J5} {l = L8} {h = H5} {s = S8} {s' = S9} {l' = L9} (c.close-s4.ensures) (s_by {a = (mem X0 T0 N0 J5 L9 H5 S9)} {c = (mem X0 T0 N0 J10 L10 H10 S10)} {e = (mem X0 T0 N0 J10 L10 H10 S10)} _ (c.cl-s5.ensures) s_end)))))))))
+    in_steps {m = (mem X0 T0 N0 J0 L0 H0 S0)} {m' = (mem X0 T0 N0 J10 L10 H10 S10)} (c.requires.0) (s_kind {a = (mem X0 T0 N0 J0 L0 H0 S0)} {e = (mem X0 T0 N0 J10 L10 H10 S10)} (s_false {a = (mem X0 T0 N0 J0 L0 H0 S0)} {e = (mem X0 T0 N0 J10 L10 H10 S10)} _ _ (kind_off _ _ (mem X0 T0 N0 J0 L0 H0 S0) _ (c.at.ensures) (c.if-at.false)) (s_mark {e = (mem X0 T0 N0 J10 L10 H10 S10)} {x = X0} {t = T0} {n = N0} {j = J0} {l = L0} {h = H0} {s = S0} {s' = S4} (c.if-left-eq0.false) (c.mark-s1.ensures) (s_by {a = (mem X0 T0 N0 J0 L0 H0 S4)} {c = (mem X0 T0 N0 J5 L5 H5 S5)} {e = (mem X0 T0 N0 J10 L10 H10 S10)} _ (runs_in {a = (mem X0 T0 N0 J0 L0 H0 S4)} {c = (mem X0 T0 N0 J5 L5 H5 S5)} (c.exp-s2.ensures)) (s_look {a = (mem X0 T0 N0 J5 L5 H5 S5)} {e = (mem X0 T0 N0 J10 L10 H10 S10)} (c.in-Some.ensures) (s_true {a = (mem X0 T0 N0 J5 L5 H5 S5)} {e = (mem X0 T0 N0 J10 L10 H10 S10)} _ _ (kind_is (c.if-k-eq-SEMICOLON.true)) (s_bump {e = (mem X0 T0 N0 J10 L10 H10 S10)} {x = X0} {t = T0} {n = N0} {j = J5} {l = L5} {h = H5} {s = S5} {s' = S8} {l' = L8} (c.bump-s3.ensures) (s_close {e = (mem X0 T0 N0 J10 L10 H10 S10)} {x = X0} {t = T0} {n = N0} {j = J5} {l = L8} {h = H5} {s = S8} {s' = S9} {l' = L9} (c.close-s4.ensures) (s_by {a = (mem X0 T0 N0 J5 L9 H5 S9)} {c = (mem X0 T0 N0 J10 L10 H10 S10)} {e = (mem X0 T0 N0 J10 L10 H10 S10)} _ (c.cl-s5.ensures) s_end)))))))))
 
 pub rnd-bump-s3-requires-then-k-eq-COMMA : goal.rnd-bump-s3-requires-then-k-eq-COMMA
 rnd-bump-s3-requires-then-k-eq-COMMA t c =
@@ -3293,9 +3156,9 @@ rnd-cl-s5-requires-then-k-eq-COMMA t c =
 pub rnd-returns-then-k-eq-COMMA : goal.rnd-returns-then-k-eq-COMMA
 unfolding expr.at_exp_l_round expr.end_closure util.choose plan choose chosen
 rnd-returns-then-k-eq-COMMA t c =
-    let X0 = c.args.text.now in
-    let T0 = c.args.toks.now in
-    let N0 = c.args.env.now in
+    let X0 = c.args.lent.text.now in
+    let T0 = c.args.lent.toks.now in
+    let N0 = c.args.lent.env.now in
     let J0 = c.args.table.now in
     let L0 = c.args.scratch.now in
     let H0 = c.args.finds.now in
@@ -3313,7 +3176,7 @@ rnd-returns-then-k-eq-COMMA t c =
     let L11 = c.cl-s5-then-k-eq-COMMA.new.scratch in
     let H11 = c.cl-s5-then-k-eq-COMMA.new.finds in
     let S11 = c.cl-s5-then-k-eq-COMMA.result in
-    in_steps {m = (mem X0 T0 N0 J0 L0 H0 S0)} {m' = (mem X0 T0 N0 J11 L11 H11 S11)} (c.requires.0) (s_kind {a = (mem X0 T0 N0 J0 L0 H0 S0)} {e = (mem X0 T0 N0 J11 L11 H11 S11)} (s_false {a = (mem X0 T0 N0 J0 L0 H0 S0)} {e = (mem X0 T0 N0 J11 L11 H11 S11)} _ _ (kind_off _ _ (mem X0 T0 N0 J0 L0 H0 S0) _ (c.at.ensures) (c.if-at.false)) (s_mark {e = (mem X0 T0 N0 J11 L11 H11 S11)} {x = X0} {t = T0} {n = N0} {j = J0} {l = L0} {h = H0} {s = S0} {s' = S4} (c.if-left-eq0.false) (c.mark-s1.ensures) (s_by {a = (mem X0 T0 N0 J0 L0 H0 S4)} {c = (mem X0 T0 N0 J5 L5 H5 S5)} {e = (mem X0 T0 N0 J11 L11 H11 S11)} _ (runs_in {a = (mem X0 T0 N0 J0 L0 H0 S4)} {c = (mem X0 T0 N0 J5 L5 H5 S5)} (c.exp-s2.ensures)) (s_look {a = (mem X0 T0 N0 J5 L5 H5 S5)} {e = (mem X0 T0 N0 J11 L11 H11 S11)} (c.in-Kind.ensures) (s_false {a = (mem X0 T0 N0 J5 L5 H5 S5)} {e = (mem X0 T0 N0 J11 L11 H11 S11)} _ _ (kind_not (c.if-k-eq-SEMICOLON.false)) (s_true {a = (mem X0 T0 N0 J5 L5 H5 S5)} {e = (mem X0 T0 N0 J11 L11 H11 S11)} _ _ (kind_is (c.if-k-eq-COMMA.true)) (s_bump {e = (mem X0 T0 N0 J11 L11 H11 S11)} {x = X0} {t = T0} {n = N0} {j = J5} {l = L5} {h = H5} {s = S5} {s' = S9} {l' = L9} (c.bump-s3-then-k-eq-COMMA.ensures) (s_close {e = (mem X0 T0 N0 J11 L11 H11 S11)} {x = X0} {t = T0} {n = N0} {j = J5} {l = L9} {h = H5} {s = S9} {s' = S10} {l' = L10} (c.close-s4-then-k-eq-COMMA.ensures) (s_by {a = (mem X0 T0 N0 J5 L10 H5 S10)} {c = (mem X0 T0 N0 J11 L11 H11 S11)} {e = (mem X0 T0 N0 J11 L11 H11 S11)} _ (c.cl-s5-then-k-eq-COMMA.ensures) s_end))))))))))
+    in_steps {m = (mem X0 T0 N0 J0 L0 H0 S0)} {m' = (mem X0 T0 N0 J11 L11 H11 S11)} (c.requires.0) (s_kind {a = (mem X0 T0 N0 J0 L0 H0 S0)} {e = (mem X0 T0 N0 J11 L11 H11 S11)} (s_false {a = (mem X0 T0 N0 J0 L0 H0 S0)} {e = (mem X0 T0 N0 J11 L11 H11 S11)} _ _ (kind_off _ _ (mem X0 T0 N0 J0 L0 H0 S0) _ (c.at.ensures) (c.if-at.false)) (s_mark {e = (mem X0 T0 N0 J11 L11 H11 S11)} {x = X0} {t = T0} {n = N0} {j = J0} {l = L0} {h = H0} {s = S0} {s' = S4} (c.if-left-eq0.false) (c.mark-s1.ensures) (s_by {a = (mem X0 T0 N0 J0 L0 H0 S4)} {c = (mem X0 T0 N0 J5 L5 H5 S5)} {e = (mem X0 T0 N0 J11 L11 H11 S11)} _ (runs_in {a = (mem X0 T0 N0 J0 L0 H0 S4)} {c = (mem X0 T0 N0 J5 L5 H5 S5)} (c.exp-s2.ensures)) (s_look {a = (mem X0 T0 N0 J5 L5 H5 S5)} {e = (mem X0 T0 N0 J11 L11 H11 S11)} (c.in-Some.ensures) (s_false {a = (mem X0 T0 N0 J5 L5 H5 S5)} {e = (mem X0 T0 N0 J11 L11 H11 S11)} _ _ (kind_not (c.if-k-eq-SEMICOLON.false)) (s_true {a = (mem X0 T0 N0 J5 L5 H5 S5)} {e = (mem X0 T0 N0 J11 L11 H11 S11)} _ _ (kind_is (c.if-k-eq-COMMA.true)) (s_bump {e = (mem X0 T0 N0 J11 L11 H11 S11)} {x = X0} {t = T0} {n = N0} {j = J5} {l = L5} {h = H5} {s = S5} {s' = S9} {l' = L9} (c.bump-s3-then-k-eq-COMMA.ensures) (s_close {e = (mem X0 T0 N0 J11 L11 H11 S11)} {x = X0} {t = T0} {n = N0} {j = J5} {l = L9} {h = H5} {s = S9} {s' = S10} {l' = L10} (c.close-s4-then-k-eq-COMMA.ensures) (s_by {a = (mem X0 T0 N0 J5 L10 H5 S10)} {c = (mem X0 T0 N0 J11 L11 H11 S11)} {e = (mem X0 T0 N0 J11 L11 H11 S11)} _ (c.cl-s5-then-k-eq-COMMA.ensures) s_end))))))))))
 
 pub rnd-paren_end-requires-2 : goal.rnd-paren_end-requires-2
 rnd-paren_end-requires-2 t c =
@@ -3325,9 +3188,9 @@ rnd-paren_end-requires-2 t c =
 pub rnd-returns : goal.rnd-returns
 unfolding expr.at_exp_l_round expr.end_closure util.choose plan choose chosen
 rnd-returns t c =
-    let X0 = c.args.text.now in
-    let T0 = c.args.toks.now in
-    let N0 = c.args.env.now in
+    let X0 = c.args.lent.text.now in
+    let T0 = c.args.lent.toks.now in
+    let N0 = c.args.lent.env.now in
     let J0 = c.args.table.now in
     let L0 = c.args.scratch.now in
     let H0 = c.args.finds.now in
@@ -3340,7 +3203,7 @@ rnd-returns t c =
     let L9 = c.paren_end-2.new.scratch in
     let H9 = c.paren_end-2.new.finds in
     let S9 = out_state c.paren_end-2.result in
-    in_steps {m = (mem X0 T0 N0 J0 L0 H0 S0)} {m' = (mem X0 T0 N0 J5 L9 H9 S9)} (c.requires.0) (s_kind {a = (mem X0 T0 N0 J0 L0 H0 S0)} {e = (mem X0 T0 N0 J5 L9 H9 S9)} (s_false {a = (mem X0 T0 N0 J0 L0 H0 S0)} {e = (mem X0 T0 N0 J5 L9 H9 S9)} _ _ (kind_off _ _ (mem X0 T0 N0 J0 L0 H0 S0) _ (c.at.ensures) (c.if-at.false)) (s_mark {e = (mem X0 T0 N0 J5 L9 H9 S9)} {x = X0} {t = T0} {n = N0} {j = J0} {l = L0} {h = H0} {s = S0} {s' = S4} (c.if-left-eq0.false) (c.mark-s1.ensures) (s_by {a = (mem X0 T0 N0 J0 L0 H0 S4)} {c = (mem X0 T0 N0 J5 L5 H5 S5)} {e = (mem X0 T0 N0 J5 L9 H9 S9)} _ (runs_in {a = (mem X0 T0 N0 J0 L0 H0 S4)} {c = (mem X0 T0 N0 J5 L5 H5 S5)} (c.exp-s2.ensures)) (s_look {a = (mem X0 T0 N0 J5 L5 H5 S5)} {e = (mem X0 T0 N0 J5 L9 H9 S9)} (c.in-Kind.ensures) (s_false {a = (mem X0 T0 N0 J5 L5 H5 S5)} {e = (mem X0 T0 N0 J5 L9 H9 S9)} _ _ (kind_not (c.if-k-eq-SEMICOLON.false)) (s_false {a = (mem X0 T0 N0 J5 L5 H5 S5)} {e = (mem X0 T0 N0 J5 L9 H9 S9)} _ _ (kind_not (c.if-k-eq-COMMA.false)) (s_by {a = (mem X0 T0 N0 J5 L5 H5 S5)} {c = (mem X0 T0 N0 J5 L9 H9 S9)} {e = (mem X0 T0 N0 J5 L9 H9 S9)} _ (c.paren_end-2.ensures) s_end))))))))
+    in_steps {m = (mem X0 T0 N0 J0 L0 H0 S0)} {m' = (mem X0 T0 N0 J5 L9 H9 S9)} (c.requires.0) (s_kind {a = (mem X0 T0 N0 J0 L0 H0 S0)} {e = (mem X0 T0 N0 J5 L9 H9 S9)} (s_false {a = (mem X0 T0 N0 J0 L0 H0 S0)} {e = (mem X0 T0 N0 J5 L9 H9 S9)} _ _ (kind_off _ _ (mem X0 T0 N0 J0 L0 H0 S0) _ (c.at.ensures) (c.if-at.false)) (s_mark {e = (mem X0 T0 N0 J5 L9 H9 S9)} {x = X0} {t = T0} {n = N0} {j = J0} {l = L0} {h = H0} {s = S0} {s' = S4} (c.if-left-eq0.false) (c.mark-s1.ensures) (s_by {a = (mem X0 T0 N0 J0 L0 H0 S4)} {c = (mem X0 T0 N0 J5 L5 H5 S5)} {e = (mem X0 T0 N0 J5 L9 H9 S9)} _ (runs_in {a = (mem X0 T0 N0 J0 L0 H0 S4)} {c = (mem X0 T0 N0 J5 L5 H5 S5)} (c.exp-s2.ensures)) (s_look {a = (mem X0 T0 N0 J5 L5 H5 S5)} {e = (mem X0 T0 N0 J5 L9 H9 S9)} (c.in-Some.ensures) (s_false {a = (mem X0 T0 N0 J5 L5 H5 S5)} {e = (mem X0 T0 N0 J5 L9 H9 S9)} _ _ (kind_not (c.if-k-eq-SEMICOLON.false)) (s_false {a = (mem X0 T0 N0 J5 L5 H5 S5)} {e = (mem X0 T0 N0 J5 L9 H9 S9)} _ _ (kind_not (c.if-k-eq-COMMA.false)) (s_by {a = (mem X0 T0 N0 J5 L5 H5 S5)} {c = (mem X0 T0 N0 J5 L9 H9 S9)} {e = (mem X0 T0 N0 J5 L9 H9 S9)} _ (c.paren_end-2.ensures) s_end))))))))
 
 pub rst-peek-requires : goal.rst-peek-requires
 rst-peek-requires t c =
@@ -3350,14 +3213,9 @@ rst-peek-requires t c =
 pub rst-returns-in_default : goal.rst-returns-in_default
 unfolding expr.exp_rest expr.at_exp plan choose chosen
 rst-returns-in_default t c =
-    let X0 = c.args.text.now in
-    let T0 = c.args.toks.now in
-    let N0 = c.args.env.now in
-    let J0 = c.args.table.now in
-    let L0 = c.args.scratch.now in
-    let H0 = c.args.finds.now in
-    let S0 = c.args.s in
-    in_steps {m = (mem X0 T0 N0 J0 L0 H0 S0)} {m' = (mem X0 T0 N0 J0 L0 H0 S0)} (c.requires.0) (s_look {a = (mem X0 T0 N0 J0 L0 H0 S0)} {e = (mem X0 T0 N0 J0 L0 H0 S0)} (c.in_default.ensures) s_end)
+    let pre0 = c.requires.0 in
+    let peek = c.in_default.ensures in
+    in_steps pre0 (s_look peek s_end)
 
 pub rst-refuse-requires : goal.rst-refuse-requires
 rst-refuse-requires t c =
@@ -3366,15 +3224,15 @@ rst-refuse-requires t c =
 pub rst-returns-then-left-eq0 : goal.rst-returns-then-left-eq0
 unfolding expr.exp_rest expr.at_exp plan choose chosen hushed
 rst-returns-then-left-eq0 t c =
-    let X0 = c.args.text.now in
-    let T0 = c.args.toks.now in
-    let N0 = c.args.env.now in
+    let X0 = c.args.lent.text.now in
+    let T0 = c.args.lent.toks.now in
+    let N0 = c.args.lent.env.now in
     let J0 = c.args.table.now in
     let L0 = c.args.scratch.now in
     let H0 = c.args.finds.now in
     let S0 = c.args.s in
     let S3 = c.refuse.result in
-    in_steps {m = (mem X0 T0 N0 J0 L0 H0 S0)} {m' = (mem X0 T0 N0 J0 L0 H0 S3)} (c.requires.0) (s_look {a = (mem X0 T0 N0 J0 L0 H0 S0)} {e = (mem X0 T0 N0 J0 L0 H0 S3)} (c.in-Kind.ensures) (s_shut (c.if-left-eq0.true) (c.refuse.ensures) (λ k l. refl)))
+    in_steps {m = (mem X0 T0 N0 J0 L0 H0 S0)} {m' = (mem X0 T0 N0 J0 L0 H0 S3)} (c.requires.0) (s_look {a = (mem X0 T0 N0 J0 L0 H0 S0)} {e = (mem X0 T0 N0 J0 L0 H0 S3)} (c.in-Some.ensures) (s_shut (c.if-left-eq0.true) (c.refuse.ensures) (λ k l. refl)))
 
 pub rst-mark-s1-requires : goal.rst-mark-s1-requires
 rst-mark-s1-requires t c =
@@ -3390,16 +3248,16 @@ rst-atm-head-requires t c =
 pub rst-ops-s3-requires : goal.rst-ops-s3-requires
 rst-ops-s3-requires t c =
     let pre1 = c.requires.1 in
-    let atm = c.in-At.ensures in
+    let atm = c.in-Ok.ensures in
     let atm_ok = atm.ok in
     (omega arith, (atm_ok, pre1))
 
-pub rst-returns-in-Missing : goal.rst-returns-in-Missing
+pub rst-returns-in-Err : goal.rst-returns-in-Err
 unfolding expr.exp_rest expr.at_exp plan choose chosen
-rst-returns-in-Missing t c =
-    let X0 = c.args.text.now in
-    let T0 = c.args.toks.now in
-    let N0 = c.args.env.now in
+rst-returns-in-Err t c =
+    let X0 = c.args.lent.text.now in
+    let T0 = c.args.lent.toks.now in
+    let N0 = c.args.lent.env.now in
     let J0 = c.args.table.now in
     let L0 = c.args.scratch.now in
     let H0 = c.args.finds.now in
@@ -3408,15 +3266,15 @@ rst-returns-in-Missing t c =
     let J4 = c.atm-head.new.table in
     let L4 = c.atm-head.new.scratch in
     let H4 = c.atm-head.new.finds in
-    let S4 = c.in-Missing.s2 in
-    in_steps {m = (mem X0 T0 N0 J0 L0 H0 S0)} {m' = (mem X0 T0 N0 J4 L4 H4 S4)} (c.requires.0) (s_look {a = (mem X0 T0 N0 J0 L0 H0 S0)} {e = (mem X0 T0 N0 J4 L4 H4 S4)} (c.in-Kind.ensures) (s_mark {e = (mem X0 T0 N0 J4 L4 H4 S4)} {x = X0} {t = T0} {n = N0} {j = J0} {l = L0} {h = H0} {s = S0} {s' = S3} (c.if-left-eq0.false) (c.mark-s1.ensures) (s_by {a = (mem X0 T0 N0 J0 L0 H0 S3)} {c = (mem X0 T0 N0 J4 L4 H4 S4)} {e = (mem X0 T0 N0 J4 L4 H4 S4)} _ (c.in-Missing.ensures) s_end)))
+    let S4 = c.in-Err.s2 in
+    in_steps {m = (mem X0 T0 N0 J0 L0 H0 S0)} {m' = (mem X0 T0 N0 J4 L4 H4 S4)} (c.requires.0) (s_look {a = (mem X0 T0 N0 J0 L0 H0 S0)} {e = (mem X0 T0 N0 J4 L4 H4 S4)} (c.in-Some.ensures) (s_mark {e = (mem X0 T0 N0 J4 L4 H4 S4)} {x = X0} {t = T0} {n = N0} {j = J0} {l = L0} {h = H0} {s = S0} {s' = S3} (c.if-left-eq0.false) (c.mark-s1.ensures) (s_by {a = (mem X0 T0 N0 J0 L0 H0 S3)} {c = (mem X0 T0 N0 J4 L4 H4 S4)} {e = (mem X0 T0 N0 J4 L4 H4 S4)} _ (c.in-Err.ensures) s_end)))
 
-pub rst-returns-in-At : goal.rst-returns-in-At
+pub rst-returns-in-Ok : goal.rst-returns-in-Ok
 unfolding expr.exp_rest expr.at_exp plan choose chosen
-rst-returns-in-At t c =
-    let X0 = c.args.text.now in
-    let T0 = c.args.toks.now in
-    let N0 = c.args.env.now in
+rst-returns-in-Ok t c =
+    let X0 = c.args.lent.text.now in
+    let T0 = c.args.lent.toks.now in
+    let N0 = c.args.lent.env.now in
     let J0 = c.args.table.now in
     let L0 = c.args.scratch.now in
     let H0 = c.args.finds.now in
@@ -3425,12 +3283,12 @@ rst-returns-in-At t c =
     let J4 = c.atm-head.new.table in
     let L4 = c.atm-head.new.scratch in
     let H4 = c.atm-head.new.finds in
-    let S4 = c.in-At.s2 in
+    let S4 = c.in-Ok.s2 in
     let J5 = c.ops-s3.new.table in
     let L5 = c.ops-s3.new.scratch in
     let H5 = c.ops-s3.new.finds in
     let S5 = c.ops-s3.result in
-    in_steps {m = (mem X0 T0 N0 J0 L0 H0 S0)} {m' = (mem X0 T0 N0 J5 L5 H5 S5)} (c.requires.0) (s_look {a = (mem X0 T0 N0 J0 L0 H0 S0)} {e = (mem X0 T0 N0 J5 L5 H5 S5)} (c.in-Kind.ensures) (s_mark {e = (mem X0 T0 N0 J5 L5 H5 S5)} {x = X0} {t = T0} {n = N0} {j = J0} {l = L0} {h = H0} {s = S0} {s' = S3} (c.if-left-eq0.false) (c.mark-s1.ensures) (s_by {a = (mem X0 T0 N0 J0 L0 H0 S3)} {c = (mem X0 T0 N0 J4 L4 H4 S4)} {e = (mem X0 T0 N0 J5 L5 H5 S5)} _ (c.in-At.ensures) (s_run {a = (mem X0 T0 N0 J4 L4 H4 S4)} {c = (mem X0 T0 N0 J5 L5 H5 S5)} {e = (mem X0 T0 N0 J5 L5 H5 S5)} (c.ops-s3.ensures) s_end))))
+    in_steps {m = (mem X0 T0 N0 J0 L0 H0 S0)} {m' = (mem X0 T0 N0 J5 L5 H5 S5)} (c.requires.0) (s_look {a = (mem X0 T0 N0 J0 L0 H0 S0)} {e = (mem X0 T0 N0 J5 L5 H5 S5)} (c.in-Some.ensures) (s_mark {e = (mem X0 T0 N0 J5 L5 H5 S5)} {x = X0} {t = T0} {n = N0} {j = J0} {l = L0} {h = H0} {s = S0} {s' = S3} (c.if-left-eq0.false) (c.mark-s1.ensures) (s_by {a = (mem X0 T0 N0 J0 L0 H0 S3)} {c = (mem X0 T0 N0 J4 L4 H4 S4)} {e = (mem X0 T0 N0 J5 L5 H5 S5)} _ (c.in-Ok.ensures) (s_run {a = (mem X0 T0 N0 J4 L4 H4 S4)} {c = (mem X0 T0 N0 J5 L5 H5 S5)} {e = (mem X0 T0 N0 J5 L5 H5 S5)} (c.ops-s3.ensures) s_end))))
 
 pub sem-refuse-requires : goal.sem-refuse-requires
 sem-refuse-requires t c =
@@ -3457,7 +3315,7 @@ sem-pt-got-requires t c =
 
 pub sem-bump_if-s3-requires : goal.sem-bump_if-s3-requires
 sem-bump_if-s3-requires t c =
-    let pt = c.in-At.ensures in
+    let pt = c.in-Ok.ensures in
     let pt_ok = pt.ok in
     (pt_ok.reads, pt_ok.logs)
 
@@ -3466,28 +3324,28 @@ sem-close-requires t c =
     let pre0 = c.requires in
     let mark = c.mark-s1.ensures in
     let mark_ok = ok_marks mark pre0 in
-    let pt = c.in-At.ensures in
+    let pt = c.in-Ok.ensures in
     let pt_ok = pt.ok in
     let bump_if = c.bump_if-s3.ensures in
     let bump_if_ok = ok_takes bump_if pt_ok in
     (bump_if_ok.logs, small_len mark_ok)
 
-pub sem-returns-in-Missing : goal.sem-returns-in-Missing
+pub sem-returns-in-Err : goal.sem-returns-in-Err
 unfolding util.semi_turn plan choose chosen
-sem-returns-in-Missing t c =
+sem-returns-in-Err t c =
     let pre0 = c.requires in
     let if1 = c.if-left-eq0.false in
     let mark = c.mark-s1.ensures in
-    let pt = c.in-Missing.ensures in
+    let pt = c.in-Err.ensures in
     λ g. by_steps pre0 (λ b. s_mark if1 mark (s_by _ (runs_in pt) s_end))
 
-pub sem-returns-in-At : goal.sem-returns-in-At
+pub sem-returns-in-Ok : goal.sem-returns-in-Ok
 unfolding util.semi_turn plan choose chosen
-sem-returns-in-At t c =
+sem-returns-in-Ok t c =
     let pre0 = c.requires in
     let if1 = c.if-left-eq0.false in
     let mark = c.mark-s1.ensures in
-    let pt = c.in-At.ensures in
+    let pt = c.in-Ok.ensures in
     let bump_if = c.bump_if-s3.ensures in
     let close = c.close.ensures in
     λ g. by_steps pre0 (λ b. s_mark if1 mark (s_by _ (runs_in pt) (s_takes _ _ _ bump_if (s_close close s_end))))
@@ -3528,8 +3386,8 @@ sep-eat-got-requires t c =
     let refuse_ok = ok_refused _ refuse inv in
     (refuse_ok.reads, refuse_ok.logs, refuse_ok.holds, omega arith)
 
-pub sep-state-requires : goal.sep-state-requires
-sep-state-requires t c =
+pub sep-either-requires : goal.sep-either-requires
+sep-either-requires t c =
     tt
 
 pub sep-returns-then-left-eq0 : goal.sep-returns-then-left-eq0
@@ -3541,8 +3399,8 @@ sep-returns-then-left-eq0 t c =
     let if2 = c.if-left-eq0.true in
     let refuse = c.refuse-s2.ensures in
     let eat = c.eat-got.ensures in
-    let state = c.state.ensures in
-    loop_ends (end_turn_advances true _ _ _ _ _ _) inv (in_steps inv.ok {n = c.args.left} {b = c.args.b} (s_kind (s_false _ _ (kind_off _ _ _ _ at if1) (s_deep if2 refuse (s_eats _ _ _ (eats_settled state eat) s_end)))))
+    let either = c.either.ensures in
+    loop_ends (end_turn_advances true _ _ _ _ _ _) inv (in_steps inv.ok {n = c.args.left} {b = c.args.b} (s_kind (s_false _ _ (kind_off _ _ _ _ at if1) (s_deep if2 refuse (s_eats _ _ _ (eats_settled either eat) s_end)))))
 
 pub sep-mark-s2-requires : goal.sep-mark-s2-requires
 sep-mark-s2-requires t c =
@@ -3591,7 +3449,7 @@ sep-loop-q-smaller t c =
     let if3 = c.if-at-2.true in
     let bump2 = c.bump-s4.ensures in
     let close = c.close-s1.ensures in
-    loop_falls {p = (util.end_turn {g = true} c.args.q.wrap c.args.q.sep c.args.q.end (expr.end_closure c.args.q.wrap))} (end_turn_advances true _ _ _ _ _ _) (in_steps inv.ok {n = c.args.left} {b = c.args.b} (s_kind (s_false _ _ (kind_off _ _ _ _ at if1) (s_mark if2 mark (s_by _ (runs_in cel) (s_kind (s_true _ _ (kind_at _ _ _ _ at2 if3) (s_bump bump2 (s_close close s_end)))))))))
+    loop_falls {p = (util.end_turn {g = true} (node_number c.args.q.wrap) c.args.q.sep c.args.q.end (expr.end_closure (node_number c.args.q.wrap)))} (end_turn_advances true _ _ _ _ _ _) (in_steps inv.ok {n = c.args.left} {b = c.args.b} (s_kind (s_false _ _ (kind_off _ _ _ _ at if1) (s_mark if2 mark (s_by _ (runs_in cel) (s_kind (s_true _ _ (kind_at _ _ _ _ at2 if3) (s_bump bump2 (s_close close s_end)))))))))
 
 pub sep-loop-q-preserved : goal.sep-loop-q-preserved
 unfolding util.end_turn util.end_item plan choose chosen
@@ -3625,8 +3483,8 @@ sep-eat-got-requires-in-loop-q t c =
     let close2_ok = ok_adds close2 cel_ok in
     (close2_ok.reads, close2_ok.logs, close2_ok.holds, omega arith)
 
-pub sep-state-requires-in-loop-q : goal.sep-state-requires-in-loop-q
-sep-state-requires-in-loop-q t c =
+pub sep-either-requires-in-loop-q : goal.sep-either-requires-in-loop-q
+sep-either-requires-in-loop-q t c =
     tt
 
 pub sep-returns-in-loop-q : goal.sep-returns-in-loop-q
@@ -3642,8 +3500,8 @@ sep-returns-in-loop-q t c =
     let if3 = c.if-at-2.false in
     let close2 = c.close-s4.ensures in
     let eat2 = c.eat-got-in-loop-q.ensures in
-    let state2 = c.state-in-loop-q.ensures in
-    loop_ends (end_turn_advances true _ _ _ _ _ _) inv (in_steps inv.ok {n = c.args.left} {b = c.args.b} (s_kind (s_false _ _ (kind_off _ _ _ _ at if1) (s_mark if2 mark (s_by _ (runs_in cel) (s_kind (s_false _ _ (kind_off _ _ _ _ at2 if3) (s_close close2 (s_eats _ _ _ (eats_settled state2 eat2) s_end)))))))))
+    let either2 = c.either-in-loop-q.ensures in
+    loop_ends (end_turn_advances true _ _ _ _ _ _) inv (in_steps inv.ok {n = c.args.left} {b = c.args.b} (s_kind (s_false _ _ (kind_off _ _ _ _ at if1) (s_mark if2 mark (s_by _ (runs_in cel) (s_kind (s_false _ _ (kind_off _ _ _ _ at2 if3) (s_close close2 (s_eats _ _ _ (eats_settled either2 eat2) s_end)))))))))
 
 pub seq-loop-s2-init : goal.seq-loop-s2-init
 seq-loop-s2-init t c =
@@ -3657,19 +3515,19 @@ seq-sem-turn-requires t c =
 
 pub seq-loop-s2-smaller : goal.seq-loop-s2-smaller
 seq-loop-s2-smaller t c =
-    let sem = c.in-At.ensures in
+    let sem = c.in-Ok.ensures in
     loop_falls (semi_turn_advances true _ _ _ _) (runs_in {b = 0} (sem true))
 
 pub seq-loop-s2-preserved : goal.seq-loop-s2-preserved
 seq-loop-s2-preserved t c =
     let inv = c.loop-s2.invariant in
-    let sem = c.in-At.ensures in
+    let sem = c.in-Ok.ensures in
     λ g. loop_goes (semi_turn_advances g _ _ _ _) (inv g) (runs_in (sem g))
 
-pub seq-returns-in-Missing : goal.seq-returns-in-Missing
-seq-returns-in-Missing t c =
+pub seq-returns-in-Err : goal.seq-returns-in-Err
+seq-returns-in-Err t c =
     let inv = c.loop-s2.invariant in
-    let sem = c.in-Missing.ensures in
+    let sem = c.in-Err.ensures in
     λ g. loop_ends (semi_turn_advances g _ _ _ _) (inv g) (runs_in (sem g))
 
 pub sgb-eat-name-requires : goal.sgb-eat-name-requires
@@ -3680,47 +3538,47 @@ sgb-eat-name-requires t c =
 pub sgb-want-s2-requires : goal.sgb-want-s2-requires
 sgb-want-s2-requires t c =
     let pre0 = c.requires in
-    let eat = c.in-At.ensures in
+    let eat = c.in-Ok.ensures in
     let eat_ok = ok_eats eat pre0 in
     (eat_ok.reads, eat_ok.logs, eat_ok.holds, omega arith)
 
 pub sgb-sgm-s3-requires : goal.sgb-sgm-s3-requires
 sgb-sgm-s3-requires t c =
     let pre0 = c.requires in
-    let eat = c.in-At.ensures in
+    let eat = c.in-Ok.ensures in
     let eat_ok = ok_eats eat pre0 in
     let want = c.want-s2.ensures in
     let want_ok = ok_eats want eat_ok in
     (omega arith, want_ok)
 
-pub sgb-returns-in-Missing : goal.sgb-returns-in-Missing
+pub sgb-returns-in-Err : goal.sgb-returns-in-Err
 unfolding decl.sig_bind plan choose chosen
-sgb-returns-in-Missing t c =
-    let X0 = c.args.text.now in
-    let T0 = c.args.toks.now in
-    let N0 = c.args.env.now in
+sgb-returns-in-Err t c =
+    let X0 = c.args.lent.text.now in
+    let T0 = c.args.lent.toks.now in
+    let N0 = c.args.lent.env.now in
     let J0 = c.args.table.now in
     let L0 = c.args.scratch.now in
     let H0 = c.args.finds.now in
     let S0 = c.args.s in
     let L1 = c.eat-name.new.scratch in
     let H1 = c.eat-name.new.finds in
-    let S1 = c.in-Missing.s1 in
-    by_steps {m = (mem X0 T0 N0 J0 L0 H0 S0)} {m' = (mem X0 T0 N0 J0 L1 H1 S1)} (c.requires) (λ b. s_eats _ _ {x = X0} {t = T0} {n = N0} {j = J0} {l = L0} {h = H0} {l' = L1} {s = S0} {s' = S1} {e = (mem X0 T0 N0 J0 L1 H1 S1)} _ {h' = H1} (c.in-Missing.ensures) s_end)
+    let S1 = c.in-Err.s1 in
+    by_steps {m = (mem X0 T0 N0 J0 L0 H0 S0)} {m' = (mem X0 T0 N0 J0 L1 H1 S1)} (c.requires) (λ b. s_eats _ _ {x = X0} {t = T0} {n = N0} {j = J0} {l = L0} {h = H0} {l' = L1} {s = S0} {s' = S1} {e = (mem X0 T0 N0 J0 L1 H1 S1)} _ {h' = H1} (c.in-Err.ensures) s_end)
 
-pub sgb-returns-in-At : goal.sgb-returns-in-At
+pub sgb-returns-in-Ok : goal.sgb-returns-in-Ok
 unfolding decl.sig_bind plan choose chosen
-sgb-returns-in-At t c =
-    let X0 = c.args.text.now in
-    let T0 = c.args.toks.now in
-    let N0 = c.args.env.now in
+sgb-returns-in-Ok t c =
+    let X0 = c.args.lent.text.now in
+    let T0 = c.args.lent.toks.now in
+    let N0 = c.args.lent.env.now in
     let J0 = c.args.table.now in
     let L0 = c.args.scratch.now in
     let H0 = c.args.finds.now in
     let S0 = c.args.s in
     let L1 = c.eat-name.new.scratch in
     let H1 = c.eat-name.new.finds in
-    let S1 = c.in-At.s1 in
+    let S1 = c.in-Ok.s1 in
     let L2 = c.want-s2.new.scratch in
     let H2 = c.want-s2.new.finds in
     let S2 = c.want-s2.result in
@@ -3728,7 +3586,7 @@ sgb-returns-in-At t c =
     let L3 = c.sgm-s3.new.scratch in
     let H3 = c.sgm-s3.new.finds in
     let S3 = c.sgm-s3.result in
-    by_steps {m = (mem X0 T0 N0 J0 L0 H0 S0)} {m' = (mem X0 T0 N0 J3 L3 H3 S3)} (c.requires) (λ b. s_eats _ _ {x = X0} {t = T0} {n = N0} {j = J0} {l = L0} {h = H0} {l' = L1} {s = S0} {s' = S1} {e = (mem X0 T0 N0 J3 L3 H3 S3)} _ {h' = H1} (c.in-At.ensures) (s_eats _ _ {x = X0} {t = T0} {n = N0} {j = J0} {l = L1} {h = H1} {l' = L2} {s = S1} {s' = S2} {e = (mem X0 T0 N0 J3 L3 H3 S3)} _ {h' = H2} (c.want-s2.ensures) (s_by {a = (mem X0 T0 N0 J0 L2 H2 S2)} {c = (mem X0 T0 N0 J3 L3 H3 S3)} {e = (mem X0 T0 N0 J3 L3 H3 S3)} _ (runs_in {a = (mem X0 T0 N0 J0 L2 H2 S2)} {c = (mem X0 T0 N0 J3 L3 H3 S3)} (c.sgm-s3.ensures)) s_end)))
+    by_steps {m = (mem X0 T0 N0 J0 L0 H0 S0)} {m' = (mem X0 T0 N0 J3 L3 H3 S3)} (c.requires) (λ b. s_eats _ _ {x = X0} {t = T0} {n = N0} {j = J0} {l = L0} {h = H0} {l' = L1} {s = S0} {s' = S1} {e = (mem X0 T0 N0 J3 L3 H3 S3)} _ {h' = H1} (c.in-Ok.ensures) (s_eats _ _ {x = X0} {t = T0} {n = N0} {j = J0} {l = L1} {h = H1} {l' = L2} {s = S1} {s' = S2} {e = (mem X0 T0 N0 J3 L3 H3 S3)} _ {h' = H2} (c.want-s2.ensures) (s_by {a = (mem X0 T0 N0 J0 L2 H2 S2)} {c = (mem X0 T0 N0 J3 L3 H3 S3)} {e = (mem X0 T0 N0 J3 L3 H3 S3)} _ (runs_in {a = (mem X0 T0 N0 J0 L2 H2 S2)} {c = (mem X0 T0 N0 J3 L3 H3 S3)} (c.sgm-s3.ensures)) s_end)))
 
 pub sgm-sgx-got-requires : goal.sgm-sgx-got-requires
 sgm-sgx-got-requires t c =
@@ -3737,16 +3595,16 @@ sgm-sgx-got-requires t c =
 
 pub sgm-report-requires : goal.sgm-report-requires
 sgm-report-requires t c =
-    let sgx = c.in-Missing.ensures in
+    let sgx = c.in-Err.ensures in
     let sgx_ok = sgx.ok in
     (sgx_ok.holds, (let few = sgx_ok.reads.few in let inside = sgx_ok.reads.inside in omega arith), omega arith)
 
-pub sgm-returns-in-At : goal.sgm-returns-in-At
+pub sgm-returns-in-Ok : goal.sgm-returns-in-Ok
 unfolding decl.sig_must plan choose chosen
-sgm-returns-in-At t c =
-    let X0 = c.args.text.now in
-    let T0 = c.args.toks.now in
-    let N0 = c.args.env.now in
+sgm-returns-in-Ok t c =
+    let X0 = c.args.lent.text.now in
+    let T0 = c.args.lent.toks.now in
+    let N0 = c.args.lent.env.now in
     let J0 = c.args.table.now in
     let L0 = c.args.scratch.now in
     let H0 = c.args.finds.now in
@@ -3754,15 +3612,15 @@ sgm-returns-in-At t c =
     let J1 = c.sgx-got.new.table in
     let L1 = c.sgx-got.new.scratch in
     let H1 = c.sgx-got.new.finds in
-    let S1 = c.in-At.s1 in
-    by_steps {m = (mem X0 T0 N0 J0 L0 H0 S0)} {m' = (mem X0 T0 N0 J1 L1 H1 S1)} (c.requires) (λ b. s_run {a = (mem X0 T0 N0 J0 L0 H0 S0)} {c = (mem X0 T0 N0 J1 L1 H1 S1)} {e = (mem X0 T0 N0 J1 L1 H1 S1)} (runs_in {a = (mem X0 T0 N0 J0 L0 H0 S0)} {c = (mem X0 T0 N0 J1 L1 H1 S1)} (c.in-At.ensures)) s_end)
+    let S1 = c.in-Ok.s1 in
+    by_steps {m = (mem X0 T0 N0 J0 L0 H0 S0)} {m' = (mem X0 T0 N0 J1 L1 H1 S1)} (c.requires) (λ b. s_run {a = (mem X0 T0 N0 J0 L0 H0 S0)} {c = (mem X0 T0 N0 J1 L1 H1 S1)} {e = (mem X0 T0 N0 J1 L1 H1 S1)} (runs_in {a = (mem X0 T0 N0 J0 L0 H0 S0)} {c = (mem X0 T0 N0 J1 L1 H1 S1)} (c.in-Ok.ensures)) s_end)
 
-pub sgm-returns-in-Missing : goal.sgm-returns-in-Missing
+pub sgm-returns-in-Err : goal.sgm-returns-in-Err
 unfolding decl.sig_must plan choose chosen
-sgm-returns-in-Missing t c =
-    let X0 = c.args.text.now in
-    let T0 = c.args.toks.now in
-    let N0 = c.args.env.now in
+sgm-returns-in-Err t c =
+    let X0 = c.args.lent.text.now in
+    let T0 = c.args.lent.toks.now in
+    let N0 = c.args.lent.env.now in
     let J0 = c.args.table.now in
     let L0 = c.args.scratch.now in
     let H0 = c.args.finds.now in
@@ -3770,10 +3628,10 @@ sgm-returns-in-Missing t c =
     let J1 = c.sgx-got.new.table in
     let L1 = c.sgx-got.new.scratch in
     let H1 = c.sgx-got.new.finds in
-    let S1 = c.in-Missing.s1 in
+    let S1 = c.in-Err.s1 in
     let H2 = c.report.new.finds in
     let S2 = c.report.result in
-    by_steps {m = (mem X0 T0 N0 J0 L0 H0 S0)} {m' = (mem X0 T0 N0 J1 L1 H2 S2)} (c.requires) (λ b. s_run {a = (mem X0 T0 N0 J0 L0 H0 S0)} {c = (mem X0 T0 N0 J1 L1 H1 S1)} {e = (mem X0 T0 N0 J1 L1 H2 S2)} (runs_in {a = (mem X0 T0 N0 J0 L0 H0 S0)} {c = (mem X0 T0 N0 J1 L1 H1 S1)} (c.in-Missing.ensures)) (s_report {e = (mem X0 T0 N0 J1 L1 H2 S2)} {x = X0} {t = T0} {n = N0} {j = J1} {l = L1} {h = H1} {s = S1} {s' = S2} {h' = H2} (c.report.ensures) s_end))
+    by_steps {m = (mem X0 T0 N0 J0 L0 H0 S0)} {m' = (mem X0 T0 N0 J1 L1 H2 S2)} (c.requires) (λ b. s_run {a = (mem X0 T0 N0 J0 L0 H0 S0)} {c = (mem X0 T0 N0 J1 L1 H1 S1)} {e = (mem X0 T0 N0 J1 L1 H2 S2)} (runs_in {a = (mem X0 T0 N0 J0 L0 H0 S0)} {c = (mem X0 T0 N0 J1 L1 H1 S1)} (c.in-Err.ensures)) (s_report {e = (mem X0 T0 N0 J1 L1 H2 S2)} {x = X0} {t = T0} {n = N0} {j = J1} {l = L1} {h = H1} {s = S1} {s' = S2} {h' = H2} (c.report.ensures) s_end))
 
 pub sgx-peek-requires : goal.sgx-peek-requires
 sgx-peek-requires t c =
@@ -3783,14 +3641,9 @@ sgx-peek-requires t c =
 pub sgx-returns-in_default : goal.sgx-returns-in_default
 unfolding root.body decl.sig_scope decl.sig_head plan choose chosen
 sgx-returns-in_default t c =
-    let X0 = c.args.text.now in
-    let T0 = c.args.toks.now in
-    let N0 = c.args.env.now in
-    let J0 = c.args.table.now in
-    let L0 = c.args.scratch.now in
-    let H0 = c.args.finds.now in
-    let S0 = c.args.s in
-    by_steps {m = (mem X0 T0 N0 J0 L0 H0 S0)} {m' = (mem X0 T0 N0 J0 L0 H0 S0)} (c.requires) (λ b. s_rule {a = (mem X0 T0 N0 J0 L0 H0 S0)} {e = (mem X0 T0 N0 J0 L0 H0 S0)} (s_look {a = (mem X0 T0 N0 J0 L0 H0 S0)} {e = (mem X0 T0 N0 J0 L0 H0 S0)} (c.in_default.ensures) s_end))
+    let pre0 = c.requires in
+    let peek = c.in_default.ensures in
+    by_steps pre0 (λ b. s_rule (s_look peek s_end))
 
 pub sgx-refuse-requires : goal.sgx-refuse-requires
 sgx-refuse-requires t c =
@@ -3799,15 +3652,15 @@ sgx-refuse-requires t c =
 pub sgx-returns-then-left-eq0 : goal.sgx-returns-then-left-eq0
 unfolding root.body decl.sig_scope decl.sig_head plan choose chosen hushed
 sgx-returns-then-left-eq0 t c =
-    let X0 = c.args.text.now in
-    let T0 = c.args.toks.now in
-    let N0 = c.args.env.now in
+    let X0 = c.args.lent.text.now in
+    let T0 = c.args.lent.toks.now in
+    let N0 = c.args.lent.env.now in
     let J0 = c.args.table.now in
     let L0 = c.args.scratch.now in
     let H0 = c.args.finds.now in
     let S0 = c.args.s in
     let S3 = c.refuse.result in
-    by_steps {m = (mem X0 T0 N0 J0 L0 H0 S0)} {m' = (mem X0 T0 N0 J0 L0 H0 S3)} (c.requires) (λ b. s_rule {a = (mem X0 T0 N0 J0 L0 H0 S0)} {e = (mem X0 T0 N0 J0 L0 H0 S3)} (s_look {a = (mem X0 T0 N0 J0 L0 H0 S0)} {e = (mem X0 T0 N0 J0 L0 H0 S3)} (c.in-Kind.ensures) (s_shut (c.if-left-eq0.true) (c.refuse.ensures) (λ k l. refl))))
+    by_steps {m = (mem X0 T0 N0 J0 L0 H0 S0)} {m' = (mem X0 T0 N0 J0 L0 H0 S3)} (c.requires) (λ b. s_rule {a = (mem X0 T0 N0 J0 L0 H0 S0)} {e = (mem X0 T0 N0 J0 L0 H0 S3)} (s_look {a = (mem X0 T0 N0 J0 L0 H0 S0)} {e = (mem X0 T0 N0 J0 L0 H0 S3)} (c.in-Some.ensures) (s_shut (c.if-left-eq0.true) (c.refuse.ensures) (λ k l. refl))))
 
 pub sgx-mark-s1-requires : goal.sgx-mark-s1-requires
 sgx-mark-s1-requires t c =
@@ -3829,8 +3682,8 @@ sgx-dec-got-requires t c =
     let bump_ok = ok_bumps bump mark_ok in
     (omega arith, bump_ok)
 
-pub sgx-state-s3-requires : goal.sgx-state-s3-requires
-sgx-state-s3-requires t c =
+pub sgx-either-s3-requires : goal.sgx-either-s3-requires
+sgx-either-s3-requires t c =
     tt
 
 pub sgx-give_back-s4-requires : goal.sgx-give_back-s4-requires
@@ -3845,9 +3698,9 @@ sgx-end_node-s5-requires t c =
     let bump = c.bump-s2.ensures in
     let bump_ok = ok_bumps bump mark_ok in
     let dec = c.dec-got.ensures in
-    let state = c.state-s3.ensures in
+    let either = c.either-s3.ensures in
     let give_back = c.give_back-s4.ensures in
-    let give_back_ok = ok_back (settled state (runs_in {b = 0} dec)) give_back bump_ok in
+    let give_back_ok = ok_back (settled either (runs_in {b = 0} dec)) give_back bump_ok in
     (give_back_ok, small_len pre0, omega arith)
 
 pub sgx-wheres-requires : goal.sgx-wheres-requires
@@ -3860,9 +3713,9 @@ sgx-wheres-requires t c =
 pub sgx-returns-then-k-eq-SIG_KW : goal.sgx-returns-then-k-eq-SIG_KW
 unfolding root.body decl.sig_scope decl.sig_head plan choose chosen
 sgx-returns-then-k-eq-SIG_KW t c =
-    let X0 = c.args.text.now in
-    let T0 = c.args.toks.now in
-    let N0 = c.args.env.now in
+    let X0 = c.args.lent.text.now in
+    let T0 = c.args.lent.toks.now in
+    let N0 = c.args.lent.env.now in
     let J0 = c.args.table.now in
     let L0 = c.args.scratch.now in
     let H0 = c.args.finds.now in
@@ -3874,7 +3727,7 @@ sgx-returns-then-k-eq-SIG_KW t c =
     let L6 = c.dec-got.new.scratch in
     let H6 = c.dec-got.new.finds in
     let S6 = out_state c.dec-got.result in
-    let S7 = c.state-s3.result in
+    let S7 = c.either-s3.result in
     let S8 = c.give_back-s4.result in
     let L9 = c.end_node-s5.new.scratch in
     let H9 = c.end_node-s5.new.finds in
@@ -3882,7 +3735,7 @@ sgx-returns-then-k-eq-SIG_KW t c =
     let L10 = c.wheres.new.scratch in
     let H10 = c.wheres.new.finds in
     let S10 = c.wheres.result in
-    by_steps {m = (mem X0 T0 N0 J0 L0 H0 S0)} {m' = (mem X0 T0 N0 J6 L10 H10 S10)} (c.requires) (λ b. s_rule {a = (mem X0 T0 N0 J0 L0 H0 S0)} {e = (mem X0 T0 N0 J6 L10 H10 S10)} (s_look {a = (mem X0 T0 N0 J0 L0 H0 S0)} {e = (mem X0 T0 N0 J6 L10 H10 S10)} (c.in-Kind.ensures) (s_mark {e = (mem X0 T0 N0 J6 L10 H10 S10)} {x = X0} {t = T0} {n = N0} {j = J0} {l = L0} {h = H0} {s = S0} {s' = S3} (c.if-left-eq0.false) (c.mark-s1.ensures) (s_true {a = (mem X0 T0 N0 J0 L0 H0 S3)} {e = (mem X0 T0 N0 J6 L10 H10 S10)} _ _ (kind_is (c.if-k-eq-SIG_KW.true)) (s_bump {e = (mem X0 T0 N0 J6 L10 H10 S10)} {x = X0} {t = T0} {n = N0} {j = J0} {l = L0} {h = H0} {s = S3} {s' = S5} {l' = L5} (c.bump-s2.ensures) (s_scoped {x = X0} {t = T0} {e = N0} {j = J0} {l = L5} {y = H0} {j' = J6} {l' = L6} {y' = H6} {s = S5} {s' = S7} {c = (mem X0 T0 N0 J6 L10 H10 S10)} {r = S8} (settled (c.state-s3.ensures) (runs_in {a = (mem X0 T0 N0 J0 L5 H0 S5)} {c = (mem X0 T0 N0 J6 L6 H6 S6)} (c.dec-got.ensures))) (c.give_back-s4.ensures) (s_by {a = (mem X0 T0 N0 J6 L6 H6 S8)} {c = (mem X0 T0 N0 J6 L9 H9 S9)} {e = (mem X0 T0 N0 J6 L10 H10 S10)} _ (c.end_node-s5.ensures) (s_by {a = (mem X0 T0 N0 J6 L9 H9 S9)} {c = (mem X0 T0 N0 J6 L10 H10 S10)} {e = (mem X0 T0 N0 J6 L10 H10 S10)} _ (c.wheres.ensures) s_end))))))))
+    by_steps {m = (mem X0 T0 N0 J0 L0 H0 S0)} {m' = (mem X0 T0 N0 J6 L10 H10 S10)} (c.requires) (λ b. s_rule {a = (mem X0 T0 N0 J0 L0 H0 S0)} {e = (mem X0 T0 N0 J6 L10 H10 S10)} (s_look {a = (mem X0 T0 N0 J0 L0 H0 S0)} {e = (mem X0 T0 N0 J6 L10 H10 S10)} (c.in-Some.ensures) (s_mark {e = (mem X0 T0 N0 J6 L10 H10 S10)} {x = X0} {t = T0} {n = N0} {j = J0} {l = L0} {h = H0} {s = S0} {s' = S3} (c.if-left-eq0.false) (c.mark-s1.ensures) (s_true {a = (mem X0 T0 N0 J0 L0 H0 S3)} {e = (mem X0 T0 N0 J6 L10 H10 S10)} _ _ (kind_is (c.if-k-eq-SIG_KW.true)) (s_bump {e = (mem X0 T0 N0 J6 L10 H10 S10)} {x = X0} {t = T0} {n = N0} {j = J0} {l = L0} {h = H0} {s = S3} {s' = S5} {l' = L5} (c.bump-s2.ensures) (s_scoped {x = X0} {t = T0} {e = N0} {j = J0} {l = L5} {y = H0} {j' = J6} {l' = L6} {y' = H6} {s = S5} {s' = S7} {c = (mem X0 T0 N0 J6 L10 H10 S10)} {r = S8} (settled (c.either-s3.ensures) (runs_in {a = (mem X0 T0 N0 J0 L5 H0 S5)} {c = (mem X0 T0 N0 J6 L6 H6 S6)} (c.dec-got.ensures))) (c.give_back-s4.ensures) (s_by {a = (mem X0 T0 N0 J6 L6 H6 S8)} {c = (mem X0 T0 N0 J6 L9 H9 S9)} {e = (mem X0 T0 N0 J6 L10 H10 S10)} _ (c.end_node-s5.ensures) (s_by {a = (mem X0 T0 N0 J6 L9 H9 S9)} {c = (mem X0 T0 N0 J6 L10 H10 S10)} {e = (mem X0 T0 N0 J6 L10 H10 S10)} _ (c.wheres.ensures) s_end))))))))
 
 pub sgx-bump-s2-requires-then-k-eq-NAME : goal.sgx-bump-s2-requires-then-k-eq-NAME
 sgx-bump-s2-requires-then-k-eq-NAME t c =
@@ -3914,9 +3767,9 @@ sgx-wheres-requires-then-k-eq-NAME t c =
 pub sgx-returns-then-k-eq-NAME : goal.sgx-returns-then-k-eq-NAME
 unfolding root.body decl.sig_scope decl.sig_head plan choose chosen
 sgx-returns-then-k-eq-NAME t c =
-    let X0 = c.args.text.now in
-    let T0 = c.args.toks.now in
-    let N0 = c.args.env.now in
+    let X0 = c.args.lent.text.now in
+    let T0 = c.args.lent.toks.now in
+    let N0 = c.args.lent.env.now in
     let J0 = c.args.table.now in
     let L0 = c.args.scratch.now in
     let H0 = c.args.finds.now in
@@ -3929,54 +3782,54 @@ sgx-returns-then-k-eq-NAME t c =
     let L8 = c.wheres-then-k-eq-NAME.new.scratch in
     let H8 = c.wheres-then-k-eq-NAME.new.finds in
     let S8 = c.wheres-then-k-eq-NAME.result in
-    by_steps {m = (mem X0 T0 N0 J0 L0 H0 S0)} {m' = (mem X0 T0 N0 J0 L8 H8 S8)} (c.requires) (λ b. s_rule {a = (mem X0 T0 N0 J0 L0 H0 S0)} {e = (mem X0 T0 N0 J0 L8 H8 S8)} (s_look {a = (mem X0 T0 N0 J0 L0 H0 S0)} {e = (mem X0 T0 N0 J0 L8 H8 S8)} (c.in-Kind.ensures) (s_mark {e = (mem X0 T0 N0 J0 L8 H8 S8)} {x = X0} {t = T0} {n = N0} {j = J0} {l = L0} {h = H0} {s = S0} {s' = S3} (c.if-left-eq0.false) (c.mark-s1.ensures) (s_false {a = (mem X0 T0 N0 J0 L0 H0 S3)} {e = (mem X0 T0 N0 J0 L8 H8 S8)} _ _ (kind_not (c.if-k-eq-SIG_KW.false)) (s_true {a = (mem X0 T0 N0 J0 L0 H0 S3)} {e = (mem X0 T0 N0 J0 L8 H8 S8)} _ _ (kind_is (c.if-k-eq-NAME.true)) (s_bump {e = (mem X0 T0 N0 J0 L8 H8 S8)} {x = X0} {t = T0} {n = N0} {j = J0} {l = L0} {h = H0} {s = S3} {s' = S6} {l' = L6} (c.bump-s2-then-k-eq-NAME.ensures) (s_close {e = (mem X0 T0 N0 J0 L8 H8 S8)} {x = X0} {t = T0} {n = N0} {j = J0} {l = L6} {h = H0} {s = S6} {s' = S7} {l' = L7} (c.close-s3.ensures) (s_by {a = (mem X0 T0 N0 J0 L7 H0 S7)} {c = (mem X0 T0 N0 J0 L8 H8 S8)} {e = (mem X0 T0 N0 J0 L8 H8 S8)} _ (c.wheres-then-k-eq-NAME.ensures) s_end))))))))
+    by_steps {m = (mem X0 T0 N0 J0 L0 H0 S0)} {m' = (mem X0 T0 N0 J0 L8 H8 S8)} (c.requires) (λ b. s_rule {a = (mem X0 T0 N0 J0 L0 H0 S0)} {e = (mem X0 T0 N0 J0 L8 H8 S8)} (s_look {a = (mem X0 T0 N0 J0 L0 H0 S0)} {e = (mem X0 T0 N0 J0 L8 H8 S8)} (c.in-Some.ensures) (s_mark {e = (mem X0 T0 N0 J0 L8 H8 S8)} {x = X0} {t = T0} {n = N0} {j = J0} {l = L0} {h = H0} {s = S0} {s' = S3} (c.if-left-eq0.false) (c.mark-s1.ensures) (s_false {a = (mem X0 T0 N0 J0 L0 H0 S3)} {e = (mem X0 T0 N0 J0 L8 H8 S8)} _ _ (kind_not (c.if-k-eq-SIG_KW.false)) (s_true {a = (mem X0 T0 N0 J0 L0 H0 S3)} {e = (mem X0 T0 N0 J0 L8 H8 S8)} _ _ (kind_is (c.if-k-eq-NAME.true)) (s_bump {e = (mem X0 T0 N0 J0 L8 H8 S8)} {x = X0} {t = T0} {n = N0} {j = J0} {l = L0} {h = H0} {s = S3} {s' = S6} {l' = L6} (c.bump-s2-then-k-eq-NAME.ensures) (s_close {e = (mem X0 T0 N0 J0 L8 H8 S8)} {x = X0} {t = T0} {n = N0} {j = J0} {l = L6} {h = H0} {s = S6} {s' = S7} {l' = L7} (c.close-s3.ensures) (s_by {a = (mem X0 T0 N0 J0 L7 H0 S7)} {c = (mem X0 T0 N0 J0 L8 H8 S8)} {e = (mem X0 T0 N0 J0 L8 H8 S8)} _ (c.wheres-then-k-eq-NAME.ensures) s_end))))))))
 
 pub sgx-returns : goal.sgx-returns
 unfolding root.body decl.sig_scope decl.sig_head plan choose chosen
 sgx-returns t c =
-    let X0 = c.args.text.now in
-    let T0 = c.args.toks.now in
-    let N0 = c.args.env.now in
+    let X0 = c.args.lent.text.now in
+    let T0 = c.args.lent.toks.now in
+    let N0 = c.args.lent.env.now in
     let J0 = c.args.table.now in
     let L0 = c.args.scratch.now in
     let H0 = c.args.finds.now in
     let S0 = c.args.s in
     let S3 = c.mark-s1.result in
-    by_steps {m = (mem X0 T0 N0 J0 L0 H0 S0)} {m' = (mem X0 T0 N0 J0 L0 H0 S3)} (c.requires) (λ b. s_rule {a = (mem X0 T0 N0 J0 L0 H0 S0)} {e = (mem X0 T0 N0 J0 L0 H0 S3)} (s_look {a = (mem X0 T0 N0 J0 L0 H0 S0)} {e = (mem X0 T0 N0 J0 L0 H0 S3)} (c.in-Kind.ensures) (s_mark {e = (mem X0 T0 N0 J0 L0 H0 S3)} {x = X0} {t = T0} {n = N0} {j = J0} {l = L0} {h = H0} {s = S0} {s' = S3} (c.if-left-eq0.false) (c.mark-s1.ensures) (s_false {a = (mem X0 T0 N0 J0 L0 H0 S3)} {e = (mem X0 T0 N0 J0 L0 H0 S3)} _ _ (kind_not (c.if-k-eq-SIG_KW.false)) (s_false {a = (mem X0 T0 N0 J0 L0 H0 S3)} {e = (mem X0 T0 N0 J0 L0 H0 S3)} _ _ (kind_not (c.if-k-eq-NAME.false)) s_end)))))
+    by_steps {m = (mem X0 T0 N0 J0 L0 H0 S0)} {m' = (mem X0 T0 N0 J0 L0 H0 S3)} (c.requires) (λ b. s_rule {a = (mem X0 T0 N0 J0 L0 H0 S0)} {e = (mem X0 T0 N0 J0 L0 H0 S3)} (s_look {a = (mem X0 T0 N0 J0 L0 H0 S0)} {e = (mem X0 T0 N0 J0 L0 H0 S3)} (c.in-Some.ensures) (s_mark {e = (mem X0 T0 N0 J0 L0 H0 S3)} {x = X0} {t = T0} {n = N0} {j = J0} {l = L0} {h = H0} {s = S0} {s' = S3} (c.if-left-eq0.false) (c.mark-s1.ensures) (s_false {a = (mem X0 T0 N0 J0 L0 H0 S3)} {e = (mem X0 T0 N0 J0 L0 H0 S3)} _ _ (kind_not (c.if-k-eq-SIG_KW.false)) (s_false {a = (mem X0 T0 N0 J0 L0 H0 S3)} {e = (mem X0 T0 N0 J0 L0 H0 S3)} _ _ (kind_not (c.if-k-eq-NAME.false)) s_end)))))
 
 pub slt-dec-got-requires : goal.slt-dec-got-requires
 slt-dec-got-requires t c =
     let pre0 = c.requires in
     (omega arith, pre0)
 
-pub slt-state-s1-requires : goal.slt-state-s1-requires
-slt-state-s1-requires t c =
+pub slt-either-s1-requires : goal.slt-either-s1-requires
+slt-either-s1-requires t c =
     tt
 
 pub slt-want-s2-requires : goal.slt-want-s2-requires
 slt-want-s2-requires t c =
     let dec = c.dec-got.ensures in
     let dec_ok = dec.ok in
-    let state = c.state-s1.ensures in
-    let state_ok = ok_state state dec_ok in
-    (state_ok.reads, state_ok.logs, state_ok.holds, omega arith)
+    let either = c.either-s1.ensures in
+    let either_ok = ok_state either dec_ok in
+    (either_ok.reads, either_ok.logs, either_ok.holds, omega arith)
 
 pub slt-stm-requires : goal.slt-stm-requires
 slt-stm-requires t c =
     let dec = c.dec-got.ensures in
     let dec_ok = dec.ok in
-    let state = c.state-s1.ensures in
-    let state_ok = ok_state state dec_ok in
+    let either = c.either-s1.ensures in
+    let either_ok = ok_state either dec_ok in
     let want = c.want-s2.ensures in
-    let want_ok = ok_eats want state_ok in
+    let want_ok = ok_eats want either_ok in
     (omega arith, want_ok)
 
 pub slt-returns : goal.slt-returns
 unfolding decl.str_let plan choose chosen
 slt-returns t c =
-    let X0 = c.args.text.now in
-    let T0 = c.args.toks.now in
-    let N0 = c.args.env.now in
+    let X0 = c.args.lent.text.now in
+    let T0 = c.args.lent.toks.now in
+    let N0 = c.args.lent.env.now in
     let J0 = c.args.table.now in
     let L0 = c.args.scratch.now in
     let H0 = c.args.finds.now in
@@ -3985,7 +3838,7 @@ slt-returns t c =
     let L1 = c.dec-got.new.scratch in
     let H1 = c.dec-got.new.finds in
     let S1 = out_state c.dec-got.result in
-    let S2 = c.state-s1.result in
+    let S2 = c.either-s1.result in
     let L3 = c.want-s2.new.scratch in
     let H3 = c.want-s2.new.finds in
     let S3 = c.want-s2.result in
@@ -3993,7 +3846,7 @@ slt-returns t c =
     let L4 = c.stm.new.scratch in
     let H4 = c.stm.new.finds in
     let S4 = c.stm.result in
-    by_steps {m = (mem X0 T0 N0 J0 L0 H0 S0)} {m' = (mem X0 T0 N0 J4 L4 H4 S4)} (c.requires) (λ b. s_run {a = (mem X0 T0 N0 J0 L0 H0 S0)} {c = (mem X0 T0 N0 J1 L1 H1 S2)} {e = (mem X0 T0 N0 J4 L4 H4 S4)} (settled (c.state-s1.ensures) (runs_in {a = (mem X0 T0 N0 J0 L0 H0 S0)} {c = (mem X0 T0 N0 J1 L1 H1 S1)} (c.dec-got.ensures))) (s_eats _ _ {x = X0} {t = T0} {n = N0} {j = J1} {l = L1} {h = H1} {l' = L3} {s = S2} {s' = S3} {e = (mem X0 T0 N0 J4 L4 H4 S4)} _ {h' = H3} (c.want-s2.ensures) (s_by {a = (mem X0 T0 N0 J1 L3 H3 S3)} {c = (mem X0 T0 N0 J4 L4 H4 S4)} {e = (mem X0 T0 N0 J4 L4 H4 S4)} _ (runs_in {a = (mem X0 T0 N0 J1 L3 H3 S3)} {c = (mem X0 T0 N0 J4 L4 H4 S4)} (c.stm.ensures)) s_end)))
+    by_steps {m = (mem X0 T0 N0 J0 L0 H0 S0)} {m' = (mem X0 T0 N0 J4 L4 H4 S4)} (c.requires) (λ b. s_run {a = (mem X0 T0 N0 J0 L0 H0 S0)} {c = (mem X0 T0 N0 J1 L1 H1 S2)} {e = (mem X0 T0 N0 J4 L4 H4 S4)} (settled (c.either-s1.ensures) (runs_in {a = (mem X0 T0 N0 J0 L0 H0 S0)} {c = (mem X0 T0 N0 J1 L1 H1 S1)} (c.dec-got.ensures))) (s_eats _ _ {x = X0} {t = T0} {n = N0} {j = J1} {l = L1} {h = H1} {l' = L3} {s = S2} {s' = S3} {e = (mem X0 T0 N0 J4 L4 H4 S4)} _ {h' = H3} (c.want-s2.ensures) (s_by {a = (mem X0 T0 N0 J1 L3 H3 S3)} {c = (mem X0 T0 N0 J4 L4 H4 S4)} {e = (mem X0 T0 N0 J4 L4 H4 S4)} _ (runs_in {a = (mem X0 T0 N0 J1 L3 H3 S3)} {c = (mem X0 T0 N0 J4 L4 H4 S4)} (c.stm.ensures)) s_end)))
 
 pub stb-eat-name-requires : goal.stb-eat-name-requires
 stb-eat-name-requires t c =
@@ -4003,7 +3856,7 @@ stb-eat-name-requires t c =
 pub stb-aso-s2-requires : goal.stb-aso-s2-requires
 stb-aso-s2-requires t c =
     let pre0 = c.requires in
-    let eat = c.in-At.ensures in
+    let eat = c.in-Ok.ensures in
     let eat_ok = ok_eats eat pre0 in
     (omega arith, eat_ok)
 
@@ -4020,22 +3873,22 @@ stb-refuse-requires t c =
 pub stb-returns-then-left-eq0 : goal.stb-returns-then-left-eq0
 unfolding decl.str_bind plan choose chosen hushed
 stb-returns-then-left-eq0 t c =
-    let X0 = c.args.text.now in
-    let T0 = c.args.toks.now in
-    let N0 = c.args.env.now in
+    let X0 = c.args.lent.text.now in
+    let T0 = c.args.lent.toks.now in
+    let N0 = c.args.lent.env.now in
     let J0 = c.args.table.now in
     let L0 = c.args.scratch.now in
     let H0 = c.args.finds.now in
     let S0 = c.args.s in
     let L1 = c.eat-name.new.scratch in
     let H1 = c.eat-name.new.finds in
-    let S1 = c.in-At.s1 in
+    let S1 = c.in-Ok.s1 in
     let J2 = c.aso-s2.new.table in
     let L2 = c.aso-s2.new.scratch in
     let H2 = c.aso-s2.new.finds in
     let S2 = c.aso-s2.result in
     let S6 = c.refuse.result in
-    by_steps {m = (mem X0 T0 N0 J0 L0 H0 S0)} {m' = (mem X0 T0 N0 J2 L2 H2 S6)} (c.requires) (λ b. s_eats _ _ {x = X0} {t = T0} {n = N0} {j = J0} {l = L0} {h = H0} {l' = L1} {s = S0} {s' = S1} {e = (mem X0 T0 N0 J2 L2 H2 S6)} _ {h' = H1} (c.in-At.ensures) (s_by {a = (mem X0 T0 N0 J0 L1 H1 S1)} {c = (mem X0 T0 N0 J2 L2 H2 S2)} {e = (mem X0 T0 N0 J2 L2 H2 S6)} _ (runs_in {a = (mem X0 T0 N0 J0 L1 H1 S1)} {c = (mem X0 T0 N0 J2 L2 H2 S2)} (c.aso-s2.ensures)) (s_kind {a = (mem X0 T0 N0 J2 L2 H2 S2)} {e = (mem X0 T0 N0 J2 L2 H2 S6)} (s_true {a = (mem X0 T0 N0 J2 L2 H2 S2)} {e = (mem X0 T0 N0 J2 L2 H2 S6)} _ _ (kind_at _ _ (mem X0 T0 N0 J2 L2 H2 S2) _ (c.at.ensures) (c.if-at.true)) (s_shut (c.if-left-eq0.true) (c.refuse.ensures) (λ k l. refl))))))
+    by_steps {m = (mem X0 T0 N0 J0 L0 H0 S0)} {m' = (mem X0 T0 N0 J2 L2 H2 S6)} (c.requires) (λ b. s_eats _ _ {x = X0} {t = T0} {n = N0} {j = J0} {l = L0} {h = H0} {l' = L1} {s = S0} {s' = S1} {e = (mem X0 T0 N0 J2 L2 H2 S6)} _ {h' = H1} (c.in-Ok.ensures) (s_by {a = (mem X0 T0 N0 J0 L1 H1 S1)} {c = (mem X0 T0 N0 J2 L2 H2 S2)} {e = (mem X0 T0 N0 J2 L2 H2 S6)} _ (runs_in {a = (mem X0 T0 N0 J0 L1 H1 S1)} {c = (mem X0 T0 N0 J2 L2 H2 S2)} (c.aso-s2.ensures)) (s_kind {a = (mem X0 T0 N0 J2 L2 H2 S2)} {e = (mem X0 T0 N0 J2 L2 H2 S6)} (s_true {a = (mem X0 T0 N0 J2 L2 H2 S2)} {e = (mem X0 T0 N0 J2 L2 H2 S6)} _ _ (kind_at _ _ (mem X0 T0 N0 J2 L2 H2 S2) _ (c.at.ensures) (c.if-at.true)) (s_shut (c.if-left-eq0.true) (c.refuse.ensures) (λ k l. refl))))))
 
 pub stb-mark-s3-requires : goal.stb-mark-s3-requires
 stb-mark-s3-requires t c =
@@ -4072,16 +3925,16 @@ stb-close-requires t c =
 pub stb-returns-then-at : goal.stb-returns-then-at
 unfolding decl.str_bind plan choose chosen
 stb-returns-then-at t c =
-    let X0 = c.args.text.now in
-    let T0 = c.args.toks.now in
-    let N0 = c.args.env.now in
+    let X0 = c.args.lent.text.now in
+    let T0 = c.args.lent.toks.now in
+    let N0 = c.args.lent.env.now in
     let J0 = c.args.table.now in
     let L0 = c.args.scratch.now in
     let H0 = c.args.finds.now in
     let S0 = c.args.s in
     let L1 = c.eat-name.new.scratch in
     let H1 = c.eat-name.new.finds in
-    let S1 = c.in-At.s1 in
+    let S1 = c.in-Ok.s1 in
     let J2 = c.aso-s2.new.table in
     let L2 = c.aso-s2.new.scratch in
     let H2 = c.aso-s2.new.finds in
@@ -4095,41 +3948,41 @@ stb-returns-then-at t c =
     let S8 = c.stm-s5.result in
     let L9 = c.close.new.scratch in
     let S9 = c.close.result in
-    by_steps {m = (mem X0 T0 N0 J0 L0 H0 S0)} {m' = (mem X0 T0 N0 J8 L9 H8 S9)} (c.requires) (λ b. s_eats _ _ {x = X0} {t = T0} {n = N0} {j = J0} {l = L0} {h = H0} {l' = L1} {s = S0} {s' = S1} {e = (mem X0 T0 N0 J8 L9 H8 S9)} _ {h' = H1} (c.in-At.ensures) (s_by {a = (mem X0 T0 N0 J0 L1 H1 S1)} {c = (mem X0 T0 N0 J2 L2 H2 S2)} {e = (mem X0 T0 N0 J8 L9 H8 S9)} _ (runs_in {a = (mem X0 T0 N0 J0 L1 H1 S1)} {c = (mem X0 T0 N0 J2 L2 H2 S2)} (c.aso-s2.ensures)) (s_kind {a = (mem X0 T0 N0 J2 L2 H2 S2)} {e = (mem X0 T0 N0 J8 L9 H8 S9)} (s_true {a = (mem X0 T0 N0 J2 L2 H2 S2)} {e = (mem X0 T0 N0 J8 L9 H8 S9)} _ _ (kind_at _ _ (mem X0 T0 N0 J2 L2 H2 S2) _ (c.at.ensures) (c.if-at.true)) (s_mark {e = (mem X0 T0 N0 J8 L9 H8 S9)} {x = X0} {t = T0} {n = N0} {j = J2} {l = L2} {h = H2} {s = S2} {s' = S6} (c.if-left-eq0.false) (c.mark-s3.ensures) (s_bump {e = (mem X0 T0 N0 J8 L9 H8 S9)} {x = X0} {t = T0} {n = N0} {j = J2} {l = L2} {h = H2} {s = S6} {s' = S7} {l' = L7} (c.bump-s4.ensures) (s_by {a = (mem X0 T0 N0 J2 L7 H2 S7)} {c = (mem X0 T0 N0 J8 L8 H8 S8)} {e = (mem X0 T0 N0 J8 L9 H8 S9)} _ (runs_in {a = (mem X0 T0 N0 J2 L7 H2 S7)} {c = (mem X0 T0 N0 J8 L8 H8 S8)} (c.stm-s5.ensures)) (s_close {e = (mem X0 T0 N0 J8 L9 H8 S9)} {x = X0} {t = T0} {n = N0} {j = J8} {l = L8} {h = H8} {s = S8} {s' = S9} {l' = L9} (c.close.ensures) s_end))))))))
+    by_steps {m = (mem X0 T0 N0 J0 L0 H0 S0)} {m' = (mem X0 T0 N0 J8 L9 H8 S9)} (c.requires) (λ b. s_eats _ _ {x = X0} {t = T0} {n = N0} {j = J0} {l = L0} {h = H0} {l' = L1} {s = S0} {s' = S1} {e = (mem X0 T0 N0 J8 L9 H8 S9)} _ {h' = H1} (c.in-Ok.ensures) (s_by {a = (mem X0 T0 N0 J0 L1 H1 S1)} {c = (mem X0 T0 N0 J2 L2 H2 S2)} {e = (mem X0 T0 N0 J8 L9 H8 S9)} _ (runs_in {a = (mem X0 T0 N0 J0 L1 H1 S1)} {c = (mem X0 T0 N0 J2 L2 H2 S2)} (c.aso-s2.ensures)) (s_kind {a = (mem X0 T0 N0 J2 L2 H2 S2)} {e = (mem X0 T0 N0 J8 L9 H8 S9)} (s_true {a = (mem X0 T0 N0 J2 L2 H2 S2)} {e = (mem X0 T0 N0 J8 L9 H8 S9)} _ _ (kind_at _ _ (mem X0 T0 N0 J2 L2 H2 S2) _ (c.at.ensures) (c.if-at.true)) (s_mark {e = (mem X0 T0 N0 J8 L9 H8 S9)} {x = X0} {t = T0} {n = N0} {j = J2} {l = L2} {h = H2} {s = S2} {s' = S6} (c.if-left-eq0.false) (c.mark-s3.ensures) (s_bump {e = (mem X0 T0 N0 J8 L9 H8 S9)} {x = X0} {t = T0} {n = N0} {j = J2} {l = L2} {h = H2} {s = S6} {s' = S7} {l' = L7} (c.bump-s4.ensures) (s_by {a = (mem X0 T0 N0 J2 L7 H2 S7)} {c = (mem X0 T0 N0 J8 L8 H8 S8)} {e = (mem X0 T0 N0 J8 L9 H8 S9)} _ (runs_in {a = (mem X0 T0 N0 J2 L7 H2 S7)} {c = (mem X0 T0 N0 J8 L8 H8 S8)} (c.stm-s5.ensures)) (s_close {e = (mem X0 T0 N0 J8 L9 H8 S9)} {x = X0} {t = T0} {n = N0} {j = J8} {l = L8} {h = H8} {s = S8} {s' = S9} {l' = L9} (c.close.ensures) s_end))))))))
 
-pub stb-returns-in-Missing : goal.stb-returns-in-Missing
+pub stb-returns-in-Err : goal.stb-returns-in-Err
 unfolding decl.str_bind plan choose chosen
-stb-returns-in-Missing t c =
-    let X0 = c.args.text.now in
-    let T0 = c.args.toks.now in
-    let N0 = c.args.env.now in
+stb-returns-in-Err t c =
+    let X0 = c.args.lent.text.now in
+    let T0 = c.args.lent.toks.now in
+    let N0 = c.args.lent.env.now in
     let J0 = c.args.table.now in
     let L0 = c.args.scratch.now in
     let H0 = c.args.finds.now in
     let S0 = c.args.s in
     let L1 = c.eat-name.new.scratch in
     let H1 = c.eat-name.new.finds in
-    let S1 = c.in-Missing.s1 in
-    by_steps {m = (mem X0 T0 N0 J0 L0 H0 S0)} {m' = (mem X0 T0 N0 J0 L1 H1 S1)} (c.requires) (λ b. s_eats _ _ {x = X0} {t = T0} {n = N0} {j = J0} {l = L0} {h = H0} {l' = L1} {s = S0} {s' = S1} {e = (mem X0 T0 N0 J0 L1 H1 S1)} _ {h' = H1} (c.in-Missing.ensures) s_end)
+    let S1 = c.in-Err.s1 in
+    by_steps {m = (mem X0 T0 N0 J0 L0 H0 S0)} {m' = (mem X0 T0 N0 J0 L1 H1 S1)} (c.requires) (λ b. s_eats _ _ {x = X0} {t = T0} {n = N0} {j = J0} {l = L0} {h = H0} {l' = L1} {s = S0} {s' = S1} {e = (mem X0 T0 N0 J0 L1 H1 S1)} _ {h' = H1} (c.in-Err.ensures) s_end)
 
 pub stb-returns-else-at : goal.stb-returns-else-at
 unfolding decl.str_bind plan choose chosen
 stb-returns-else-at t c =
-    let X0 = c.args.text.now in
-    let T0 = c.args.toks.now in
-    let N0 = c.args.env.now in
+    let X0 = c.args.lent.text.now in
+    let T0 = c.args.lent.toks.now in
+    let N0 = c.args.lent.env.now in
     let J0 = c.args.table.now in
     let L0 = c.args.scratch.now in
     let H0 = c.args.finds.now in
     let S0 = c.args.s in
     let L1 = c.eat-name.new.scratch in
     let H1 = c.eat-name.new.finds in
-    let S1 = c.in-At.s1 in
+    let S1 = c.in-Ok.s1 in
     let J2 = c.aso-s2.new.table in
     let L2 = c.aso-s2.new.scratch in
     let H2 = c.aso-s2.new.finds in
     let S2 = c.aso-s2.result in
-    by_steps {m = (mem X0 T0 N0 J0 L0 H0 S0)} {m' = (mem X0 T0 N0 J2 L2 H2 S2)} (c.requires) (λ b. s_eats _ _ {x = X0} {t = T0} {n = N0} {j = J0} {l = L0} {h = H0} {l' = L1} {s = S0} {s' = S1} {e = (mem X0 T0 N0 J2 L2 H2 S2)} _ {h' = H1} (c.in-At.ensures) (s_by {a = (mem X0 T0 N0 J0 L1 H1 S1)} {c = (mem X0 T0 N0 J2 L2 H2 S2)} {e = (mem X0 T0 N0 J2 L2 H2 S2)} _ (runs_in {a = (mem X0 T0 N0 J0 L1 H1 S1)} {c = (mem X0 T0 N0 J2 L2 H2 S2)} (c.aso-s2.ensures)) (s_kind {a = (mem X0 T0 N0 J2 L2 H2 S2)} {e = (mem X0 T0 N0 J2 L2 H2 S2)} (s_false {a = (mem X0 T0 N0 J2 L2 H2 S2)} {e = (mem X0 T0 N0 J2 L2 H2 S2)} _ _ (kind_off _ _ (mem X0 T0 N0 J2 L2 H2 S2) _ (c.at.ensures) (c.if-at.false)) s_end))))
+    by_steps {m = (mem X0 T0 N0 J0 L0 H0 S0)} {m' = (mem X0 T0 N0 J2 L2 H2 S2)} (c.requires) (λ b. s_eats _ _ {x = X0} {t = T0} {n = N0} {j = J0} {l = L0} {h = H0} {l' = L1} {s = S0} {s' = S1} {e = (mem X0 T0 N0 J2 L2 H2 S2)} _ {h' = H1} (c.in-Ok.ensures) (s_by {a = (mem X0 T0 N0 J0 L1 H1 S1)} {c = (mem X0 T0 N0 J2 L2 H2 S2)} {e = (mem X0 T0 N0 J2 L2 H2 S2)} _ (runs_in {a = (mem X0 T0 N0 J0 L1 H1 S1)} {c = (mem X0 T0 N0 J2 L2 H2 S2)} (c.aso-s2.ensures)) (s_kind {a = (mem X0 T0 N0 J2 L2 H2 S2)} {e = (mem X0 T0 N0 J2 L2 H2 S2)} (s_false {a = (mem X0 T0 N0 J2 L2 H2 S2)} {e = (mem X0 T0 N0 J2 L2 H2 S2)} _ _ (kind_off _ _ (mem X0 T0 N0 J2 L2 H2 S2) _ (c.at.ensures) (c.if-at.false)) s_end))))
 
 pub sth-bump-s1-requires : goal.sth-bump-s1-requires
 sth-bump-s1-requires t c =
@@ -4143,8 +3996,8 @@ sth-dec-got-requires t c =
     let bump_ok = ok_bumps bump pre0 in
     (omega arith, bump_ok)
 
-pub sth-state-s2-requires : goal.sth-state-s2-requires
-sth-state-s2-requires t c =
+pub sth-either-s2-requires : goal.sth-either-s2-requires
+sth-either-s2-requires t c =
     tt
 
 pub sth-give_back-s3-requires : goal.sth-give_back-s3-requires
@@ -4158,17 +4011,17 @@ sth-end_node-end-requires t c =
     let bump = c.bump-s1.ensures in
     let bump_ok = ok_bumps bump pre0 in
     let dec = c.dec-got.ensures in
-    let state = c.state-s2.ensures in
+    let either = c.either-s2.ensures in
     let give_back = c.give_back-s3.ensures in
-    let give_back_ok = ok_back (settled state (runs_in {b = 0} dec)) give_back bump_ok in
+    let give_back_ok = ok_back (settled either (runs_in {b = 0} dec)) give_back bump_ok in
     (give_back_ok, pre1, omega arith)
 
 pub sth-returns-then-k-eq-STRUCT_KW : goal.sth-returns-then-k-eq-STRUCT_KW
 unfolding decl.str_head plan choose chosen
 sth-returns-then-k-eq-STRUCT_KW t c =
-    let X0 = c.args.text.now in
-    let T0 = c.args.toks.now in
-    let N0 = c.args.env.now in
+    let X0 = c.args.lent.text.now in
+    let T0 = c.args.lent.toks.now in
+    let N0 = c.args.lent.env.now in
     let J0 = c.args.table.now in
     let L0 = c.args.scratch.now in
     let H0 = c.args.finds.now in
@@ -4179,12 +4032,12 @@ sth-returns-then-k-eq-STRUCT_KW t c =
     let L3 = c.dec-got.new.scratch in
     let H3 = c.dec-got.new.finds in
     let S3 = out_state c.dec-got.result in
-    let S4 = c.state-s2.result in
+    let S4 = c.either-s2.result in
     let S5 = c.give_back-s3.result in
     let L6 = c.end_node-end.new.scratch in
     let H6 = c.end_node-end.new.finds in
     let S6 = c.end_node-end.result in
-    in_steps {m = (mem X0 T0 N0 J0 L0 H0 S0)} {m' = (mem X0 T0 N0 J3 L6 H6 S6)} (c.requires.0) (s_true {a = (mem X0 T0 N0 J0 L0 H0 S0)} {e = (mem X0 T0 N0 J3 L6 H6 S6)} _ _ (kind_is (c.if-k-eq-STRUCT_KW.true)) (s_bump {e = (mem X0 T0 N0 J3 L6 H6 S6)} {x = X0} {t = T0} {n = N0} {j = J0} {l = L0} {h = H0} {s = S0} {s' = S2} {l' = L2} (c.bump-s1.ensures) (s_scoped {x = X0} {t = T0} {e = N0} {j = J0} {l = L2} {y = H0} {j' = J3} {l' = L3} {y' = H3} {s = S2} {s' = S4} {c = (mem X0 T0 N0 J3 L6 H6 S6)} {r = S5} (settled (c.state-s2.ensures) (runs_in {a = (mem X0 T0 N0 J0 L2 H0 S2)} {c = (mem X0 T0 N0 J3 L3 H3 S3)} (c.dec-got.ensures))) (c.give_back-s3.ensures) (s_by {a = (mem X0 T0 N0 J3 L3 H3 S5)} {c = (mem X0 T0 N0 J3 L6 H6 S6)} {e = (mem X0 T0 N0 J3 L6 H6 S6)} _ (c.end_node-end.ensures) s_end))))
+    in_steps {m = (mem X0 T0 N0 J0 L0 H0 S0)} {m' = (mem X0 T0 N0 J3 L6 H6 S6)} (c.requires.0) (s_true {a = (mem X0 T0 N0 J0 L0 H0 S0)} {e = (mem X0 T0 N0 J3 L6 H6 S6)} _ _ (kind_is (c.if-k-eq-STRUCT_KW.true)) (s_bump {e = (mem X0 T0 N0 J3 L6 H6 S6)} {x = X0} {t = T0} {n = N0} {j = J0} {l = L0} {h = H0} {s = S0} {s' = S2} {l' = L2} (c.bump-s1.ensures) (s_scoped {x = X0} {t = T0} {e = N0} {j = J0} {l = L2} {y = H0} {j' = J3} {l' = L3} {y' = H3} {s = S2} {s' = S4} {c = (mem X0 T0 N0 J3 L6 H6 S6)} {r = S5} (settled (c.either-s2.ensures) (runs_in {a = (mem X0 T0 N0 J0 L2 H0 S2)} {c = (mem X0 T0 N0 J3 L3 H3 S3)} (c.dec-got.ensures))) (c.give_back-s3.ensures) (s_by {a = (mem X0 T0 N0 J3 L3 H3 S5)} {c = (mem X0 T0 N0 J3 L6 H6 S6)} {e = (mem X0 T0 N0 J3 L6 H6 S6)} _ (c.end_node-end.ensures) s_end))))
 
 pub sth-bump-s1-requires-then-k-eq-LET_KW : goal.sth-bump-s1-requires-then-k-eq-LET_KW
 sth-bump-s1-requires-then-k-eq-LET_KW t c =
@@ -4216,9 +4069,9 @@ sth-end_node-end-requires-then-k-eq-LET_KW t c =
 pub sth-returns-then-k-eq-LET_KW : goal.sth-returns-then-k-eq-LET_KW
 unfolding decl.str_head plan choose chosen
 sth-returns-then-k-eq-LET_KW t c =
-    let X0 = c.args.text.now in
-    let T0 = c.args.toks.now in
-    let N0 = c.args.env.now in
+    let X0 = c.args.lent.text.now in
+    let T0 = c.args.lent.toks.now in
+    let N0 = c.args.lent.env.now in
     let J0 = c.args.table.now in
     let L0 = c.args.scratch.now in
     let H0 = c.args.finds.now in
@@ -4249,9 +4102,9 @@ sth-fap-requires t c =
 pub sth-returns-then-at_n : goal.sth-returns-then-at_n
 unfolding decl.str_head plan choose chosen
 sth-returns-then-at_n t c =
-    let X0 = c.args.text.now in
-    let T0 = c.args.toks.now in
-    let N0 = c.args.env.now in
+    let X0 = c.args.lent.text.now in
+    let T0 = c.args.lent.toks.now in
+    let N0 = c.args.lent.env.now in
     let J0 = c.args.table.now in
     let L0 = c.args.scratch.now in
     let H0 = c.args.finds.now in
@@ -4271,9 +4124,9 @@ sth-str_path-requires t c =
 pub sth-returns-then-k-eq-NAME : goal.sth-returns-then-k-eq-NAME
 unfolding decl.str_head plan choose chosen
 sth-returns-then-k-eq-NAME t c =
-    let X0 = c.args.text.now in
-    let T0 = c.args.toks.now in
-    let N0 = c.args.env.now in
+    let X0 = c.args.lent.text.now in
+    let T0 = c.args.lent.toks.now in
+    let N0 = c.args.lent.env.now in
     let J0 = c.args.table.now in
     let L0 = c.args.scratch.now in
     let H0 = c.args.finds.now in
@@ -4299,16 +4152,16 @@ stm-stx-got-requires t c =
 
 pub stm-report-requires : goal.stm-report-requires
 stm-report-requires t c =
-    let stx = c.in-Missing.ensures in
+    let stx = c.in-Err.ensures in
     let stx_ok = stx.ok in
     (stx_ok.holds, (let few = stx_ok.reads.few in let inside = stx_ok.reads.inside in omega arith), omega arith)
 
-pub stm-returns-in-At : goal.stm-returns-in-At
+pub stm-returns-in-Ok : goal.stm-returns-in-Ok
 unfolding decl.str_must plan choose chosen
-stm-returns-in-At t c =
-    let X0 = c.args.text.now in
-    let T0 = c.args.toks.now in
-    let N0 = c.args.env.now in
+stm-returns-in-Ok t c =
+    let X0 = c.args.lent.text.now in
+    let T0 = c.args.lent.toks.now in
+    let N0 = c.args.lent.env.now in
     let J0 = c.args.table.now in
     let L0 = c.args.scratch.now in
     let H0 = c.args.finds.now in
@@ -4316,15 +4169,15 @@ stm-returns-in-At t c =
     let J1 = c.stx-got.new.table in
     let L1 = c.stx-got.new.scratch in
     let H1 = c.stx-got.new.finds in
-    let S1 = c.in-At.s1 in
-    by_steps {m = (mem X0 T0 N0 J0 L0 H0 S0)} {m' = (mem X0 T0 N0 J1 L1 H1 S1)} (c.requires) (λ b. s_run {a = (mem X0 T0 N0 J0 L0 H0 S0)} {c = (mem X0 T0 N0 J1 L1 H1 S1)} {e = (mem X0 T0 N0 J1 L1 H1 S1)} (runs_in {a = (mem X0 T0 N0 J0 L0 H0 S0)} {c = (mem X0 T0 N0 J1 L1 H1 S1)} (c.in-At.ensures)) s_end)
+    let S1 = c.in-Ok.s1 in
+    by_steps {m = (mem X0 T0 N0 J0 L0 H0 S0)} {m' = (mem X0 T0 N0 J1 L1 H1 S1)} (c.requires) (λ b. s_run {a = (mem X0 T0 N0 J0 L0 H0 S0)} {c = (mem X0 T0 N0 J1 L1 H1 S1)} {e = (mem X0 T0 N0 J1 L1 H1 S1)} (runs_in {a = (mem X0 T0 N0 J0 L0 H0 S0)} {c = (mem X0 T0 N0 J1 L1 H1 S1)} (c.in-Ok.ensures)) s_end)
 
-pub stm-returns-in-Missing : goal.stm-returns-in-Missing
+pub stm-returns-in-Err : goal.stm-returns-in-Err
 unfolding decl.str_must plan choose chosen
-stm-returns-in-Missing t c =
-    let X0 = c.args.text.now in
-    let T0 = c.args.toks.now in
-    let N0 = c.args.env.now in
+stm-returns-in-Err t c =
+    let X0 = c.args.lent.text.now in
+    let T0 = c.args.lent.toks.now in
+    let N0 = c.args.lent.env.now in
     let J0 = c.args.table.now in
     let L0 = c.args.scratch.now in
     let H0 = c.args.finds.now in
@@ -4332,10 +4185,10 @@ stm-returns-in-Missing t c =
     let J1 = c.stx-got.new.table in
     let L1 = c.stx-got.new.scratch in
     let H1 = c.stx-got.new.finds in
-    let S1 = c.in-Missing.s1 in
+    let S1 = c.in-Err.s1 in
     let H2 = c.report.new.finds in
     let S2 = c.report.result in
-    by_steps {m = (mem X0 T0 N0 J0 L0 H0 S0)} {m' = (mem X0 T0 N0 J1 L1 H2 S2)} (c.requires) (λ b. s_run {a = (mem X0 T0 N0 J0 L0 H0 S0)} {c = (mem X0 T0 N0 J1 L1 H1 S1)} {e = (mem X0 T0 N0 J1 L1 H2 S2)} (runs_in {a = (mem X0 T0 N0 J0 L0 H0 S0)} {c = (mem X0 T0 N0 J1 L1 H1 S1)} (c.in-Missing.ensures)) (s_report {e = (mem X0 T0 N0 J1 L1 H2 S2)} {x = X0} {t = T0} {n = N0} {j = J1} {l = L1} {h = H1} {s = S1} {s' = S2} {h' = H2} (c.report.ensures) s_end))
+    by_steps {m = (mem X0 T0 N0 J0 L0 H0 S0)} {m' = (mem X0 T0 N0 J1 L1 H2 S2)} (c.requires) (λ b. s_run {a = (mem X0 T0 N0 J0 L0 H0 S0)} {c = (mem X0 T0 N0 J1 L1 H1 S1)} {e = (mem X0 T0 N0 J1 L1 H2 S2)} (runs_in {a = (mem X0 T0 N0 J0 L0 H0 S0)} {c = (mem X0 T0 N0 J1 L1 H1 S1)} (c.in-Err.ensures)) (s_report {e = (mem X0 T0 N0 J1 L1 H2 S2)} {x = X0} {t = T0} {n = N0} {j = J1} {l = L1} {h = H1} {s = S1} {s' = S2} {h' = H2} (c.report.ensures) s_end))
 
 pub stp-peek-requires : goal.stp-peek-requires
 stp-peek-requires t c =
@@ -4345,14 +4198,9 @@ stp-peek-requires t c =
 pub stp-returns-in_default : goal.stp-returns-in_default
 unfolding expr.exp_step plan choose chosen
 stp-returns-in_default t c =
-    let X0 = c.args.text.now in
-    let T0 = c.args.toks.now in
-    let N0 = c.args.env.now in
-    let J0 = c.args.table.now in
-    let L0 = c.args.scratch.now in
-    let H0 = c.args.finds.now in
-    let S0 = c.args.s in
-    in_steps {m = (mem X0 T0 N0 J0 L0 H0 S0)} {m' = (mem X0 T0 N0 J0 L0 H0 S0)} (c.requires.0) (s_look {a = (mem X0 T0 N0 J0 L0 H0 S0)} {e = (mem X0 T0 N0 J0 L0 H0 S0)} (c.in_default.ensures) s_end)
+    let pre0 = c.requires.0 in
+    let peek = c.in_default.ensures in
+    in_steps pre0 (s_look peek s_end)
 
 pub stp-name_star_eq-requires : goal.stp-name_star_eq-requires
 stp-name_star_eq-requires t c =
@@ -4367,9 +4215,9 @@ stp-id-requires t c =
 pub stp-returns-then-name_star_eq : goal.stp-returns-then-name_star_eq
 unfolding expr.exp_step plan choose chosen
 stp-returns-then-name_star_eq t c =
-    let X0 = c.args.text.now in
-    let T0 = c.args.toks.now in
-    let N0 = c.args.env.now in
+    let X0 = c.args.lent.text.now in
+    let T0 = c.args.lent.toks.now in
+    let N0 = c.args.lent.env.now in
     let J0 = c.args.table.now in
     let L0 = c.args.scratch.now in
     let H0 = c.args.finds.now in
@@ -4378,7 +4226,7 @@ stp-returns-then-name_star_eq t c =
     let L4 = c.id.new.scratch in
     let H4 = c.id.new.finds in
     let S4 = out_state c.id.result in
-    in_steps {m = (mem X0 T0 N0 J0 L0 H0 S0)} {m' = (mem X0 T0 N0 J4 L4 H4 S4)} (c.requires.0) (s_look {a = (mem X0 T0 N0 J0 L0 H0 S0)} {e = (mem X0 T0 N0 J4 L4 H4 S4)} (c.in-Kind.ensures) (s_true {a = (mem X0 T0 N0 J0 L0 H0 S0)} {e = (mem X0 T0 N0 J4 L4 H4 S4)} _ _ (test_true (c.name_star_eq.ensures) (c.if-name_star_eq.true)) (s_by {a = (mem X0 T0 N0 J0 L0 H0 S0)} {c = (mem X0 T0 N0 J4 L4 H4 S4)} {e = (mem X0 T0 N0 J4 L4 H4 S4)} _ (c.id.ensures) s_end)))
+    in_steps {m = (mem X0 T0 N0 J0 L0 H0 S0)} {m' = (mem X0 T0 N0 J4 L4 H4 S4)} (c.requires.0) (s_look {a = (mem X0 T0 N0 J0 L0 H0 S0)} {e = (mem X0 T0 N0 J4 L4 H4 S4)} (c.in-Some.ensures) (s_true {a = (mem X0 T0 N0 J0 L0 H0 S0)} {e = (mem X0 T0 N0 J4 L4 H4 S4)} _ _ (test_true (c.name_star_eq.ensures) (c.if-name_star_eq.true)) (s_by {a = (mem X0 T0 N0 J0 L0 H0 S0)} {c = (mem X0 T0 N0 J4 L4 H4 S4)} {e = (mem X0 T0 N0 J4 L4 H4 S4)} _ (c.id.ensures) s_end)))
 
 pub stp-ascription-requires : goal.stp-ascription-requires
 stp-ascription-requires t c =
@@ -4393,9 +4241,9 @@ stp-opr-requires t c =
 pub stp-returns-then-ascription : goal.stp-returns-then-ascription
 unfolding expr.exp_step plan choose chosen
 stp-returns-then-ascription t c =
-    let X0 = c.args.text.now in
-    let T0 = c.args.toks.now in
-    let N0 = c.args.env.now in
+    let X0 = c.args.lent.text.now in
+    let T0 = c.args.lent.toks.now in
+    let N0 = c.args.lent.env.now in
     let J0 = c.args.table.now in
     let L0 = c.args.scratch.now in
     let H0 = c.args.finds.now in
@@ -4404,7 +4252,7 @@ stp-returns-then-ascription t c =
     let L6 = c.opr.new.scratch in
     let H6 = c.opr.new.finds in
     let S6 = out_state c.opr.result in
-    in_steps {m = (mem X0 T0 N0 J0 L0 H0 S0)} {m' = (mem X0 T0 N0 J6 L6 H6 S6)} (c.requires.0) (s_look {a = (mem X0 T0 N0 J0 L0 H0 S0)} {e = (mem X0 T0 N0 J6 L6 H6 S6)} (c.in-Kind.ensures) (s_false {a = (mem X0 T0 N0 J0 L0 H0 S0)} {e = (mem X0 T0 N0 J6 L6 H6 S6)} _ _ (test_false (c.name_star_eq.ensures) (c.if-name_star_eq.false)) (s_true {a = (mem X0 T0 N0 J0 L0 H0 S0)} {e = (mem X0 T0 N0 J6 L6 H6 S6)} _ _ (test_true (c.ascription.ensures) (c.if-ascription.true)) (s_by {a = (mem X0 T0 N0 J0 L0 H0 S0)} {c = (mem X0 T0 N0 J6 L6 H6 S6)} {e = (mem X0 T0 N0 J6 L6 H6 S6)} _ (c.opr.ensures) s_end))))
+    in_steps {m = (mem X0 T0 N0 J0 L0 H0 S0)} {m' = (mem X0 T0 N0 J6 L6 H6 S6)} (c.requires.0) (s_look {a = (mem X0 T0 N0 J0 L0 H0 S0)} {e = (mem X0 T0 N0 J6 L6 H6 S6)} (c.in-Some.ensures) (s_false {a = (mem X0 T0 N0 J0 L0 H0 S0)} {e = (mem X0 T0 N0 J6 L6 H6 S6)} _ _ (test_false (c.name_star_eq.ensures) (c.if-name_star_eq.false)) (s_true {a = (mem X0 T0 N0 J0 L0 H0 S0)} {e = (mem X0 T0 N0 J6 L6 H6 S6)} _ _ (test_true (c.ascription.ensures) (c.if-ascription.true)) (s_by {a = (mem X0 T0 N0 J0 L0 H0 S0)} {c = (mem X0 T0 N0 J6 L6 H6 S6)} {e = (mem X0 T0 N0 J6 L6 H6 S6)} _ (c.opr.ensures) s_end))))
 
 pub stp-opr-requires-then-k-eq-ANDALSO_KW : goal.stp-opr-requires-then-k-eq-ANDALSO_KW
 stp-opr-requires-then-k-eq-ANDALSO_KW t c =
@@ -4415,9 +4263,9 @@ stp-opr-requires-then-k-eq-ANDALSO_KW t c =
 pub stp-returns-then-k-eq-ANDALSO_KW : goal.stp-returns-then-k-eq-ANDALSO_KW
 unfolding expr.exp_step plan choose chosen
 stp-returns-then-k-eq-ANDALSO_KW t c =
-    let X0 = c.args.text.now in
-    let T0 = c.args.toks.now in
-    let N0 = c.args.env.now in
+    let X0 = c.args.lent.text.now in
+    let T0 = c.args.lent.toks.now in
+    let N0 = c.args.lent.env.now in
     let J0 = c.args.table.now in
     let L0 = c.args.scratch.now in
     let H0 = c.args.finds.now in
@@ -4426,7 +4274,7 @@ stp-returns-then-k-eq-ANDALSO_KW t c =
     let L7 = c.opr-then-k-eq-ANDALSO_KW.new.scratch in
     let H7 = c.opr-then-k-eq-ANDALSO_KW.new.finds in
     let S7 = out_state c.opr-then-k-eq-ANDALSO_KW.result in
-    in_steps {m = (mem X0 T0 N0 J0 L0 H0 S0)} {m' = (mem X0 T0 N0 J7 L7 H7 S7)} (c.requires.0) (s_look {a = (mem X0 T0 N0 J0 L0 H0 S0)} {e = (mem X0 T0 N0 J7 L7 H7 S7)} (c.in-Kind.ensures) (s_false {a = (mem X0 T0 N0 J0 L0 H0 S0)} {e = (mem X0 T0 N0 J7 L7 H7 S7)} _ _ (test_false (c.name_star_eq.ensures) (c.if-name_star_eq.false)) (s_false {a = (mem X0 T0 N0 J0 L0 H0 S0)} {e = (mem X0 T0 N0 J7 L7 H7 S7)} _ _ (test_false (c.ascription.ensures) (c.if-ascription.false)) (s_true {a = (mem X0 T0 N0 J0 L0 H0 S0)} {e = (mem X0 T0 N0 J7 L7 H7 S7)} _ _ (kind_is (c.if-k-eq-ANDALSO_KW.true)) (s_by {a = (mem X0 T0 N0 J0 L0 H0 S0)} {c = (mem X0 T0 N0 J7 L7 H7 S7)} {e = (mem X0 T0 N0 J7 L7 H7 S7)} _ (c.opr-then-k-eq-ANDALSO_KW.ensures) s_end)))))
+    in_steps {m = (mem X0 T0 N0 J0 L0 H0 S0)} {m' = (mem X0 T0 N0 J7 L7 H7 S7)} (c.requires.0) (s_look {a = (mem X0 T0 N0 J0 L0 H0 S0)} {e = (mem X0 T0 N0 J7 L7 H7 S7)} (c.in-Some.ensures) (s_false {a = (mem X0 T0 N0 J0 L0 H0 S0)} {e = (mem X0 T0 N0 J7 L7 H7 S7)} _ _ (test_false (c.name_star_eq.ensures) (c.if-name_star_eq.false)) (s_false {a = (mem X0 T0 N0 J0 L0 H0 S0)} {e = (mem X0 T0 N0 J7 L7 H7 S7)} _ _ (test_false (c.ascription.ensures) (c.if-ascription.false)) (s_true {a = (mem X0 T0 N0 J0 L0 H0 S0)} {e = (mem X0 T0 N0 J7 L7 H7 S7)} _ _ (kind_is (c.if-k-eq-ANDALSO_KW.true)) (s_by {a = (mem X0 T0 N0 J0 L0 H0 S0)} {c = (mem X0 T0 N0 J7 L7 H7 S7)} {e = (mem X0 T0 N0 J7 L7 H7 S7)} _ (c.opr-then-k-eq-ANDALSO_KW.ensures) s_end)))))
 
 pub stp-opr-requires-then-k-eq-ORELSE_KW : goal.stp-opr-requires-then-k-eq-ORELSE_KW
 stp-opr-requires-then-k-eq-ORELSE_KW t c =
@@ -4437,9 +4285,9 @@ stp-opr-requires-then-k-eq-ORELSE_KW t c =
 pub stp-returns-then-k-eq-ORELSE_KW : goal.stp-returns-then-k-eq-ORELSE_KW
 unfolding expr.exp_step plan choose chosen
 stp-returns-then-k-eq-ORELSE_KW t c =
-    let X0 = c.args.text.now in
-    let T0 = c.args.toks.now in
-    let N0 = c.args.env.now in
+    let X0 = c.args.lent.text.now in
+    let T0 = c.args.lent.toks.now in
+    let N0 = c.args.lent.env.now in
     let J0 = c.args.table.now in
     let L0 = c.args.scratch.now in
     let H0 = c.args.finds.now in
@@ -4448,7 +4296,7 @@ stp-returns-then-k-eq-ORELSE_KW t c =
     let L8 = c.opr-then-k-eq-ORELSE_KW.new.scratch in
     let H8 = c.opr-then-k-eq-ORELSE_KW.new.finds in
     let S8 = out_state c.opr-then-k-eq-ORELSE_KW.result in
-    in_steps {m = (mem X0 T0 N0 J0 L0 H0 S0)} {m' = (mem X0 T0 N0 J8 L8 H8 S8)} (c.requires.0) (s_look {a = (mem X0 T0 N0 J0 L0 H0 S0)} {e = (mem X0 T0 N0 J8 L8 H8 S8)} (c.in-Kind.ensures) (s_false {a = (mem X0 T0 N0 J0 L0 H0 S0)} {e = (mem X0 T0 N0 J8 L8 H8 S8)} _ _ (test_false (c.name_star_eq.ensures) (c.if-name_star_eq.false)) (s_false {a = (mem X0 T0 N0 J0 L0 H0 S0)} {e = (mem X0 T0 N0 J8 L8 H8 S8)} _ _ (test_false (c.ascription.ensures) (c.if-ascription.false)) (s_false {a = (mem X0 T0 N0 J0 L0 H0 S0)} {e = (mem X0 T0 N0 J8 L8 H8 S8)} _ _ (kind_not (c.if-k-eq-ANDALSO_KW.false)) (s_true {a = (mem X0 T0 N0 J0 L0 H0 S0)} {e = (mem X0 T0 N0 J8 L8 H8 S8)} _ _ (kind_is (c.if-k-eq-ORELSE_KW.true)) (s_by {a = (mem X0 T0 N0 J0 L0 H0 S0)} {c = (mem X0 T0 N0 J8 L8 H8 S8)} {e = (mem X0 T0 N0 J8 L8 H8 S8)} _ (c.opr-then-k-eq-ORELSE_KW.ensures) s_end))))))
+    in_steps {m = (mem X0 T0 N0 J0 L0 H0 S0)} {m' = (mem X0 T0 N0 J8 L8 H8 S8)} (c.requires.0) (s_look {a = (mem X0 T0 N0 J0 L0 H0 S0)} {e = (mem X0 T0 N0 J8 L8 H8 S8)} (c.in-Some.ensures) (s_false {a = (mem X0 T0 N0 J0 L0 H0 S0)} {e = (mem X0 T0 N0 J8 L8 H8 S8)} _ _ (test_false (c.name_star_eq.ensures) (c.if-name_star_eq.false)) (s_false {a = (mem X0 T0 N0 J0 L0 H0 S0)} {e = (mem X0 T0 N0 J8 L8 H8 S8)} _ _ (test_false (c.ascription.ensures) (c.if-ascription.false)) (s_false {a = (mem X0 T0 N0 J0 L0 H0 S0)} {e = (mem X0 T0 N0 J8 L8 H8 S8)} _ _ (kind_not (c.if-k-eq-ANDALSO_KW.false)) (s_true {a = (mem X0 T0 N0 J0 L0 H0 S0)} {e = (mem X0 T0 N0 J8 L8 H8 S8)} _ _ (kind_is (c.if-k-eq-ORELSE_KW.true)) (s_by {a = (mem X0 T0 N0 J0 L0 H0 S0)} {c = (mem X0 T0 N0 J8 L8 H8 S8)} {e = (mem X0 T0 N0 J8 L8 H8 S8)} _ (c.opr-then-k-eq-ORELSE_KW.ensures) s_end))))))
 
 pub stp-opr-requires-then-k-eq-HANDLE_KW : goal.stp-opr-requires-then-k-eq-HANDLE_KW
 stp-opr-requires-then-k-eq-HANDLE_KW t c =
@@ -4459,9 +4307,9 @@ stp-opr-requires-then-k-eq-HANDLE_KW t c =
 pub stp-returns-then-k-eq-HANDLE_KW : goal.stp-returns-then-k-eq-HANDLE_KW
 unfolding expr.exp_step plan choose chosen
 stp-returns-then-k-eq-HANDLE_KW t c =
-    let X0 = c.args.text.now in
-    let T0 = c.args.toks.now in
-    let N0 = c.args.env.now in
+    let X0 = c.args.lent.text.now in
+    let T0 = c.args.lent.toks.now in
+    let N0 = c.args.lent.env.now in
     let J0 = c.args.table.now in
     let L0 = c.args.scratch.now in
     let H0 = c.args.finds.now in
@@ -4470,7 +4318,7 @@ stp-returns-then-k-eq-HANDLE_KW t c =
     let L9 = c.opr-then-k-eq-HANDLE_KW.new.scratch in
     let H9 = c.opr-then-k-eq-HANDLE_KW.new.finds in
     let S9 = out_state c.opr-then-k-eq-HANDLE_KW.result in
-    in_steps {m = (mem X0 T0 N0 J0 L0 H0 S0)} {m' = (mem X0 T0 N0 J9 L9 H9 S9)} (c.requires.0) (s_look {a = (mem X0 T0 N0 J0 L0 H0 S0)} {e = (mem X0 T0 N0 J9 L9 H9 S9)} (c.in-Kind.ensures) (s_false {a = (mem X0 T0 N0 J0 L0 H0 S0)} {e = (mem X0 T0 N0 J9 L9 H9 S9)} _ _ (test_false (c.name_star_eq.ensures) (c.if-name_star_eq.false)) (s_false {a = (mem X0 T0 N0 J0 L0 H0 S0)} {e = (mem X0 T0 N0 J9 L9 H9 S9)} _ _ (test_false (c.ascription.ensures) (c.if-ascription.false)) (s_false {a = (mem X0 T0 N0 J0 L0 H0 S0)} {e = (mem X0 T0 N0 J9 L9 H9 S9)} _ _ (kind_not (c.if-k-eq-ANDALSO_KW.false)) (s_false {a = (mem X0 T0 N0 J0 L0 H0 S0)} {e = (mem X0 T0 N0 J9 L9 H9 S9)} _ _ (kind_not (c.if-k-eq-ORELSE_KW.false)) (s_true {a = (mem X0 T0 N0 J0 L0 H0 S0)} {e = (mem X0 T0 N0 J9 L9 H9 S9)} _ _ (kind_is (c.if-k-eq-HANDLE_KW.true)) (s_by {a = (mem X0 T0 N0 J0 L0 H0 S0)} {c = (mem X0 T0 N0 J9 L9 H9 S9)} {e = (mem X0 T0 N0 J9 L9 H9 S9)} _ (c.opr-then-k-eq-HANDLE_KW.ensures) s_end)))))))
+    in_steps {m = (mem X0 T0 N0 J0 L0 H0 S0)} {m' = (mem X0 T0 N0 J9 L9 H9 S9)} (c.requires.0) (s_look {a = (mem X0 T0 N0 J0 L0 H0 S0)} {e = (mem X0 T0 N0 J9 L9 H9 S9)} (c.in-Some.ensures) (s_false {a = (mem X0 T0 N0 J0 L0 H0 S0)} {e = (mem X0 T0 N0 J9 L9 H9 S9)} _ _ (test_false (c.name_star_eq.ensures) (c.if-name_star_eq.false)) (s_false {a = (mem X0 T0 N0 J0 L0 H0 S0)} {e = (mem X0 T0 N0 J9 L9 H9 S9)} _ _ (test_false (c.ascription.ensures) (c.if-ascription.false)) (s_false {a = (mem X0 T0 N0 J0 L0 H0 S0)} {e = (mem X0 T0 N0 J9 L9 H9 S9)} _ _ (kind_not (c.if-k-eq-ANDALSO_KW.false)) (s_false {a = (mem X0 T0 N0 J0 L0 H0 S0)} {e = (mem X0 T0 N0 J9 L9 H9 S9)} _ _ (kind_not (c.if-k-eq-ORELSE_KW.false)) (s_true {a = (mem X0 T0 N0 J0 L0 H0 S0)} {e = (mem X0 T0 N0 J9 L9 H9 S9)} _ _ (kind_is (c.if-k-eq-HANDLE_KW.true)) (s_by {a = (mem X0 T0 N0 J0 L0 H0 S0)} {c = (mem X0 T0 N0 J9 L9 H9 S9)} {e = (mem X0 T0 N0 J9 L9 H9 S9)} _ (c.opr-then-k-eq-HANDLE_KW.ensures) s_end)))))))
 
 pub stp-starts_arg-requires : goal.stp-starts_arg-requires
 stp-starts_arg-requires t c =
@@ -4485,9 +4333,9 @@ stp-app-requires t c =
 pub stp-returns-then-starts_arg : goal.stp-returns-then-starts_arg
 unfolding expr.exp_step plan choose chosen
 stp-returns-then-starts_arg t c =
-    let X0 = c.args.text.now in
-    let T0 = c.args.toks.now in
-    let N0 = c.args.env.now in
+    let X0 = c.args.lent.text.now in
+    let T0 = c.args.lent.toks.now in
+    let N0 = c.args.lent.env.now in
     let J0 = c.args.table.now in
     let L0 = c.args.scratch.now in
     let H0 = c.args.finds.now in
@@ -4496,19 +4344,19 @@ stp-returns-then-starts_arg t c =
     let L11 = c.app.new.scratch in
     let H11 = c.app.new.finds in
     let S11 = c.app.result in
-    in_steps {m = (mem X0 T0 N0 J0 L0 H0 S0)} {m' = (mem X0 T0 N0 J11 L11 H11 S11)} (c.requires.0) (s_look {a = (mem X0 T0 N0 J0 L0 H0 S0)} {e = (mem X0 T0 N0 J11 L11 H11 S11)} (c.in-Kind.ensures) (s_false {a = (mem X0 T0 N0 J0 L0 H0 S0)} {e = (mem X0 T0 N0 J11 L11 H11 S11)} _ _ (test_false (c.name_star_eq.ensures) (c.if-name_star_eq.false)) (s_false {a = (mem X0 T0 N0 J0 L0 H0 S0)} {e = (mem X0 T0 N0 J11 L11 H11 S11)} _ _ (test_false (c.ascription.ensures) (c.if-ascription.false)) (s_false {a = (mem X0 T0 N0 J0 L0 H0 S0)} {e = (mem X0 T0 N0 J11 L11 H11 S11)} _ _ (kind_not (c.if-k-eq-ANDALSO_KW.false)) (s_false {a = (mem X0 T0 N0 J0 L0 H0 S0)} {e = (mem X0 T0 N0 J11 L11 H11 S11)} _ _ (kind_not (c.if-k-eq-ORELSE_KW.false)) (s_false {a = (mem X0 T0 N0 J0 L0 H0 S0)} {e = (mem X0 T0 N0 J11 L11 H11 S11)} _ _ (kind_not (c.if-k-eq-HANDLE_KW.false)) (s_true {a = (mem X0 T0 N0 J0 L0 H0 S0)} {e = (mem X0 T0 N0 J11 L11 H11 S11)} _ _ (test_true (c.starts_arg.ensures) (c.if-starts_arg.true)) (s_by {a = (mem X0 T0 N0 J0 L0 H0 S0)} {c = (mem X0 T0 N0 J11 L11 H11 S11)} {e = (mem X0 T0 N0 J11 L11 H11 S11)} _ (c.app.ensures) s_end))))))))
+    in_steps {m = (mem X0 T0 N0 J0 L0 H0 S0)} {m' = (mem X0 T0 N0 J11 L11 H11 S11)} (c.requires.0) (s_look {a = (mem X0 T0 N0 J0 L0 H0 S0)} {e = (mem X0 T0 N0 J11 L11 H11 S11)} (c.in-Some.ensures) (s_false {a = (mem X0 T0 N0 J0 L0 H0 S0)} {e = (mem X0 T0 N0 J11 L11 H11 S11)} _ _ (test_false (c.name_star_eq.ensures) (c.if-name_star_eq.false)) (s_false {a = (mem X0 T0 N0 J0 L0 H0 S0)} {e = (mem X0 T0 N0 J11 L11 H11 S11)} _ _ (test_false (c.ascription.ensures) (c.if-ascription.false)) (s_false {a = (mem X0 T0 N0 J0 L0 H0 S0)} {e = (mem X0 T0 N0 J11 L11 H11 S11)} _ _ (kind_not (c.if-k-eq-ANDALSO_KW.false)) (s_false {a = (mem X0 T0 N0 J0 L0 H0 S0)} {e = (mem X0 T0 N0 J11 L11 H11 S11)} _ _ (kind_not (c.if-k-eq-ORELSE_KW.false)) (s_false {a = (mem X0 T0 N0 J0 L0 H0 S0)} {e = (mem X0 T0 N0 J11 L11 H11 S11)} _ _ (kind_not (c.if-k-eq-HANDLE_KW.false)) (s_true {a = (mem X0 T0 N0 J0 L0 H0 S0)} {e = (mem X0 T0 N0 J11 L11 H11 S11)} _ _ (test_true (c.starts_arg.ensures) (c.if-starts_arg.true)) (s_by {a = (mem X0 T0 N0 J0 L0 H0 S0)} {c = (mem X0 T0 N0 J11 L11 H11 S11)} {e = (mem X0 T0 N0 J11 L11 H11 S11)} _ (c.app.ensures) s_end))))))))
 
 pub stp-returns : goal.stp-returns
 unfolding expr.exp_step plan choose chosen
 stp-returns t c =
-    let X0 = c.args.text.now in
-    let T0 = c.args.toks.now in
-    let N0 = c.args.env.now in
+    let X0 = c.args.lent.text.now in
+    let T0 = c.args.lent.toks.now in
+    let N0 = c.args.lent.env.now in
     let J0 = c.args.table.now in
     let L0 = c.args.scratch.now in
     let H0 = c.args.finds.now in
     let S0 = c.args.s in
-    in_steps {m = (mem X0 T0 N0 J0 L0 H0 S0)} {m' = (mem X0 T0 N0 J0 L0 H0 S0)} (c.requires.0) (s_look {a = (mem X0 T0 N0 J0 L0 H0 S0)} {e = (mem X0 T0 N0 J0 L0 H0 S0)} (c.in-Kind.ensures) (s_false {a = (mem X0 T0 N0 J0 L0 H0 S0)} {e = (mem X0 T0 N0 J0 L0 H0 S0)} _ _ (test_false (c.name_star_eq.ensures) (c.if-name_star_eq.false)) (s_false {a = (mem X0 T0 N0 J0 L0 H0 S0)} {e = (mem X0 T0 N0 J0 L0 H0 S0)} _ _ (test_false (c.ascription.ensures) (c.if-ascription.false)) (s_false {a = (mem X0 T0 N0 J0 L0 H0 S0)} {e = (mem X0 T0 N0 J0 L0 H0 S0)} _ _ (kind_not (c.if-k-eq-ANDALSO_KW.false)) (s_false {a = (mem X0 T0 N0 J0 L0 H0 S0)} {e = (mem X0 T0 N0 J0 L0 H0 S0)} _ _ (kind_not (c.if-k-eq-ORELSE_KW.false)) (s_false {a = (mem X0 T0 N0 J0 L0 H0 S0)} {e = (mem X0 T0 N0 J0 L0 H0 S0)} _ _ (kind_not (c.if-k-eq-HANDLE_KW.false)) (s_false {a = (mem X0 T0 N0 J0 L0 H0 S0)} {e = (mem X0 T0 N0 J0 L0 H0 S0)} _ _ (test_false (c.starts_arg.ensures) (c.if-starts_arg.false)) s_end)))))))
+    in_steps {m = (mem X0 T0 N0 J0 L0 H0 S0)} {m' = (mem X0 T0 N0 J0 L0 H0 S0)} (c.requires.0) (s_look {a = (mem X0 T0 N0 J0 L0 H0 S0)} {e = (mem X0 T0 N0 J0 L0 H0 S0)} (c.in-Some.ensures) (s_false {a = (mem X0 T0 N0 J0 L0 H0 S0)} {e = (mem X0 T0 N0 J0 L0 H0 S0)} _ _ (test_false (c.name_star_eq.ensures) (c.if-name_star_eq.false)) (s_false {a = (mem X0 T0 N0 J0 L0 H0 S0)} {e = (mem X0 T0 N0 J0 L0 H0 S0)} _ _ (test_false (c.ascription.ensures) (c.if-ascription.false)) (s_false {a = (mem X0 T0 N0 J0 L0 H0 S0)} {e = (mem X0 T0 N0 J0 L0 H0 S0)} _ _ (kind_not (c.if-k-eq-ANDALSO_KW.false)) (s_false {a = (mem X0 T0 N0 J0 L0 H0 S0)} {e = (mem X0 T0 N0 J0 L0 H0 S0)} _ _ (kind_not (c.if-k-eq-ORELSE_KW.false)) (s_false {a = (mem X0 T0 N0 J0 L0 H0 S0)} {e = (mem X0 T0 N0 J0 L0 H0 S0)} _ _ (kind_not (c.if-k-eq-HANDLE_KW.false)) (s_false {a = (mem X0 T0 N0 J0 L0 H0 S0)} {e = (mem X0 T0 N0 J0 L0 H0 S0)} _ _ (test_false (c.starts_arg.ensures) (c.if-starts_arg.false)) s_end)))))))
 
 pub stt-loop-k-init : goal.stt-loop-k-init
 stt-loop-k-init t c =
@@ -4540,7 +4388,7 @@ pub stt-loop-k-smaller-then-left-eq0 : goal.stt-loop-k-smaller-then-left-eq0
 unfolding decl.str_step plan choose chosen hushed
 stt-loop-k-smaller-then-left-eq0 t c =
     let inv = c.loop-k.invariant in
-    let peek = c.in-Kind.ensures in
+    let peek = c.in-Some.ensures in
     let ascription = c.ascription.ensures in
     let if1 = c.if-ascription.true in
     let if2 = c.if-left-eq0.true in
@@ -4551,7 +4399,7 @@ pub stt-loop-k-preserved-then-left-eq0 : goal.stt-loop-k-preserved-then-left-eq0
 unfolding decl.str_step plan choose chosen hushed
 stt-loop-k-preserved-then-left-eq0 t c =
     let inv = c.loop-k.invariant in
-    let peek = c.in-Kind.ensures in
+    let peek = c.in-Some.ensures in
     let ascription = c.ascription.ensures in
     let if1 = c.if-ascription.true in
     let if2 = c.if-left-eq0.true in
@@ -4580,7 +4428,7 @@ pub stt-loop-k-smaller : goal.stt-loop-k-smaller
 unfolding decl.str_step plan choose chosen
 stt-loop-k-smaller t c =
     let inv = c.loop-k.invariant in
-    let peek = c.in-Kind.ensures in
+    let peek = c.in-Some.ensures in
     let ascription = c.ascription.ensures in
     let if1 = c.if-ascription.true in
     let if2 = c.if-left-eq0.false in
@@ -4593,7 +4441,7 @@ pub stt-loop-k-preserved : goal.stt-loop-k-preserved
 unfolding decl.str_step plan choose chosen
 stt-loop-k-preserved t c =
     let inv = c.loop-k.invariant in
-    let peek = c.in-Kind.ensures in
+    let peek = c.in-Some.ensures in
     let ascription = c.ascription.ensures in
     let if1 = c.if-ascription.true in
     let if2 = c.if-left-eq0.false in
@@ -4606,7 +4454,7 @@ pub stt-returns-in-loop-k : goal.stt-returns-in-loop-k
 unfolding decl.str_step plan choose chosen
 stt-returns-in-loop-k t c =
     let inv = c.loop-k.invariant in
-    let peek = c.in-Kind.ensures in
+    let peek = c.in-Some.ensures in
     let ascription = c.ascription.ensures in
     let if1 = c.if-ascription.false in
     loop_ends (str_step_advances _ _) inv (in_steps inv.ok {n = c.args.left} {b = c.args.b} (s_look peek (s_false _ _ (test_false ascription if1) s_end)))
@@ -4619,14 +4467,9 @@ stx-peek-requires t c =
 pub stx-returns-in_default : goal.stx-returns-in_default
 unfolding root.body decl.str_scope plan choose chosen
 stx-returns-in_default t c =
-    let X0 = c.args.text.now in
-    let T0 = c.args.toks.now in
-    let N0 = c.args.env.now in
-    let J0 = c.args.table.now in
-    let L0 = c.args.scratch.now in
-    let H0 = c.args.finds.now in
-    let S0 = c.args.s in
-    by_steps {m = (mem X0 T0 N0 J0 L0 H0 S0)} {m' = (mem X0 T0 N0 J0 L0 H0 S0)} (c.requires) (λ b. s_rule {a = (mem X0 T0 N0 J0 L0 H0 S0)} {e = (mem X0 T0 N0 J0 L0 H0 S0)} (s_look {a = (mem X0 T0 N0 J0 L0 H0 S0)} {e = (mem X0 T0 N0 J0 L0 H0 S0)} (c.in_default.ensures) s_end))
+    let pre0 = c.requires in
+    let peek = c.in_default.ensures in
+    by_steps pre0 (λ b. s_rule (s_look peek s_end))
 
 pub stx-refuse-requires : goal.stx-refuse-requires
 stx-refuse-requires t c =
@@ -4635,15 +4478,15 @@ stx-refuse-requires t c =
 pub stx-returns-then-left-eq0 : goal.stx-returns-then-left-eq0
 unfolding root.body decl.str_scope plan choose chosen hushed
 stx-returns-then-left-eq0 t c =
-    let X0 = c.args.text.now in
-    let T0 = c.args.toks.now in
-    let N0 = c.args.env.now in
+    let X0 = c.args.lent.text.now in
+    let T0 = c.args.lent.toks.now in
+    let N0 = c.args.lent.env.now in
     let J0 = c.args.table.now in
     let L0 = c.args.scratch.now in
     let H0 = c.args.finds.now in
     let S0 = c.args.s in
     let S3 = c.refuse.result in
-    by_steps {m = (mem X0 T0 N0 J0 L0 H0 S0)} {m' = (mem X0 T0 N0 J0 L0 H0 S3)} (c.requires) (λ b. s_rule {a = (mem X0 T0 N0 J0 L0 H0 S0)} {e = (mem X0 T0 N0 J0 L0 H0 S3)} (s_look {a = (mem X0 T0 N0 J0 L0 H0 S0)} {e = (mem X0 T0 N0 J0 L0 H0 S3)} (c.in-Kind.ensures) (s_shut (c.if-left-eq0.true) (c.refuse.ensures) (λ k l. refl))))
+    by_steps {m = (mem X0 T0 N0 J0 L0 H0 S0)} {m' = (mem X0 T0 N0 J0 L0 H0 S3)} (c.requires) (λ b. s_rule {a = (mem X0 T0 N0 J0 L0 H0 S0)} {e = (mem X0 T0 N0 J0 L0 H0 S3)} (s_look {a = (mem X0 T0 N0 J0 L0 H0 S0)} {e = (mem X0 T0 N0 J0 L0 H0 S3)} (c.in-Some.ensures) (s_shut (c.if-left-eq0.true) (c.refuse.ensures) (λ k l. refl))))
 
 pub stx-mark-s1-requires : goal.stx-mark-s1-requires
 stx-mark-s1-requires t c =
@@ -4659,16 +4502,16 @@ stx-sth-head-requires t c =
 pub stx-stt-s3-requires : goal.stx-stt-s3-requires
 stx-stt-s3-requires t c =
     let pre0 = c.requires in
-    let sth = c.in-At.ensures in
+    let sth = c.in-Ok.ensures in
     let sth_ok = sth.ok in
     (omega arith, (sth_ok, small_len pre0))
 
-pub stx-returns-in-Missing : goal.stx-returns-in-Missing
+pub stx-returns-in-Err : goal.stx-returns-in-Err
 unfolding root.body decl.str_scope plan choose chosen
-stx-returns-in-Missing t c =
-    let X0 = c.args.text.now in
-    let T0 = c.args.toks.now in
-    let N0 = c.args.env.now in
+stx-returns-in-Err t c =
+    let X0 = c.args.lent.text.now in
+    let T0 = c.args.lent.toks.now in
+    let N0 = c.args.lent.env.now in
     let J0 = c.args.table.now in
     let L0 = c.args.scratch.now in
     let H0 = c.args.finds.now in
@@ -4677,15 +4520,15 @@ stx-returns-in-Missing t c =
     let J4 = c.sth-head.new.table in
     let L4 = c.sth-head.new.scratch in
     let H4 = c.sth-head.new.finds in
-    let S4 = c.in-Missing.s2 in
-    by_steps {m = (mem X0 T0 N0 J0 L0 H0 S0)} {m' = (mem X0 T0 N0 J4 L4 H4 S4)} (c.requires) (λ b. s_rule {a = (mem X0 T0 N0 J0 L0 H0 S0)} {e = (mem X0 T0 N0 J4 L4 H4 S4)} (s_look {a = (mem X0 T0 N0 J0 L0 H0 S0)} {e = (mem X0 T0 N0 J4 L4 H4 S4)} (c.in-Kind.ensures) (s_mark {e = (mem X0 T0 N0 J4 L4 H4 S4)} {x = X0} {t = T0} {n = N0} {j = J0} {l = L0} {h = H0} {s = S0} {s' = S3} (c.if-left-eq0.false) (c.mark-s1.ensures) (s_by {a = (mem X0 T0 N0 J0 L0 H0 S3)} {c = (mem X0 T0 N0 J4 L4 H4 S4)} {e = (mem X0 T0 N0 J4 L4 H4 S4)} _ (c.in-Missing.ensures) s_end))))
+    let S4 = c.in-Err.s2 in
+    by_steps {m = (mem X0 T0 N0 J0 L0 H0 S0)} {m' = (mem X0 T0 N0 J4 L4 H4 S4)} (c.requires) (λ b. s_rule {a = (mem X0 T0 N0 J0 L0 H0 S0)} {e = (mem X0 T0 N0 J4 L4 H4 S4)} (s_look {a = (mem X0 T0 N0 J0 L0 H0 S0)} {e = (mem X0 T0 N0 J4 L4 H4 S4)} (c.in-Some.ensures) (s_mark {e = (mem X0 T0 N0 J4 L4 H4 S4)} {x = X0} {t = T0} {n = N0} {j = J0} {l = L0} {h = H0} {s = S0} {s' = S3} (c.if-left-eq0.false) (c.mark-s1.ensures) (s_by {a = (mem X0 T0 N0 J0 L0 H0 S3)} {c = (mem X0 T0 N0 J4 L4 H4 S4)} {e = (mem X0 T0 N0 J4 L4 H4 S4)} _ (c.in-Err.ensures) s_end))))
 
-pub stx-returns-in-At : goal.stx-returns-in-At
+pub stx-returns-in-Ok : goal.stx-returns-in-Ok
 unfolding root.body decl.str_scope plan choose chosen
-stx-returns-in-At t c =
-    let X0 = c.args.text.now in
-    let T0 = c.args.toks.now in
-    let N0 = c.args.env.now in
+stx-returns-in-Ok t c =
+    let X0 = c.args.lent.text.now in
+    let T0 = c.args.lent.toks.now in
+    let N0 = c.args.lent.env.now in
     let J0 = c.args.table.now in
     let L0 = c.args.scratch.now in
     let H0 = c.args.finds.now in
@@ -4694,12 +4537,12 @@ stx-returns-in-At t c =
     let J4 = c.sth-head.new.table in
     let L4 = c.sth-head.new.scratch in
     let H4 = c.sth-head.new.finds in
-    let S4 = c.in-At.s2 in
+    let S4 = c.in-Ok.s2 in
     let J5 = c.stt-s3.new.table in
     let L5 = c.stt-s3.new.scratch in
     let H5 = c.stt-s3.new.finds in
     let S5 = c.stt-s3.result in
-    by_steps {m = (mem X0 T0 N0 J0 L0 H0 S0)} {m' = (mem X0 T0 N0 J5 L5 H5 S5)} (c.requires) (λ b. s_rule {a = (mem X0 T0 N0 J0 L0 H0 S0)} {e = (mem X0 T0 N0 J5 L5 H5 S5)} (s_look {a = (mem X0 T0 N0 J0 L0 H0 S0)} {e = (mem X0 T0 N0 J5 L5 H5 S5)} (c.in-Kind.ensures) (s_mark {e = (mem X0 T0 N0 J5 L5 H5 S5)} {x = X0} {t = T0} {n = N0} {j = J0} {l = L0} {h = H0} {s = S0} {s' = S3} (c.if-left-eq0.false) (c.mark-s1.ensures) (s_by {a = (mem X0 T0 N0 J0 L0 H0 S3)} {c = (mem X0 T0 N0 J4 L4 H4 S4)} {e = (mem X0 T0 N0 J5 L5 H5 S5)} _ (c.in-At.ensures) (s_run {a = (mem X0 T0 N0 J4 L4 H4 S4)} {c = (mem X0 T0 N0 J5 L5 H5 S5)} {e = (mem X0 T0 N0 J5 L5 H5 S5)} (c.stt-s3.ensures) s_end)))))
+    by_steps {m = (mem X0 T0 N0 J0 L0 H0 S0)} {m' = (mem X0 T0 N0 J5 L5 H5 S5)} (c.requires) (λ b. s_rule {a = (mem X0 T0 N0 J0 L0 H0 S0)} {e = (mem X0 T0 N0 J5 L5 H5 S5)} (s_look {a = (mem X0 T0 N0 J0 L0 H0 S0)} {e = (mem X0 T0 N0 J5 L5 H5 S5)} (c.in-Some.ensures) (s_mark {e = (mem X0 T0 N0 J5 L5 H5 S5)} {x = X0} {t = T0} {n = N0} {j = J0} {l = L0} {h = H0} {s = S0} {s' = S3} (c.if-left-eq0.false) (c.mark-s1.ensures) (s_by {a = (mem X0 T0 N0 J0 L0 H0 S3)} {c = (mem X0 T0 N0 J4 L4 H4 S4)} {e = (mem X0 T0 N0 J5 L5 H5 S5)} _ (c.in-Ok.ensures) (s_run {a = (mem X0 T0 N0 J4 L4 H4 S4)} {c = (mem X0 T0 N0 J5 L5 H5 S5)} {e = (mem X0 T0 N0 J5 L5 H5 S5)} (c.stt-s3.ensures) s_end)))))
 
 pub tl-refuse-requires : goal.tl-refuse-requires
 tl-refuse-requires t c =
@@ -4708,9 +4551,9 @@ tl-refuse-requires t c =
 pub tl-returns-then-left-eq0 : goal.tl-returns-then-left-eq0
 unfolding decl.dec_with_tail util.maybe_semi_sep decl.semi_closure util.choose plan choose chosen hushed
 tl-returns-then-left-eq0 t c =
-    let X0 = c.args.text.now in
-    let T0 = c.args.toks.now in
-    let N0 = c.args.env.now in
+    let X0 = c.args.lent.text.now in
+    let T0 = c.args.lent.toks.now in
+    let N0 = c.args.lent.env.now in
     let J0 = c.args.table.now in
     let L0 = c.args.scratch.now in
     let H0 = c.args.finds.now in
@@ -4734,13 +4577,13 @@ tl-bare_tail-requires t c =
     let pre0 = c.requires in
     let mark = c.mark-s1.ensures in
     let mark_ok = ok_marks mark pre0 in
-    let sem = c.in-Missing.ensures in
+    let sem = c.in-Err.ensures in
     let sem_ok = (sem true).ok in
     (sem_ok, small_len mark_ok)
 
 pub tl-seq-s3-requires : goal.tl-seq-s3-requires
 tl-seq-s3-requires t c =
-    let sem = c.in-At.ensures in
+    let sem = c.in-Ok.ensures in
     let sem_ok = (sem true).ok in
     (omega arith, sem_ok)
 
@@ -4753,12 +4596,12 @@ tl-full_tail-s4-requires t c =
     let seq_ok = (seq true).ok in
     (seq_ok, small_len mark_ok)
 
-pub tl-returns-in-Missing : goal.tl-returns-in-Missing
+pub tl-returns-in-Err : goal.tl-returns-in-Err
 unfolding decl.dec_with_tail util.maybe_semi_sep decl.semi_closure util.choose plan choose chosen
-tl-returns-in-Missing t c =
-    let X0 = c.args.text.now in
-    let T0 = c.args.toks.now in
-    let N0 = c.args.env.now in
+tl-returns-in-Err t c =
+    let X0 = c.args.lent.text.now in
+    let T0 = c.args.lent.toks.now in
+    let N0 = c.args.lent.env.now in
     let J0 = c.args.table.now in
     let L0 = c.args.scratch.now in
     let H0 = c.args.finds.now in
@@ -4767,18 +4610,18 @@ tl-returns-in-Missing t c =
     let J3 = c.sem-turn.new.table in
     let L3 = c.sem-turn.new.scratch in
     let H3 = c.sem-turn.new.finds in
-    let S3 = c.in-Missing.s2 in
+    let S3 = c.in-Err.s2 in
     let L4 = c.bare_tail.new.scratch in
     let H4 = c.bare_tail.new.finds in
     let S4 = out_state c.bare_tail.result in
-    by_steps {m = (mem X0 T0 N0 J0 L0 H0 S0)} {m' = (mem X0 T0 N0 J3 L4 H4 S4)} (c.requires) (λ b. s_mark {e = (mem X0 T0 N0 J3 L4 H4 S4)} {x = X0} {t = T0} {n = N0} {j = J0} {l = L0} {h = H0} {s = S0} {s' = S2} (c.if-left-eq0.false) (c.mark-s1.ensures) (s_by {a = (mem X0 T0 N0 J0 L0 H0 S2)} {c = (mem X0 T0 N0 J3 L3 H3 S3)} {e = (mem X0 T0 N0 J3 L4 H4 S4)} _ (runs_in {a = (mem X0 T0 N0 J0 L0 H0 S2)} {c = (mem X0 T0 N0 J3 L3 H3 S3)} ((c.in-Missing.ensures) _)) (s_by {a = (mem X0 T0 N0 J3 L3 H3 S3)} {c = (mem X0 T0 N0 J3 L4 H4 S4)} {e = (mem X0 T0 N0 J3 L4 H4 S4)} _ (c.bare_tail.ensures) s_end)))
+    by_steps {m = (mem X0 T0 N0 J0 L0 H0 S0)} {m' = (mem X0 T0 N0 J3 L4 H4 S4)} (c.requires) (λ b. s_mark {e = (mem X0 T0 N0 J3 L4 H4 S4)} {x = X0} {t = T0} {n = N0} {j = J0} {l = L0} {h = H0} {s = S0} {s' = S2} (c.if-left-eq0.false) (c.mark-s1.ensures) (s_by {a = (mem X0 T0 N0 J0 L0 H0 S2)} {c = (mem X0 T0 N0 J3 L3 H3 S3)} {e = (mem X0 T0 N0 J3 L4 H4 S4)} _ (runs_in {a = (mem X0 T0 N0 J0 L0 H0 S2)} {c = (mem X0 T0 N0 J3 L3 H3 S3)} ((c.in-Err.ensures) _)) (s_by {a = (mem X0 T0 N0 J3 L3 H3 S3)} {c = (mem X0 T0 N0 J3 L4 H4 S4)} {e = (mem X0 T0 N0 J3 L4 H4 S4)} _ (c.bare_tail.ensures) s_end)))
 
-pub tl-returns-in-At : goal.tl-returns-in-At
+pub tl-returns-in-Ok : goal.tl-returns-in-Ok
 unfolding decl.dec_with_tail util.maybe_semi_sep decl.semi_closure util.choose plan choose chosen
-tl-returns-in-At t c =
-    let X0 = c.args.text.now in
-    let T0 = c.args.toks.now in
-    let N0 = c.args.env.now in
+tl-returns-in-Ok t c =
+    let X0 = c.args.lent.text.now in
+    let T0 = c.args.lent.toks.now in
+    let N0 = c.args.lent.env.now in
     let J0 = c.args.table.now in
     let L0 = c.args.scratch.now in
     let H0 = c.args.finds.now in
@@ -4787,7 +4630,7 @@ tl-returns-in-At t c =
     let J3 = c.sem-turn.new.table in
     let L3 = c.sem-turn.new.scratch in
     let H3 = c.sem-turn.new.finds in
-    let S3 = c.in-At.s2 in
+    let S3 = c.in-Ok.s2 in
     let J4 = c.seq-s3.new.table in
     let L4 = c.seq-s3.new.scratch in
     let H4 = c.seq-s3.new.finds in
@@ -4795,7 +4638,7 @@ tl-returns-in-At t c =
     let L5 = c.full_tail-s4.new.scratch in
     let H5 = c.full_tail-s4.new.finds in
     let S5 = c.full_tail-s4.result in
-    by_steps {m = (mem X0 T0 N0 J0 L0 H0 S0)} {m' = (mem X0 T0 N0 J4 L5 H5 S5)} (c.requires) (λ b. s_mark {e = (mem X0 T0 N0 J4 L5 H5 S5)} {x = X0} {t = T0} {n = N0} {j = J0} {l = L0} {h = H0} {s = S0} {s' = S2} (c.if-left-eq0.false) (c.mark-s1.ensures) (s_by {a = (mem X0 T0 N0 J0 L0 H0 S2)} {c = (mem X0 T0 N0 J3 L3 H3 S3)} {e = (mem X0 T0 N0 J4 L5 H5 S5)} _ (runs_in {a = (mem X0 T0 N0 J0 L0 H0 S2)} {c = (mem X0 T0 N0 J3 L3 H3 S3)} ((c.in-At.ensures) _)) (s_run {a = (mem X0 T0 N0 J3 L3 H3 S3)} {c = (mem X0 T0 N0 J4 L4 H4 S4)} {e = (mem X0 T0 N0 J4 L5 H5 S5)} ((c.seq-s3.ensures) _) (s_by {a = (mem X0 T0 N0 J4 L4 H4 S4)} {c = (mem X0 T0 N0 J4 L5 H5 S5)} {e = (mem X0 T0 N0 J4 L5 H5 S5)} _ (c.full_tail-s4.ensures) s_end))))
+    by_steps {m = (mem X0 T0 N0 J0 L0 H0 S0)} {m' = (mem X0 T0 N0 J4 L5 H5 S5)} (c.requires) (λ b. s_mark {e = (mem X0 T0 N0 J4 L5 H5 S5)} {x = X0} {t = T0} {n = N0} {j = J0} {l = L0} {h = H0} {s = S0} {s' = S2} (c.if-left-eq0.false) (c.mark-s1.ensures) (s_by {a = (mem X0 T0 N0 J0 L0 H0 S2)} {c = (mem X0 T0 N0 J3 L3 H3 S3)} {e = (mem X0 T0 N0 J4 L5 H5 S5)} _ (runs_in {a = (mem X0 T0 N0 J0 L0 H0 S2)} {c = (mem X0 T0 N0 J3 L3 H3 S3)} ((c.in-Ok.ensures) _)) (s_run {a = (mem X0 T0 N0 J3 L3 H3 S3)} {c = (mem X0 T0 N0 J4 L4 H4 S4)} {e = (mem X0 T0 N0 J4 L5 H5 S5)} ((c.seq-s3.ensures) _) (s_by {a = (mem X0 T0 N0 J4 L4 H4 S4)} {c = (mem X0 T0 N0 J4 L5 H5 S5)} {e = (mem X0 T0 N0 J4 L5 H5 S5)} _ (c.full_tail-s4.ensures) s_end))))
 
 pub vl-rec_pat-got-requires : goal.vl-rec_pat-got-requires
 vl-rec_pat-got-requires t c =
@@ -4804,43 +4647,43 @@ vl-rec_pat-got-requires t c =
 
 pub vl-eq-s2-requires : goal.vl-eq-s2-requires
 vl-eq-s2-requires t c =
-    let rec_pat = c.in-At.ensures in
+    let rec_pat = c.in-Ok.ensures in
     let rec_pat_ok = rec_pat.ok in
     (omega arith, rec_pat_ok)
 
-pub vl-returns-in-Missing : goal.vl-returns-in-Missing
+pub vl-returns-in-Err : goal.vl-returns-in-Err
 unfolding decl.val_bind plan choose chosen
-vl-returns-in-Missing t c =
-    let X0 = c.args.text.now in
-    let T0 = c.args.toks.now in
-    let N0 = c.args.env.now in
+vl-returns-in-Err t c =
+    let X0 = c.args.lent.text.now in
+    let T0 = c.args.lent.toks.now in
+    let N0 = c.args.lent.env.now in
     let J0 = c.args.table.now in
     let L0 = c.args.scratch.now in
     let H0 = c.args.finds.now in
     let S0 = c.args.s in
     let L1 = c.rec_pat-got.new.scratch in
     let H1 = c.rec_pat-got.new.finds in
-    let S1 = c.in-Missing.s1 in
-    by_steps {m = (mem X0 T0 N0 J0 L0 H0 S0)} {m' = (mem X0 T0 N0 J0 L1 H1 S1)} (c.requires) (λ b. s_by {a = (mem X0 T0 N0 J0 L0 H0 S0)} {c = (mem X0 T0 N0 J0 L1 H1 S1)} {e = (mem X0 T0 N0 J0 L1 H1 S1)} _ (runs_in {a = (mem X0 T0 N0 J0 L0 H0 S0)} {c = (mem X0 T0 N0 J0 L1 H1 S1)} (c.in-Missing.ensures)) s_end)
+    let S1 = c.in-Err.s1 in
+    by_steps {m = (mem X0 T0 N0 J0 L0 H0 S0)} {m' = (mem X0 T0 N0 J0 L1 H1 S1)} (c.requires) (λ b. s_by {a = (mem X0 T0 N0 J0 L0 H0 S0)} {c = (mem X0 T0 N0 J0 L1 H1 S1)} {e = (mem X0 T0 N0 J0 L1 H1 S1)} _ (runs_in {a = (mem X0 T0 N0 J0 L0 H0 S0)} {c = (mem X0 T0 N0 J0 L1 H1 S1)} (c.in-Err.ensures)) s_end)
 
-pub vl-returns-in-At : goal.vl-returns-in-At
+pub vl-returns-in-Ok : goal.vl-returns-in-Ok
 unfolding decl.val_bind plan choose chosen
-vl-returns-in-At t c =
-    let X0 = c.args.text.now in
-    let T0 = c.args.toks.now in
-    let N0 = c.args.env.now in
+vl-returns-in-Ok t c =
+    let X0 = c.args.lent.text.now in
+    let T0 = c.args.lent.toks.now in
+    let N0 = c.args.lent.env.now in
     let J0 = c.args.table.now in
     let L0 = c.args.scratch.now in
     let H0 = c.args.finds.now in
     let S0 = c.args.s in
     let L1 = c.rec_pat-got.new.scratch in
     let H1 = c.rec_pat-got.new.finds in
-    let S1 = c.in-At.s1 in
+    let S1 = c.in-Ok.s1 in
     let J2 = c.eq-s2.new.table in
     let L2 = c.eq-s2.new.scratch in
     let H2 = c.eq-s2.new.finds in
     let S2 = c.eq-s2.result in
-    by_steps {m = (mem X0 T0 N0 J0 L0 H0 S0)} {m' = (mem X0 T0 N0 J2 L2 H2 S2)} (c.requires) (λ b. s_by {a = (mem X0 T0 N0 J0 L0 H0 S0)} {c = (mem X0 T0 N0 J0 L1 H1 S1)} {e = (mem X0 T0 N0 J2 L2 H2 S2)} _ (runs_in {a = (mem X0 T0 N0 J0 L0 H0 S0)} {c = (mem X0 T0 N0 J0 L1 H1 S1)} (c.in-At.ensures)) (s_by {a = (mem X0 T0 N0 J0 L1 H1 S1)} {c = (mem X0 T0 N0 J2 L2 H2 S2)} {e = (mem X0 T0 N0 J2 L2 H2 S2)} _ (runs_in {a = (mem X0 T0 N0 J0 L1 H1 S1)} {c = (mem X0 T0 N0 J2 L2 H2 S2)} (c.eq-s2.ensures)) s_end))
+    by_steps {m = (mem X0 T0 N0 J0 L0 H0 S0)} {m' = (mem X0 T0 N0 J2 L2 H2 S2)} (c.requires) (λ b. s_by {a = (mem X0 T0 N0 J0 L0 H0 S0)} {c = (mem X0 T0 N0 J0 L1 H1 S1)} {e = (mem X0 T0 N0 J2 L2 H2 S2)} _ (runs_in {a = (mem X0 T0 N0 J0 L0 H0 S0)} {c = (mem X0 T0 N0 J0 L1 H1 S1)} (c.in-Ok.ensures)) (s_by {a = (mem X0 T0 N0 J0 L1 H1 S1)} {c = (mem X0 T0 N0 J2 L2 H2 S2)} {e = (mem X0 T0 N0 J2 L2 H2 S2)} _ (runs_in {a = (mem X0 T0 N0 J0 L1 H1 S1)} {c = (mem X0 T0 N0 J2 L2 H2 S2)} (c.eq-s2.ensures)) s_end))
 
 pub we-want-s1-requires : goal.we-want-s1-requires
 we-want-s1-requires t c =
@@ -4857,9 +4700,9 @@ we-exp-requires t c =
 pub we-returns : goal.we-returns
 unfolding expr.want_exp plan choose chosen
 we-returns t c =
-    let X0 = c.args.text.now in
-    let T0 = c.args.toks.now in
-    let N0 = c.args.env.now in
+    let X0 = c.args.lent.text.now in
+    let T0 = c.args.lent.toks.now in
+    let N0 = c.args.lent.env.now in
     let J0 = c.args.table.now in
     let L0 = c.args.scratch.now in
     let H0 = c.args.finds.now in

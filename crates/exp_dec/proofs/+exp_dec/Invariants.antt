@@ -5,7 +5,8 @@ use Rattle.grammar.specs.Util as util
 use Rattle.grammar.specs.Exp as expr
 use Rattle.grammar.specs.Dec as decl
 use Rattle.exp_prec.specs.Prec.{prec_of}
-use Rattle.parser.specs.View.{mem, err_of}
+use Rattle.parser.specs.Nodes.{node_number}
+use Rattle.parser.specs.View.{mem_of, err_of}
 use Rattle.parser.specs.Runs.{Loops, turns}
 use Prim.Native.Nat.{◌*◌}
 use Prim.Native.Nat.{◌+◌}
@@ -80,10 +81,10 @@ abbrev pub decreases-ic : goal.decreases-ic
 decreases-ic l = 64 * l.left + 1
 
 abbrev pub invariant-ic-loop-s2 : goal.invariant-ic-loop-s2
-invariant-ic-loop-s2 l = Loops l.left l.b (Prog.call Rule.sig_exp) (mem l.initial.text l.initial.toks l.initial.env l.initial.table l.initial.scratch l.initial.finds l.initial.s1) (mem l.text l.toks l.env l.table l.scratch l.finds l.s1)
+invariant-ic-loop-s2 l = Loops l.left l.b (Prog.call Rule.sig_exp) (mem_of l.initial.lent l.initial.table l.initial.scratch l.initial.finds l.initial.s1) (mem_of l.lent l.table l.scratch l.finds l.s1)
 
 abbrev pub decreases-ic-loop-s2 : goal.decreases-ic-loop-s2
-decreases-ic-loop-s2 l = turns (mem l.text l.toks l.env l.table l.scratch l.finds l.s1)
+decreases-ic-loop-s2 l = turns (mem_of l.lent l.table l.scratch l.finds l.s1)
 
 abbrev pub decreases-id : goal.decreases-id
 decreases-id l = 64 * l.left + 1
@@ -110,10 +111,10 @@ abbrev pub decreases-mny : goal.decreases-mny
 decreases-mny l = 64 * l.left
 
 abbrev pub invariant-mny-loop-q : goal.invariant-mny-loop-q
-invariant-mny-loop-q l = Loops l.left l.b (util.many_turn {g = true} l.q.sep l.q.wrap (decl.many_closure l.q.wrap (err_of l.e))) (mem l.initial.text l.initial.toks l.initial.env l.initial.table l.initial.scratch l.initial.finds l.initial.s1) (mem l.text l.toks l.env l.table l.scratch l.finds l.s1)
+invariant-mny-loop-q l = Loops l.left l.b (util.many_turn {g = true} l.q.sep (node_number l.q.wrap) (decl.many_closure (node_number l.q.wrap) (err_of l.e))) (mem_of l.initial.lent l.initial.table l.initial.scratch l.initial.finds l.initial.s1) (mem_of l.lent l.table l.scratch l.finds l.s1)
 
 abbrev pub decreases-mny-loop-q : goal.decreases-mny-loop-q
-decreases-mny-loop-q l = turns (mem l.text l.toks l.env l.table l.scratch l.finds l.s1)
+decreases-mny-loop-q l = turns (mem_of l.lent l.table l.scratch l.finds l.s1)
 
 abbrev pub decreases-one : goal.decreases-one
 decreases-one l = 64 * l.left
@@ -125,10 +126,10 @@ abbrev pub decreases-ops : goal.decreases-ops
 decreases-ops l = 64 * l.left + 3
 
 abbrev pub invariant-ops-loop-s2 : goal.invariant-ops-loop-s2
-invariant-ops-loop-s2 l = Loops l.left l.b (expr.exp_step (prec_of l.min)) (mem l.initial.text l.initial.toks l.initial.env l.initial.table l.initial.scratch l.initial.finds l.initial.s1) (mem l.text l.toks l.env l.table l.scratch l.finds l.s1)
+invariant-ops-loop-s2 l = Loops l.left l.b (expr.exp_step (prec_of l.min)) (mem_of l.initial.lent l.initial.table l.initial.scratch l.initial.finds l.initial.s1) (mem_of l.lent l.table l.scratch l.finds l.s1)
 
 abbrev pub decreases-ops-loop-s2 : goal.decreases-ops-loop-s2
-decreases-ops-loop-s2 l = turns (mem l.text l.toks l.env l.table l.scratch l.finds l.s1)
+decreases-ops-loop-s2 l = turns (mem_of l.lent l.table l.scratch l.finds l.s1)
 
 abbrev pub decreases-oth : goal.decreases-oth
 decreases-oth l = 64 * l.left + 6
@@ -158,19 +159,19 @@ abbrev pub decreases-sep : goal.decreases-sep
 decreases-sep l = 64 * l.left
 
 abbrev pub invariant-sep-loop-q : goal.invariant-sep-loop-q
-invariant-sep-loop-q l = Loops l.left l.b (util.end_turn {g = true} l.q.wrap l.q.sep l.q.end (expr.end_closure l.q.wrap)) (mem l.initial.text l.initial.toks l.initial.env l.initial.table l.initial.scratch l.initial.finds l.initial.s1) (mem l.text l.toks l.env l.table l.scratch l.finds l.s1)
+invariant-sep-loop-q l = Loops l.left l.b (util.end_turn {g = true} (node_number l.q.wrap) l.q.sep l.q.end (expr.end_closure (node_number l.q.wrap))) (mem_of l.initial.lent l.initial.table l.initial.scratch l.initial.finds l.initial.s1) (mem_of l.lent l.table l.scratch l.finds l.s1)
 
 abbrev pub decreases-sep-loop-q : goal.decreases-sep-loop-q
-decreases-sep-loop-q l = turns (mem l.text l.toks l.env l.table l.scratch l.finds l.s1)
+decreases-sep-loop-q l = turns (mem_of l.lent l.table l.scratch l.finds l.s1)
 
 abbrev pub decreases-seq : goal.decreases-seq
 decreases-seq l = 64 * l.left + 1
 
 abbrev pub invariant-seq-loop-s2 : goal.invariant-seq-loop-s2
-invariant-seq-loop-s2 l = (g : Bool) → Loops l.left l.b (util.semi_turn {g = g} l.w (decl.semi_closure l.w (err_of l.e))) (mem l.initial.text l.initial.toks l.initial.env l.initial.table l.initial.scratch l.initial.finds l.initial.s1) (mem l.text l.toks l.env l.table l.scratch l.finds l.s1)
+invariant-seq-loop-s2 l = (g : Bool) → Loops l.left l.b (util.semi_turn {g = g} (node_number l.w) (decl.semi_closure (node_number l.w) (err_of l.e))) (mem_of l.initial.lent l.initial.table l.initial.scratch l.initial.finds l.initial.s1) (mem_of l.lent l.table l.scratch l.finds l.s1)
 
 abbrev pub decreases-seq-loop-s2 : goal.decreases-seq-loop-s2
-decreases-seq-loop-s2 l = turns (mem l.text l.toks l.env l.table l.scratch l.finds l.s1)
+decreases-seq-loop-s2 l = turns (mem_of l.lent l.table l.scratch l.finds l.s1)
 
 abbrev pub decreases-sgb : goal.decreases-sgb
 decreases-sgb l = 64 * l.left + 2
@@ -200,10 +201,10 @@ abbrev pub decreases-stt : goal.decreases-stt
 decreases-stt l = 64 * l.left
 
 abbrev pub invariant-stt-loop-k : goal.invariant-stt-loop-k
-invariant-stt-loop-k l = Loops l.left l.b decl.str_step (mem l.initial.text l.initial.toks l.initial.env l.initial.table l.initial.scratch l.initial.finds l.initial.s1) (mem l.text l.toks l.env l.table l.scratch l.finds l.s1)
+invariant-stt-loop-k l = Loops l.left l.b decl.str_step (mem_of l.initial.lent l.initial.table l.initial.scratch l.initial.finds l.initial.s1) (mem_of l.lent l.table l.scratch l.finds l.s1)
 
 abbrev pub decreases-stt-loop-k : goal.decreases-stt-loop-k
-decreases-stt-loop-k l = turns (mem l.text l.toks l.env l.table l.scratch l.finds l.s1)
+decreases-stt-loop-k l = turns (mem_of l.lent l.table l.scratch l.finds l.s1)
 
 abbrev pub decreases-stx : goal.decreases-stx
 decreases-stx l = 64 * l.left + 1

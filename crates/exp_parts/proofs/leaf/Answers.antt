@@ -105,8 +105,8 @@ path_no_infix-got-requires c =
     let pre0 = c.requires.0 in
     pre0
 
-pub state-s1-requires : goal.state-s1-requires
-state-s1-requires c =
+pub either-s1-requires : goal.either-s1-requires
+either-s1-requires c =
     tt
 
 pub close-requires-then-name_star_eq : goal.close-requires-then-name_star_eq
@@ -114,9 +114,9 @@ close-requires-then-name_star_eq c =
     let pre1 = c.requires.1 in
     let path_no_infix = c.path_no_infix-got.ensures in
     let path_no_infix_ok = path_no_infix.ok in
-    let state = c.state-s1.ensures in
-    let state_ok = ok_state state path_no_infix_ok in
-    (state_ok.logs, pre1)
+    let either = c.either-s1.ensures in
+    let either_ok = ok_state either path_no_infix_ok in
+    (either_ok.logs, pre1)
 
 pub returns-then-name_star_eq : goal.returns-then-name_star_eq
 unfolding expr.at_exp_leaf plan choose chosen
@@ -130,9 +130,9 @@ returns-then-name_star_eq c =
     let name_star_eq = c.name_star_eq.ensures in
     let if5 = c.if-name_star_eq.true in
     let path_no_infix = c.path_no_infix-got.ensures in
-    let state = c.state-s1.ensures in
+    let either = c.either-s1.ensures in
     let close4 = c.close-then-name_star_eq.ensures in
-    in_steps pre0 (s_false _ _ (kind_not if1) (s_false _ _ (kind_not if2) (s_false _ _ (test_false s_con if3) (s_false _ _ (kind_not if4) (s_true _ _ (test_true name_star_eq if5) (s_by _ (settled state (runs_in path_no_infix)) (s_close close4 s_end)))))))
+    in_steps pre0 (s_false _ _ (kind_not if1) (s_false _ _ (kind_not if2) (s_false _ _ (test_false s_con if3) (s_false _ _ (kind_not if4) (s_true _ _ (test_true name_star_eq if5) (s_by _ (settled either (runs_in path_no_infix)) (s_close close4 s_end)))))))
 
 pub returns : goal.returns
 unfolding expr.at_exp_leaf plan choose chosen

@@ -14,8 +14,8 @@ path_infix-got-requires c =
     let pre0 = c.requires.0 in
     pre0
 
-pub state-s1-requires : goal.state-s1-requires
-state-s1-requires c =
+pub either-s1-requires : goal.either-s1-requires
+either-s1-requires c =
     tt
 
 pub close-requires : goal.close-requires
@@ -23,9 +23,9 @@ close-requires c =
     let pre1 = c.requires.1 in
     let path_infix = c.path_infix-got.ensures in
     let path_infix_ok = path_infix.ok in
-    let state = c.state-s1.ensures in
-    let state_ok = ok_state state path_infix_ok in
-    (state_ok.logs, pre1)
+    let either = c.either-s1.ensures in
+    let either_ok = ok_state either path_infix_ok in
+    (either_ok.logs, pre1)
 
 pub returns-in_default : goal.returns-in_default
 unfolding expr.op_exp plan choose chosen
@@ -33,9 +33,9 @@ returns-in_default c =
     let pre0 = c.requires.0 in
     let peek_n = c.in_default.ensures in
     let path_infix = c.path_infix-got.ensures in
-    let state = c.state-s1.ensures in
+    let either = c.either-s1.ensures in
     let close = c.close.ensures in
-    in_steps pre0 (s_look peek_n (s_by _ (settled state (runs_in path_infix)) (s_close close s_end)))
+    in_steps pre0 (s_look peek_n (s_by _ (settled either (runs_in path_infix)) (s_close close s_end)))
 
 pub bump-s1-requires : goal.bump-s1-requires
 bump-s1-requires c =
@@ -63,7 +63,7 @@ pub returns-then-k-eq-ANDALSO_KW : goal.returns-then-k-eq-ANDALSO_KW
 unfolding expr.op_exp plan choose chosen
 returns-then-k-eq-ANDALSO_KW c =
     let pre0 = c.requires.0 in
-    let peek_n = c.in-Kind.ensures in
+    let peek_n = c.in-Some.ensures in
     let if1 = c.if-k-eq-ANDALSO_KW.true in
     let bump = c.bump-s1.ensures in
     let bump2 = c.bump-s2.ensures in
@@ -96,7 +96,7 @@ pub returns-then-k-eq-ORELSE_KW : goal.returns-then-k-eq-ORELSE_KW
 unfolding expr.op_exp plan choose chosen
 returns-then-k-eq-ORELSE_KW c =
     let pre0 = c.requires.0 in
-    let peek_n = c.in-Kind.ensures in
+    let peek_n = c.in-Some.ensures in
     let if1 = c.if-k-eq-ANDALSO_KW.false in
     let if2 = c.if-k-eq-ORELSE_KW.true in
     let bump3 = c.bump-s1-then-k-eq-ORELSE_KW.ensures in
@@ -109,8 +109,8 @@ path_infix-got-requires-2 c =
     let pre0 = c.requires.0 in
     pre0
 
-pub state-s1-requires-2 : goal.state-s1-requires-2
-state-s1-requires-2 c =
+pub either-s1-requires-2 : goal.either-s1-requires-2
+either-s1-requires-2 c =
     tt
 
 pub close-requires-2 : goal.close-requires-2
@@ -118,18 +118,18 @@ close-requires-2 c =
     let pre1 = c.requires.1 in
     let path_infix2 = c.path_infix-got-2.ensures in
     let path_infix2_ok = path_infix2.ok in
-    let state2 = c.state-s1-2.ensures in
-    let state2_ok = ok_state state2 path_infix2_ok in
-    (state2_ok.logs, pre1)
+    let either2 = c.either-s1-2.ensures in
+    let either2_ok = ok_state either2 path_infix2_ok in
+    (either2_ok.logs, pre1)
 
 pub returns : goal.returns
 unfolding expr.op_exp plan choose chosen
 returns c =
     let pre0 = c.requires.0 in
-    let peek_n = c.in-Kind.ensures in
+    let peek_n = c.in-Some.ensures in
     let if1 = c.if-k-eq-ANDALSO_KW.false in
     let if2 = c.if-k-eq-ORELSE_KW.false in
     let path_infix2 = c.path_infix-got-2.ensures in
-    let state2 = c.state-s1-2.ensures in
+    let either2 = c.either-s1-2.ensures in
     let close4 = c.close-2.ensures in
-    in_steps pre0 (s_look peek_n (s_false _ _ (kind_not if1) (s_false _ _ (kind_not if2) (s_by _ (settled state2 (runs_in path_infix2)) (s_close close4 s_end)))))
+    in_steps pre0 (s_look peek_n (s_false _ _ (kind_not if1) (s_false _ _ (kind_not if2) (s_by _ (settled either2 (runs_in path_infix2)) (s_close close4 s_end)))))

@@ -28,8 +28,8 @@ path_no_infix-got-requires c =
     let mark_ok = ok_marks mark pre0 in
     mark_ok
 
-pub state-s2-requires : goal.state-s2-requires
-state-s2-requires c =
+pub either-s2-requires : goal.either-s2-requires
+either-s2-requires c =
     tt
 
 pub close-requires : goal.close-requires
@@ -39,9 +39,9 @@ close-requires c =
     let mark_ok = ok_marks mark pre0 in
     let path_no_infix = c.path_no_infix-got.ensures in
     let path_no_infix_ok = path_no_infix.ok in
-    let state = c.state-s2.ensures in
-    let state_ok = ok_state state path_no_infix_ok in
-    (state_ok.logs, small_len mark_ok)
+    let either = c.either-s2.ensures in
+    let either_ok = ok_state either path_no_infix_ok in
+    (either_ok.logs, small_len mark_ok)
 
 pub returns : goal.returns
 unfolding expr.update_path plan choose chosen
@@ -50,6 +50,6 @@ returns c =
     let if1 = c.if-left-eq0.false in
     let mark = c.mark-s1.ensures in
     let path_no_infix = c.path_no_infix-got.ensures in
-    let state = c.state-s2.ensures in
+    let either = c.either-s2.ensures in
     let close = c.close.ensures in
-    by_steps pre0 (λ b. s_mark if1 mark (s_by _ (settled state (runs_in path_no_infix)) (s_close close s_end)))
+    by_steps pre0 (λ b. s_mark if1 mark (s_by _ (settled either (runs_in path_no_infix)) (s_close close s_end)))

@@ -32,7 +32,7 @@ pub returns-then-k-eq-INT_LIT : goal.returns-then-k-eq-INT_LIT
 unfolding decl.fixity plan choose chosen
 returns-then-k-eq-INT_LIT c =
     let pre0 = c.requires in
-    let peek = c.in-Kind.ensures in
+    let peek = c.in-Some.ensures in
     let if1 = c.if-k-eq-INT_LIT.true in
     let fixity_number = c.fixity_number.ensures in
     always pre0 (λ n b. s_look peek (s_true _ _ (kind_is if1) (s_by _ (runs_always fixity_number) s_end)))
@@ -45,7 +45,7 @@ pub returns-then-name_star_eq : goal.returns-then-name_star_eq
 unfolding decl.fixity plan choose chosen
 returns-then-name_star_eq c =
     let pre0 = c.requires in
-    let peek = c.in-Kind.ensures in
+    let peek = c.in-Some.ensures in
     let if1 = c.if-k-eq-INT_LIT.false in
     let name_star_eq = c.name_star_eq.ensures in
     let if2 = c.if-name_star_eq.true in
@@ -60,7 +60,7 @@ pub returns : goal.returns
 unfolding decl.fixity plan choose chosen
 returns c =
     let pre0 = c.requires in
-    let peek = c.in-Kind.ensures in
+    let peek = c.in-Some.ensures in
     let if1 = c.if-k-eq-INT_LIT.false in
     let name_star_eq = c.name_star_eq.ensures in
     let if2 = c.if-name_star_eq.false in

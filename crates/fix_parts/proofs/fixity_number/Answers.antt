@@ -1,4 +1,4 @@
--- by hand: tools/prove wrote all but the last need, whose tests no code makes: the number was taken apart by `match`
+-- by hand: tools/prove wrote all but the last answers, whose tests no code makes: the number is taken apart by `match`
 use Rattle.grammar.specs.Dec as decl
 use Rattle.parser.specs.Runs.{runs_always, ok_tells}
 use Rattle.parser.specs.Plans.{plan, choose, chosen, always, s_says, s_false, s_bump, s_report, s_by, s_end}
@@ -21,16 +21,6 @@ not_invalid n = ne_eqb (n + valid) invalid (λ e. omega arith)
 itself : (n : ℕ) → n + valid - valid ≡ n
 itself n = omega arith
 
-pub number_at-number-requires : goal.number_at-number-requires
-number_at-number-requires c =
-    let pre0 = c.requires in
-    (pre0.reads, pre0.names)
-
-pub report-s1-requires : goal.report-s1-requires
-report-s1-requires c =
-    let pre0 = c.requires in
-    (pre0.holds, (let few = pre0.reads.few in let inside = pre0.reads.inside in omega arith), omega arith)
-
 pub bump-s2-requires : goal.bump-s2-requires
 bump-s2-requires c =
     let pre0 = c.requires in
@@ -38,48 +28,37 @@ bump-s2-requires c =
     let report-ok = ok_tells report pre0 in
     (report-ok.reads, report-ok.logs)
 
-pub report-s1-requires-in-Invalid : goal.report-s1-requires-in-Invalid
-report-s1-requires-in-Invalid c =
+pub bump-s2-requires-in-Err-Invalid : goal.bump-s2-requires-in-Err-Invalid
+bump-s2-requires-in-Err-Invalid c =
     let pre0 = c.requires in
-    (pre0.holds, (let few = pre0.reads.few in let inside = pre0.reads.inside in omega arith), omega arith)
-
-pub bump-s2-requires-in-Invalid : goal.bump-s2-requires-in-Invalid
-bump-s2-requires-in-Invalid c =
-    let pre0 = c.requires in
-    let report2 = c.report-s1-in-Invalid.ensures in
+    let report2 = c.report-s1-in-Err-Invalid.ensures in
     let report2-ok = ok_tells report2 pre0 in
     (report2-ok.reads, report2-ok.logs)
 
-pub bump-s2-requires-in-Is : goal.bump-s2-requires-in-Is
-bump-s2-requires-in-Is c =
-    let large-fixity = c.large_fixity-s1.ensures in
-    let large-fixity-ok = large-fixity.ok in
-    (large-fixity-ok.reads, large-fixity-ok.logs)
-
-pub returns-in-Negative : goal.returns-in-Negative
+pub returns-in-Err-Negative : goal.returns-in-Err-Negative
 unfolding decl.fixity_number plan choose chosen
-returns-in-Negative c =
+returns-in-Err-Negative c =
     let pre0 = c.requires in
-    let number_at = c.in-Negative.ensures in
+    let number_at = rw c.in-Err-Negative.field-0-is at c.in-Err-Negative.ensures in
     let report = c.report-s1.ensures in
     let bump = c.bump-s2.ensures in
     always pre0 (λ n b. s_says number_at (s_report report (s_bump bump s_end)))
 
-pub returns-in-Invalid : goal.returns-in-Invalid
+pub returns-in-Err-Invalid : goal.returns-in-Err-Invalid
 unfolding decl.fixity_number plan choose chosen
-returns-in-Invalid c =
+returns-in-Err-Invalid c =
     let pre0 = c.requires in
-    let number_at = c.in-Invalid.ensures in
-    let report2 = c.report-s1-in-Invalid.ensures in
-    let bump2 = c.bump-s2-in-Invalid.ensures in
+    let number_at = rw c.in-Err-Invalid.field-0-is at c.in-Err-Invalid.ensures in
+    let report2 = c.report-s1-in-Err-Invalid.ensures in
+    let bump2 = c.bump-s2-in-Err-Invalid.ensures in
     always pre0 (λ n b. s_says number_at (s_report report2 (s_bump bump2 s_end)))
 
-pub returns-in-Is : goal.returns-in-Is
+pub returns-in-Ok : goal.returns-in-Ok
 unfolding decl.fixity_number plan choose chosen
-returns-in-Is c =
+returns-in-Ok c =
     let pre0 = c.requires in
-    let number_at = c.in-Is.ensures in
+    let number_at = c.in-Ok.ensures in
     let large-fixity = c.large_fixity-s1.ensures in
-    let bump3 = c.bump-s2-in-Is.ensures in
-    let k = c.in-Is.n in
+    let bump3 = c.bump-s2-in-Ok.ensures in
+    let k = c.in-Ok.n in
     always pre0 (λ n b. s_says number_at (s_false _ _ (not_negative k) (s_false _ _ (not_invalid k) (rw (itself k) (s_by _ (runs_always large-fixity) (s_bump bump3 s_end))))))

@@ -36,7 +36,7 @@ pub loop-k-smaller : goal.loop-k-smaller
 unfolding decl.names_turn plan choose chosen
 loop-k-smaller c =
     let inv = c.loop-k.invariant in
-    let peek = c.in-Kind.ensures in
+    let peek = c.in-Some.ensures in
     let name_star_eq = c.name_star_eq.ensures in
     let if1 = c.if-name_star_eq.true in
     let take_as = c.take_as-s1.ensures in
@@ -46,7 +46,7 @@ pub loop-k-preserved : goal.loop-k-preserved
 unfolding decl.names_turn plan choose chosen
 loop-k-preserved c =
     let inv = c.loop-k.invariant in
-    let peek = c.in-Kind.ensures in
+    let peek = c.in-Some.ensures in
     let name_star_eq = c.name_star_eq.ensures in
     let if1 = c.if-name_star_eq.true in
     let take_as = c.take_as-s1.ensures in
@@ -56,7 +56,7 @@ pub returns-in-loop-k : goal.returns-in-loop-k
 unfolding decl.names_turn plan choose chosen
 returns-in-loop-k c =
     let inv = c.loop-k.invariant in
-    let peek = c.in-Kind.ensures in
+    let peek = c.in-Some.ensures in
     let name_star_eq = c.name_star_eq.ensures in
     let if1 = c.if-name_star_eq.false in
     loop_ends (names_turn_advances _ _ _) inv (in_steps inv.ok {n = c.args.left} {b = c.args.b} (s_look peek (s_false _ _ (test_false name_star_eq if1) s_end)))

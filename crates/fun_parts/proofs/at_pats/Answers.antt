@@ -16,17 +16,17 @@ at_pat-turn-requires c =
 
 pub loop-s2-smaller : goal.loop-s2-smaller
 loop-s2-smaller c =
-    let at_pat = c.in-At.ensures in
+    let at_pat = c.in-Ok.ensures in
     loop_falls (at_pat_advances true _ _ _) (runs_in {b = 0} (at_pat _))
 
 pub loop-s2-preserved : goal.loop-s2-preserved
 loop-s2-preserved c =
     let inv = c.loop-s2.invariant in
-    let at_pat = c.in-At.ensures in
+    let at_pat = c.in-Ok.ensures in
     loop_goes (at_pat_advances true _ _ _) inv (runs_in (at_pat _))
 
-pub returns-in-Missing : goal.returns-in-Missing
-returns-in-Missing c =
+pub returns-in-Err : goal.returns-in-Err
+returns-in-Err c =
     let inv = c.loop-s2.invariant in
-    let at_pat = c.in-Missing.ensures in
+    let at_pat = c.in-Err.ensures in
     loop_ends (at_pat_advances true _ _ _) inv (runs_in (at_pat _))

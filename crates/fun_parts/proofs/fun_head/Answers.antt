@@ -19,7 +19,7 @@ other_head-s3-requires c =
     let pre0 = c.requires.0 in
     let pre1 = c.requires.1 in
     let infix_head = c.infix_head-s1.ensures in
-    let ok_since = c.in-Missing.ensures in
+    let ok_since = c.in-Err.ensures in
     let ok_since_ok = ok_since_lem (runs_in {b = 0} infix_head) ok_since pre0 in
     (ok_since_ok, pre1)
 
@@ -28,24 +28,24 @@ close-requires c =
     let pre0 = c.requires.0 in
     let pre1 = c.requires.1 in
     let infix_head = c.infix_head-s1.ensures in
-    let ok_since = c.in-At.ensures in
+    let ok_since = c.in-Ok.ensures in
     let ok_since_ok = ok_since_lem (runs_in {b = 0} infix_head) ok_since pre0 in
     (ok_since_ok.logs, pre1)
 
-pub returns-in-Missing : goal.returns-in-Missing
+pub returns-in-Err : goal.returns-in-Err
 unfolding decl.fun_head plan choose chosen
-returns-in-Missing c =
+returns-in-Err c =
     let pre0 = c.requires.0 in
     let infix_head = c.infix_head-s1.ensures in
-    let ok_since = c.in-Missing.ensures in
+    let ok_since = c.in-Err.ensures in
     let other_head = c.other_head-s3.ensures in
     in_steps pre0 (s_attempt (runs_in infix_head) ok_since (s_by _ other_head s_end))
 
-pub returns-in-At : goal.returns-in-At
+pub returns-in-Ok : goal.returns-in-Ok
 unfolding decl.fun_head plan choose chosen
-returns-in-At c =
+returns-in-Ok c =
     let pre0 = c.requires.0 in
     let infix_head = c.infix_head-s1.ensures in
-    let ok_since = c.in-At.ensures in
+    let ok_since = c.in-Ok.ensures in
     let close = c.close.ensures in
     in_steps pre0 (s_attempt (runs_in infix_head) ok_since (s_close close s_end))

@@ -1,4 +1,5 @@
 -- by tools/prove
+use Rattle.grammar.specs.Pat as pats
 use Rattle.grammar.specs.Dec as decl
 use Rattle.parser.specs.Runs.{ok_marks, ok_refused, small_len}
 use Rattle.parser.specs.Plans.{plan, choose, chosen, by_steps, s_mark, s_deep, s_by, s_run, s_end}
@@ -35,27 +36,27 @@ fun_head-head-requires c =
     let mark_ok = ok_marks mark pre0 in
     (mark_ok, small_len mark_ok)
 
-pub at_pats-requires-in-Missing : goal.at_pats-requires-in-Missing
-at_pats-requires-in-Missing c =
-    let fun_head = c.in-Missing.ensures in
+pub at_pats-requires-in-Err : goal.at_pats-requires-in-Err
+at_pats-requires-in-Err c =
+    let fun_head = c.in-Err.ensures in
     let fun_head_ok = fun_head.ok in
     fun_head_ok
 
-pub returns-in-Missing : goal.returns-in-Missing
+pub returns-in-Err : goal.returns-in-Err
 unfolding decl.fun_left plan choose chosen
-returns-in-Missing c =
+returns-in-Err c =
     let pre0 = c.requires in
     let if1 = c.if-left-eq0.false in
     let mark = c.mark-s1.ensures in
-    let fun_head = c.in-Missing.ensures in
-    let at_pats2 = c.at_pats-in-Missing.ensures in
+    let fun_head = c.in-Err.ensures in
+    let at_pats2 = c.at_pats-in-Err.ensures in
     by_steps pre0 (λ b. s_mark if1 mark (s_by _ fun_head (s_run at_pats2 s_end)))
 
-pub returns-in-At : goal.returns-in-At
+pub returns-in-Ok : goal.returns-in-Ok
 unfolding decl.fun_left plan choose chosen
-returns-in-At c =
+returns-in-Ok c =
     let pre0 = c.requires in
     let if1 = c.if-left-eq0.false in
     let mark = c.mark-s1.ensures in
-    let fun_head = c.in-At.ensures in
+    let fun_head = c.in-Ok.ensures in
     by_steps pre0 (λ b. s_mark if1 mark (s_by _ fun_head s_end))

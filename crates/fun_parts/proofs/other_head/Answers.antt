@@ -62,7 +62,7 @@ pub returns-then-k-eq-LROUND : goal.returns-then-k-eq-LROUND
 unfolding decl.other_head plan choose chosen
 returns-then-k-eq-LROUND c =
     let pre0 = c.requires.0 in
-    let peek = c.in-Kind.ensures in
+    let peek = c.in-Some.ensures in
     let if1 = c.if-k-eq-LROUND.true in
     let bump = c.bump-s1.ensures in
     let infix_head = c.infix_head-s2.ensures in
@@ -86,7 +86,7 @@ pub returns-then-k-eq-OP_KW : goal.returns-then-k-eq-OP_KW
 unfolding decl.other_head plan choose chosen
 returns-then-k-eq-OP_KW c =
     let pre0 = c.requires.0 in
-    let peek = c.in-Kind.ensures in
+    let peek = c.in-Some.ensures in
     let if1 = c.if-k-eq-LROUND.false in
     let if2 = c.if-k-eq-OP_KW.true in
     let prefix_op = c.prefix_op-s1.ensures in
@@ -109,7 +109,7 @@ pub returns : goal.returns
 unfolding decl.other_head plan choose chosen
 returns c =
     let pre0 = c.requires.0 in
-    let peek = c.in-Kind.ensures in
+    let peek = c.in-Some.ensures in
     let if1 = c.if-k-eq-LROUND.false in
     let if2 = c.if-k-eq-OP_KW.false in
     let prefix_name2 = c.prefix_name-s1-2.ensures in

@@ -41,8 +41,8 @@ bump-s1-requires c =
     let pre0 = c.requires in
     (pre0.reads, pre0.logs)
 
-pub report-requires-in-Nonfix : goal.report-requires-in-Nonfix
-report-requires-in-Nonfix c =
+pub report-requires-in-None : goal.report-requires-in-None
+report-requires-in-None c =
     let pre0 = c.requires in
     let index = c.index-i.ensures in
     let index_small = small_index index pre0 in
@@ -50,17 +50,17 @@ report-requires-in-Nonfix c =
     let bump_ok = ok_bumps bump pre0 in
     (bump_ok.holds, (let few = bump_ok.reads.few in let inside = bump_ok.reads.inside in omega arith), omega arith)
 
-pub returns-in-Nonfix : goal.returns-in-Nonfix
+pub returns-in-None : goal.returns-in-None
 unfolding decl.infix_name plan choose chosen
-returns-in-Nonfix c =
+returns-in-None c =
     let pre0 = c.requires in
-    let peek = c.in-Kind.ensures in
+    let peek = c.in-Some.ensures in
     let name_star = c.name_star.ensures in
     let if1 = c.if-name_star.true in
-    let fixity_at = c.in-Nonfix.ensures in
+    let fixity_at = c.in-None.ensures in
     let index = c.index-i.ensures in
     let bump = c.bump-s1.ensures in
-    let report2 = c.report-in-Nonfix.ensures in
+    let report2 = c.report-in-None.ensures in
     always pre0 (λ n b. s_look peek (s_true _ _ (test_true name_star if1) (s_fixed fixity_at (s_index index (s_bump bump (s_report report2 s_end))))))
 
 pub bump-requires : goal.bump-requires
@@ -68,14 +68,14 @@ bump-requires c =
     let pre0 = c.requires in
     (pre0.reads, pre0.logs)
 
-pub returns-in-Is : goal.returns-in-Is
+pub returns-in-Some-fix : goal.returns-in-Some-fix
 unfolding decl.infix_name plan choose chosen
-returns-in-Is c =
+returns-in-Some-fix c =
     let pre0 = c.requires in
-    let peek = c.in-Kind.ensures in
+    let peek = c.in-Some.ensures in
     let name_star = c.name_star.ensures in
     let if1 = c.if-name_star.true in
-    let fixity_at = c.in-Is.ensures in
+    let fixity_at = c.in-Some-fix.ensures in
     let bump2 = c.bump.ensures in
     always pre0 (λ n b. s_look peek (s_true _ _ (test_true name_star if1) (s_fixed fixity_at (s_bump bump2 s_end))))
 
@@ -88,7 +88,7 @@ pub returns : goal.returns
 unfolding decl.infix_name plan choose chosen
 returns c =
     let pre0 = c.requires in
-    let peek = c.in-Kind.ensures in
+    let peek = c.in-Some.ensures in
     let name_star = c.name_star.ensures in
     let if1 = c.if-name_star.false in
     let report3 = c.report-2.ensures in

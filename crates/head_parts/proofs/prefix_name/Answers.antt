@@ -37,14 +37,14 @@ bump-requires c =
     let pre0 = c.requires in
     (pre0.reads, pre0.logs)
 
-pub returns-in-Nonfix : goal.returns-in-Nonfix
+pub returns-in-None : goal.returns-in-None
 unfolding decl.prefix_name plan choose chosen
-returns-in-Nonfix c =
+returns-in-None c =
     let pre0 = c.requires in
-    let peek = c.in-Kind.ensures in
+    let peek = c.in-Some.ensures in
     let name_star = c.name_star.ensures in
     let if1 = c.if-name_star.true in
-    let fixity_at = c.in-Nonfix.ensures in
+    let fixity_at = c.in-None.ensures in
     let bump = c.bump.ensures in
     always pre0 (λ n b. s_look peek (s_true _ _ (test_true name_star if1) (s_fixed fixity_at (s_bump bump s_end))))
 
@@ -59,24 +59,24 @@ report-s1-requires c =
     let index_small = small_index index pre0 in
     (pre0.holds, (let few = pre0.reads.few in let inside = pre0.reads.inside in omega arith), omega arith)
 
-pub bump-requires-in-Is : goal.bump-requires-in-Is
-bump-requires-in-Is c =
+pub bump-requires-in-Some-fix : goal.bump-requires-in-Some-fix
+bump-requires-in-Some-fix c =
     let pre0 = c.requires in
     let report2 = c.report-s1.ensures in
     let report2_ok = ok_tells report2 pre0 in
     (report2_ok.reads, report2_ok.logs)
 
-pub returns-in-Is : goal.returns-in-Is
+pub returns-in-Some-fix : goal.returns-in-Some-fix
 unfolding decl.prefix_name plan choose chosen
-returns-in-Is c =
+returns-in-Some-fix c =
     let pre0 = c.requires in
-    let peek = c.in-Kind.ensures in
+    let peek = c.in-Some.ensures in
     let name_star = c.name_star.ensures in
     let if1 = c.if-name_star.true in
-    let fixity_at = c.in-Is.ensures in
+    let fixity_at = c.in-Some-fix.ensures in
     let index = c.index-i.ensures in
     let report2 = c.report-s1.ensures in
-    let bump2 = c.bump-in-Is.ensures in
+    let bump2 = c.bump-in-Some-fix.ensures in
     always pre0 (λ n b. s_look peek (s_true _ _ (test_true name_star if1) (s_fixed fixity_at (s_index index (s_report report2 (s_bump bump2 s_end))))))
 
 pub report-requires-2 : goal.report-requires-2
@@ -88,7 +88,7 @@ pub returns : goal.returns
 unfolding decl.prefix_name plan choose chosen
 returns c =
     let pre0 = c.requires in
-    let peek = c.in-Kind.ensures in
+    let peek = c.in-Some.ensures in
     let name_star = c.name_star.ensures in
     let if1 = c.if-name_star.false in
     let report3 = c.report-2.ensures in

@@ -61,41 +61,41 @@ bump-requires c =
     let bump2_ok = ok_bumps bump2 report2_ok in
     (bump2_ok.reads, bump2_ok.logs)
 
-pub returns-in-Nonfix : goal.returns-in-Nonfix
+pub returns-in-None : goal.returns-in-None
 unfolding decl.prefix_op plan choose chosen
-returns-in-Nonfix c =
+returns-in-None c =
     let pre0 = c.requires in
-    let peek_n = c.in-Kind.ensures in
+    let peek_n = c.in-Some.ensures in
     let name_star = c.name_star.ensures in
     let if1 = c.if-name_star.true in
-    let fixity_at = c.in-Nonfix.ensures in
+    let fixity_at = c.in-None.ensures in
     let report2 = c.report-s1.ensures in
     let bump2 = c.bump-s2.ensures in
     let bump3 = c.bump.ensures in
     always pre0 (λ n b. s_look peek_n (s_true _ _ (test_true name_star if1) (s_fixed fixity_at (s_report report2 (s_bump bump2 (s_bump bump3 s_end))))))
 
-pub bump-s1-requires-in-Is : goal.bump-s1-requires-in-Is
-bump-s1-requires-in-Is c =
+pub bump-s1-requires-in-Some-fix : goal.bump-s1-requires-in-Some-fix
+bump-s1-requires-in-Some-fix c =
     let pre0 = c.requires in
     (pre0.reads, pre0.logs)
 
-pub bump-requires-in-Is : goal.bump-requires-in-Is
-bump-requires-in-Is c =
+pub bump-requires-in-Some-fix : goal.bump-requires-in-Some-fix
+bump-requires-in-Some-fix c =
     let pre0 = c.requires in
-    let bump4 = c.bump-s1-in-Is.ensures in
+    let bump4 = c.bump-s1-in-Some-fix.ensures in
     let bump4_ok = ok_bumps bump4 pre0 in
     (bump4_ok.reads, bump4_ok.logs)
 
-pub returns-in-Is : goal.returns-in-Is
+pub returns-in-Some-fix : goal.returns-in-Some-fix
 unfolding decl.prefix_op plan choose chosen
-returns-in-Is c =
+returns-in-Some-fix c =
     let pre0 = c.requires in
-    let peek_n = c.in-Kind.ensures in
+    let peek_n = c.in-Some.ensures in
     let name_star = c.name_star.ensures in
     let if1 = c.if-name_star.true in
-    let fixity_at = c.in-Is.ensures in
-    let bump4 = c.bump-s1-in-Is.ensures in
-    let bump5 = c.bump-in-Is.ensures in
+    let fixity_at = c.in-Some-fix.ensures in
+    let bump4 = c.bump-s1-in-Some-fix.ensures in
+    let bump5 = c.bump-in-Some-fix.ensures in
     always pre0 (λ n b. s_look peek_n (s_true _ _ (test_true name_star if1) (s_fixed fixity_at (s_bump bump4 (s_bump bump5 s_end)))))
 
 pub bump-s1-requires-2 : goal.bump-s1-requires-2
@@ -114,7 +114,7 @@ pub returns : goal.returns
 unfolding decl.prefix_op plan choose chosen
 returns c =
     let pre0 = c.requires in
-    let peek_n = c.in-Kind.ensures in
+    let peek_n = c.in-Some.ensures in
     let name_star = c.name_star.ensures in
     let if1 = c.if-name_star.false in
     let bump6 = c.bump-s1-2.ensures in

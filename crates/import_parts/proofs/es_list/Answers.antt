@@ -44,8 +44,8 @@ eat-got-requires c =
     let refuse_ok = ok_refused _ refuse inv in
     (refuse_ok.reads, refuse_ok.logs, refuse_ok.holds, omega arith)
 
-pub state-requires : goal.state-requires
-state-requires c =
+pub either-requires : goal.either-requires
+either-requires c =
     tt
 
 pub returns-then-left-eq0 : goal.returns-then-left-eq0
@@ -57,8 +57,8 @@ returns-then-left-eq0 c =
     let if2 = c.if-left-eq0.true in
     let refuse = c.refuse-s2.ensures in
     let eat = c.eat-got.ensures in
-    let state = c.state.ensures in
-    loop_ends (end_turn_advances true SK.EsImportSpecArg SK.Comma SK.RCurly decl.es_import_spec _ _) inv (in_steps inv.ok {n = c.args.left} {b = c.args.b} (s_kind (s_false _ _ (kind_off _ _ _ _ at if1) (s_deep if2 refuse (s_eats _ _ _ (eats_settled state eat) s_end)))))
+    let either = c.either.ensures in
+    loop_ends (end_turn_advances true SK.EsImportSpecArg SK.Comma SK.RCurly decl.es_import_spec _ _) inv (in_steps inv.ok {n = c.args.left} {b = c.args.b} (s_kind (s_false _ _ (kind_off _ _ _ _ at if1) (s_deep if2 refuse (s_eats _ _ _ (eats_settled either eat) s_end)))))
 
 pub mark-s2-requires : goal.mark-s2-requires
 mark-s2-requires c =
@@ -141,8 +141,8 @@ eat-got-requires-in-loop-scratch c =
     let close2_ok = ok_adds close2 es_spec_ok in
     (close2_ok.reads, close2_ok.logs, close2_ok.holds, omega arith)
 
-pub state-requires-in-loop-scratch : goal.state-requires-in-loop-scratch
-state-requires-in-loop-scratch c =
+pub either-requires-in-loop-scratch : goal.either-requires-in-loop-scratch
+either-requires-in-loop-scratch c =
     tt
 
 pub returns-in-loop-scratch : goal.returns-in-loop-scratch
@@ -158,5 +158,5 @@ returns-in-loop-scratch c =
     let if3 = c.if-at-2.false in
     let close2 = c.close-s4.ensures in
     let eat2 = c.eat-got-in-loop-scratch.ensures in
-    let state2 = c.state-in-loop-scratch.ensures in
-    loop_ends (end_turn_advances true SK.EsImportSpecArg SK.Comma SK.RCurly decl.es_import_spec _ _) inv (in_steps inv.ok {n = c.args.left} {b = c.args.b} (s_kind (s_false _ _ (kind_off _ _ _ _ at if1) (s_mark if2 mark (s_by _ (runs_in es_spec) (s_kind (s_false _ _ (kind_off _ _ _ _ at2 if3) (s_close close2 (s_eats _ _ _ (eats_settled state2 eat2) s_end)))))))))
+    let either2 = c.either-in-loop-scratch.ensures in
+    loop_ends (end_turn_advances true SK.EsImportSpecArg SK.Comma SK.RCurly decl.es_import_spec _ _) inv (in_steps inv.ok {n = c.args.left} {b = c.args.b} (s_kind (s_false _ _ (kind_off _ _ _ _ at if1) (s_mark if2 mark (s_by _ (runs_in es_spec) (s_kind (s_false _ _ (kind_off _ _ _ _ at2 if3) (s_close close2 (s_eats _ _ _ (eats_settled either2 eat2) s_end)))))))))

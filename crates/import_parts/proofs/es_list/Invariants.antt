@@ -2,13 +2,13 @@
 use Rattle.grammar.specs.Util as util
 use Rattle.grammar.specs.Dec as decl
 use Rattle.grammar.specs.SyntaxKind as SK
-use Rattle.parser.specs.View.{mem}
+use Rattle.parser.specs.View.{mem_of}
 use Rattle.parser.specs.Runs.{Loops, turns}
 use mathlib.Core.Bool.{true}
 use Rattle.import_parts.proofs.es_list.Given as goal
 
 abbrev pub invariant-loop-scratch : goal.invariant-loop-scratch
-invariant-loop-scratch l = Loops l.left l.b (util.end_turn {g = true} SK.EsImportSpecArg SK.Comma SK.RCurly decl.es_import_spec) (mem l.initial.text l.initial.toks l.initial.env l.initial.table l.initial.scratch l.initial.finds l.initial.s1) (mem l.text l.toks l.env l.table l.scratch l.finds l.s1)
+invariant-loop-scratch l = Loops l.left l.b (util.end_turn {g = true} SK.EsImportSpecArg SK.Comma SK.RCurly decl.es_import_spec) (mem_of l.initial.lent l.initial.table l.initial.scratch l.initial.finds l.initial.s1) (mem_of l.lent l.table l.scratch l.finds l.s1)
 
 abbrev pub decreases-loop-scratch : goal.decreases-loop-scratch
-decreases-loop-scratch l = turns (mem l.text l.toks l.env l.table l.scratch l.finds l.s1)
+decreases-loop-scratch l = turns (mem_of l.lent l.table l.scratch l.finds l.s1)

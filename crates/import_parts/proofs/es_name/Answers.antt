@@ -36,7 +36,7 @@ pub returns-then-name_or_string : goal.returns-then-name_or_string
 unfolding decl.es_import_name plan choose chosen
 returns-then-name_or_string c =
     let pre0 = c.requires in
-    let peek = c.in-Kind.ensures in
+    let peek = c.in-Some.ensures in
     let name_or_string = c.name_or_string.ensures in
     let if1 = c.if-name_or_string.true in
     let bump = c.bump.ensures in
@@ -51,7 +51,7 @@ pub returns : goal.returns
 unfolding decl.es_import_name plan choose chosen
 returns c =
     let pre0 = c.requires in
-    let peek = c.in-Kind.ensures in
+    let peek = c.in-Some.ensures in
     let name_or_string = c.name_or_string.ensures in
     let if1 = c.if-name_or_string.false in
     let report2 = c.report-2.ensures in

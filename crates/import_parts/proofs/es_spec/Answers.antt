@@ -34,20 +34,20 @@ as_pat_tl-got-requires c =
     let es_name_ok = es_name.ok in
     es_name_ok
 
-pub state-s3-requires : goal.state-s3-requires
-state-s3-requires c =
+pub either-s3-requires : goal.either-s3-requires
+either-s3-requires c =
     tt
 
 pub ty_annotation-typed-requires : goal.ty_annotation-typed-requires
 ty_annotation-typed-requires c =
     let as_pat_tl = c.as_pat_tl-got.ensures in
     let as_pat_tl_ok = as_pat_tl.ok in
-    let state = c.state-s3.ensures in
-    let state_ok = ok_state state as_pat_tl_ok in
-    state_ok
+    let either = c.either-s3.ensures in
+    let either_ok = ok_state either as_pat_tl_ok in
+    either_ok
 
-pub state-s4-requires : goal.state-s4-requires
-state-s4-requires c =
+pub either-s4-requires : goal.either-s4-requires
+either-s4-requires c =
     tt
 
 pub close-requires : goal.close-requires
@@ -57,9 +57,9 @@ close-requires c =
     let mark_ok = ok_marks mark pre0 in
     let ty_annotation = c.ty_annotation-typed.ensures in
     let ty_annotation_ok = ty_annotation.ok in
-    let state2 = c.state-s4.ensures in
-    let state2_ok = ok_state state2 ty_annotation_ok in
-    (state2_ok.logs, small_len mark_ok)
+    let either2 = c.either-s4.ensures in
+    let either2_ok = ok_state either2 ty_annotation_ok in
+    (either2_ok.logs, small_len mark_ok)
 
 pub returns : goal.returns
 unfolding decl.es_import_spec plan choose chosen
@@ -69,8 +69,8 @@ returns c =
     let mark = c.mark-s1.ensures in
     let es_name = c.es_name-s2.ensures in
     let as_pat_tl = c.as_pat_tl-got.ensures in
-    let state = c.state-s3.ensures in
+    let either = c.either-s3.ensures in
     let ty_annotation = c.ty_annotation-typed.ensures in
-    let state2 = c.state-s4.ensures in
+    let either2 = c.either-s4.ensures in
     let close = c.close.ensures in
-    by_steps pre0 (λ b. s_mark if1 mark (s_by _ (runs_always es_name) (s_by _ (settled state (runs_in as_pat_tl)) (s_by _ (settled state2 (runs_in ty_annotation)) (s_close close s_end)))))
+    by_steps pre0 (λ b. s_mark if1 mark (s_by _ (runs_always es_name) (s_by _ (settled either (runs_in as_pat_tl)) (s_by _ (settled either2 (runs_in ty_annotation)) (s_close close s_end)))))

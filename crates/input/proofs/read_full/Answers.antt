@@ -1,32 +1,22 @@
 -- by hand: what a turn read stands behind what was read before it, which is what the reader lost.
-use Rattle.std.proofs.Common.{◌≡◌, ℕ, ◌+◌, ◌-◌, ◌≤◌, List, ◌++◌, rules, arith, length, take, slice_range, sym, ap, ◌∙◌, subst, le_refl, drop_at, length-take-le}
-use Rattle.std.proofs.lemmas.Slice.{take-put_mid_below}
+use Rattle.std.proofs.Common.{◌≡◌, ℕ, ◌+◌, ◌-◌, ◌≤◌, List, ◌++◌, rules, length, take, sym, ◌∙◌, refl, subst, take_at, drop_at, length-take-le}
 use Rattle.std.specs.Io.KnownBytes.{Consumes}
 use Rattle.std.proofs.KnownBytes.{Consumes-trans}
 use borrow.Rule.Slice.PartMut.{put_mid, post_of}
 use lib.Seq.{take-add, take-append-le}
 use Rattle.input.proofs.read_full.Goals as goal
 
--- The bytes before `a`, and those from there to `b`, are those before `b`.
-take_split : (a b : ℕ) (old new : List ℕ) → a ≤ b → take a new ≡ take a old → take a old ++ slice_range new a b ≡ take b new
-take_split a b old new h front =
-    let same : a + (b - a) ≡ b = omega arith in
-    ap (λ l. l ++ slice_range new a b) (sym front) ∙ sym (take-add a (b - a) new) ∙ ap (λ n. take n new) same
-
--- What was written from `a` on stands there.
-slice_range-put_mid : (a k n : ℕ) (xs ys : List ℕ) → a ≤ length xs → n ≤ length ys → slice_range (put_mid a k xs ys) a (a + n) ≡ take n ys
-slice_range-put_mid a k n xs ys within fits =
-    let same : (a + n) - a ≡ n = omega arith in
-    let after = post_of a k xs in
-    ap (take ((a + n) - a)) (drop_at (take a xs) (ys ++ after) a (length-take-le a xs within)) ∙ ap (λ m. take m (ys ++ after)) same ∙ take-append-le n ys after fits
+-- What was there before `a`, and the first of what was written from there on.
+take-put_mid_part : (a k n : ℕ) (xs ys : List ℕ) → a ≤ length xs → n ≤ length ys → take (a + n) (put_mid a k xs ys) ≡ take a xs ++ take n ys
+take-put_mid_part a k n xs ys within fits =
+    let front = take a xs in
+    let back = ys ++ post_of a k xs in
+    let len = length-take-le a xs within in
+    take-add a n (front ++ back) ∙ rw (take_at front back a len, drop_at front back a len, take-append-le n ys (post_of a k xs) fits) refl
 
 pub loop-done-preserved : goal.loop-done-preserved
 loop-done-preserved g c =
     let from = c.loop-done.done in
     let buf = c.loop-done.buf in
-    let room = length buf - from in
-    let n = c.in_ok-n.n in
-    let within = c.loop-done.invariant.1 in
-    let part = slice_range-put_mid from room n buf c.read.new.buf within c.in_ok-n.ensures.bound.0 in
-    let joined = take_split from (from + n) buf (put_mid from room buf c.read.new.buf) (omega arith) (take-put_mid_below _ _ _ _ _ (le_refl _) within) in
-    (search rules, search rules, subst (Consumes _ _) (ap (λ l. take from buf ++ l) (sym part) ∙ joined) (Consumes-trans _ _ _ _ _ c.loop-done.invariant.2 c.in_ok-n.ensures.bytes.0))
+    let read = take-put_mid_part from (length buf - from) c.in_ok-n.n buf c.read.new.buf c.loop-done.invariant.1 c.in_ok-n.ensures.bound.0 in
+    (search rules, search rules, subst (Consumes _ _) (sym read) (Consumes-trans _ _ _ _ _ c.loop-done.invariant.2 c.in_ok-n.ensures.bytes.0))

@@ -16,17 +16,17 @@ path-turn-requires c =
 
 pub loop-s2-smaller : goal.loop-s2-smaller
 loop-s2-smaller c =
-    let path = c.in-At.ensures in
+    let path = c.in-Ok.ensures in
     loop_falls (path_advances true _ _) (runs_in {b = 0} path)
 
 pub loop-s2-preserved : goal.loop-s2-preserved
 loop-s2-preserved c =
     let inv = c.loop-s2.invariant in
-    let path = c.in-At.ensures in
+    let path = c.in-Ok.ensures in
     loop_goes (path_advances true _ _) inv (runs_in path)
 
-pub returns-in-Missing : goal.returns-in-Missing
-returns-in-Missing c =
+pub returns-in-Err : goal.returns-in-Err
+returns-in-Err c =
     let inv = c.loop-s2.invariant in
-    let path = c.in-Missing.ensures in
+    let path = c.in-Err.ensures in
     loop_ends (path_advances true _ _) inv (runs_in path)

@@ -1,22 +1,15 @@
--- by hand: a loop over records, whose invariant is its own.
-use Prim.Native.Nat.{ℕ}
-use native.Mathlib.Omega.{arith}
-use mathlib.Core.Path.{◌≡◌, ap}
-use Rattle.parser.specs.View.{chunks}
-use Rattle.node_count.specs.Log.{log_in}
-use Rattle.node_count.specs.Counts.{weight, weight_took, weight_ended, counted}
+-- by hand: a count over the pieces of a buffer, which `search` does not join to the log.
+use Rattle.std.proofs.Common.{arith, rules, tests, length, ◌/◌}
+use Rattle.std.proofs.lemmas.Iterator.Consumers.{count_from_yields_List, YieldsList-from_filter, YieldsList-at}
+use Rattle.parser.specs.View.{chunk_size}
+use Rattle.node_count.specs.Counts.{counted}
+use Rattle.node_count.proofs.Pieces.{ends, yields, weighs, at_most}
 use Rattle.node_count.proofs.node_count.Goals as goal
-
-pub loop-i-init : goal.loop-i-init
-unfolding chunks weight
-loop-i-init c = (omega arith, omega arith, omega arith)
-
-pub loop-i-preserved : goal.loop-i-preserved
-loop-i-preserved c = grind (arith, weight_took c.args.scratch.now c.loop-i.i, weight_ended c.args.scratch.now c.loop-i.i)
 
 pub returns : goal.returns
 returns c =
-    let l = c.loop-i in
-    let a = c.args in
-    let e : l.i ≡ a.len = omega arith in
-    record { bytes = counted a.scratch.now a.len l.n (omega (arith, ap (λ (n : ℕ). weight (log_in a.scratch.now n)) e)); few = omega arith }
+    let xs = c.args.log.now in
+    let n = length xs / chunk_size in
+    let e = count_from_yields_List c.filter.result _ c.count-ends.ensures.ran
+    (YieldsList-from_filter _ ends (YieldsList-at c.filter.ensures.source (yields c.chunks_exact.result xs c.chunks_exact.ensures.rest c.chunks_exact.ensures.size)) c.filter.ensures.closure (λ x r q k. search (rules, tests))) in
+    record { bytes = counted xs n _ (omega (arith, weighs n xs)); few = omega (arith, at_most n xs) }

@@ -1,18 +1,13 @@
--- by hand: it stores four bytes: a list of stores.
--- `put_node` meets its contract: its stores, one behind the other, are the record's bytes.
-use native.Mathlib.Omega.{arith}
-use native.Mathlib.Numerals.{towards_suc}
-use lib.ListN.{length-set}
+-- by hand: a part of a buffer is written, which the search does not see as a paste.
+-- `put_node` meets its contract.
+use Rattle.std.proofs.Common.{arith, rules, refl, ◌≡◌, ◌∙◌, [], ◌∷◌}
+use Rattle.std.proofs.lemmas.Slice.{put_mid-paste}
+use Rattle.grammar.specs.Bytes.{low, high}
+use Rattle.nodes.specs.Walk.{tag_of}
 use Rattle.nodes.proofs.put_node.Goals as goal
 
-pub bounds-nodes-b-2 : goal.bounds-nodes-b-2
-bounds-nodes-b-2 c = simp length-set (omega arith)
-
-pub bounds-nodes-b-3 : goal.bounds-nodes-b-3
-bounds-nodes-b-3 c = simp length-set (omega arith)
-
-pub bounds-nodes-b-4 : goal.bounds-nodes-b-4
-bounds-nodes-b-4 c = simp length-set (omega arith)
-
 pub returns : goal.returns
-returns c = simp towards_suc
+returns c =
+    let a = c.args in
+    let bytes : c.copy_from_slice.new.self ≡ tag_of a.tag ∷ a.kind ∷ low a.v ∷ high a.v ∷ [] = c.copy_from_slice.ensures.after ∙ rw c.to_le_bytes.ensures (search rules) in
+    put_mid-paste _ _ a.nodes.now _ _ _ bytes (omega arith) refl

@@ -1,30 +1,27 @@
 -- by hand: a loop over the steps of a walk, whose invariant is its own.
-use Prim.Native.Nat.{ℕ}
-use native.Mathlib.Omega.{arith}
-use mathlib.Core.Path.{refl, ap, ◌∙◌}
+use Rattle.std.proofs.Common.{arith, ℕ, ◌+◌, ◌-◌, ◌/◌, ◌≡◌, ◌∙◌, ap, length}
 use Rattle.grammar.specs.Read.{pad}
+use Rattle.parser.specs.View.{chunk_size}
 use Rattle.node_count.specs.Log.{nodes_in}
 use Rattle.nodes.proofs.Ends.{begins, ended}
 use Rattle.nodes.proofs.write_nodes.Goals as goal
 
-pub loop-w-init : goal.loop-w-init
-loop-w-init c =
-    let k = c.clear in
-    (begins c.args.scratch.now c.args.len c.args.nodes.now k.new.b c.args.count c.requires k.ensures, refl, refl)
+pub loop-at-init : goal.loop-at-init
+loop-at-init c =
+    let a = c.args in
+    rw c.clear.auto.b (begins a.log.now a.nodes.now c.clear.new.b a.count c.requires c.clear.ensures)
 
-pub step-w-requires : goal.step-w-requires
-step-w-requires c =
-    let l = c.loop-w in
-    (record { all = _; walks = l.invariant.0 }, omega arith)
+pub step-walk-requires : goal.step-walk-requires
+step-walk-requires c =
+    let e : c.loop-at.at - 1 + 1 ≡ c.loop-at.at = omega arith in
+    record { all = pad (length c.clear.new.b) (nodes_in c.args.log.now (length c.args.log.now / chunk_size)); walks = rw e c.loop-at.invariant }
 
-pub loop-w-smaller : goal.loop-w-smaller
-loop-w-smaller c = omega (arith, c.step-w.ensures.fewer)
-
-pub loop-w-preserved : goal.loop-w-preserved
-loop-w-preserved c =
-    let l = c.loop-w in
-    (c.step-w.ensures.does _ l.invariant.0, omega (arith, c.step-w.auto.nodes), omega (arith, c.step-w.auto.scratch))
+pub loop-at-preserved : goal.loop-at-preserved
+loop-at-preserved c =
+    let e : c.loop-at.at - 1 + 1 ≡ c.loop-at.at = omega arith in
+    rw c.step-walk.auto.log (c.step-walk.ensures.does _ (rw e c.loop-at.invariant))
 
 pub returns : goal.returns
 returns c =
-    ended c.loop-w.invariant.0 (omega arith) ∙ ap (λ (n : ℕ). pad n (nodes_in c.args.scratch.now c.args.len)) c.clear.auto.b
+    let z : c.loop-at.at ≡ 0 = omega arith in
+    ended (rw z at c.loop-at.invariant) ∙ ap (λ (n : ℕ). pad n (nodes_in c.args.log.now (length c.args.log.now / chunk_size))) c.clear.auto.b

@@ -1,13 +1,17 @@
 -- by hand: a look at the state alone: the laws of `Spells`.
 -- `index` meets its contract: one law for each return.
-use Rattle.parser.proofs.Laws.{spells_off, spells_at, spells_none}
+use borrow.Author.Tests.{ltb-true, ltb-false}
+use lib.Dec.{ltb}
+use Rattle.sml_fixity.specs.Names.{by_test}
+use Rattle.parser.proofs.Laws.{spells_off, spells_none, spells_at}
 use Rattle.parser.proofs.index.Goals as goal
 
-pub returns-then-s-ne0 : goal.returns-then-s-ne0
-returns-then-s-ne0 c = search spells_off
+pub returns-then-is_refused : goal.returns-then-is_refused
+returns-then-is_refused c = spells_off c.if-is_refused.ensures
 
-pub returns-then-s : goal.returns-then-s
-returns-then-s c = search spells_at
-
-pub returns-else-s : goal.returns-else-s
-returns-else-s c = search spells_none
+pub returns : goal.returns
+returns c =
+    let s = c.args.s in
+    by_test (ltb s.at s.count)
+    (λ h. rw (c.then_some.ensures, h) (spells_at c.if-is_refused.ensures (ltb-true s.at s.count h)))
+    (λ h. rw (c.then_some.ensures, h) (spells_none c.if-is_refused.ensures (ltb-false s.at s.count h)))

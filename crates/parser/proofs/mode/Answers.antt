@@ -3,8 +3,8 @@
 use Rattle.parser.proofs.Laws.{mode_off, mode_on}
 use Rattle.parser.proofs.mode.Goals as goal
 
-pub returns-then-s-ne0 : goal.returns-then-s-ne0
-returns-then-s-ne0 c = search mode_off
+pub returns-then-is_refused : goal.returns-then-is_refused
+returns-then-is_refused c = search (mode_off, c.if-is_refused.ensures)
 
 pub returns : goal.returns
-returns c = search mode_on
+returns c = search (mode_on, c.if-is_refused.ensures)

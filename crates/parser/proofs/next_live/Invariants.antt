@@ -8,6 +8,3 @@ use Rattle.parser.proofs.next_live.Given as goal
 
 abbrev pub invariant-loop-i : goal.invariant-loop-i
 invariant-loop-i l = (l.i ≤ l.count) × (l.from ≤ l.i) × ((text : List ℕ) → live text l.toks (l.count - l.i) l.i ≡ live text l.toks (l.count - l.from) l.from)
-
-abbrev pub decreases-loop-i : goal.decreases-loop-i
-decreases-loop-i l = l.count - l.i

@@ -1,35 +1,16 @@
--- by hand: it stores eight bytes: no program, but a list of stores.
--- `put` meets its contract: its eight stores are the record's bytes, one after the other.
+-- by hand: eight bytes that are written at once: the law of `sets`.
+-- `put` meets its contract.
+use Prim.Native.Nat.{◌*◌}
 use native.Mathlib.Omega.{arith}
-use native.Mathlib.Numerals.{towards_suc}
-use lib.ListN.{length-set}
-use Rattle.parser.specs.View.{put_at}
+use mathlib.Core.Path.{◌≡◌, refl, sym, ◌∙◌}
+use Rattle.std.proofs.lemmas.List.Edits.{sets-eq}
+use Rattle.std.proofs.lemmas.Slice.{put_mid-paste}
+use Rattle.parser.specs.View.{bytes_of, put_at}
 use Rattle.parser.proofs.put.Goals as goal
-
-pub bounds-buffer-b-2 : goal.bounds-buffer-b-2
-bounds-buffer-b-2 c = simp length-set (omega arith)
-
-pub bounds-buffer-b-3 : goal.bounds-buffer-b-3
-bounds-buffer-b-3 c = simp length-set (omega arith)
-
-pub bounds-buffer-b-4 : goal.bounds-buffer-b-4
-bounds-buffer-b-4 c = simp length-set (omega arith)
-
-pub bounds-buffer-b-5 : goal.bounds-buffer-b-5
-bounds-buffer-b-5 c = simp length-set (omega arith)
-
-pub bounds-buffer-b-6 : goal.bounds-buffer-b-6
-bounds-buffer-b-6 c = simp length-set (omega arith)
-
-pub bounds-buffer-b-7 : goal.bounds-buffer-b-7
-bounds-buffer-b-7 c = simp length-set (omega arith)
-
-pub bounds-buffer-b-8 : goal.bounds-buffer-b-8
-bounds-buffer-b-8 c = simp length-set (omega arith)
-
-pub shape_of-buffer : goal.shape_of-buffer
-shape_of-buffer c = simp length-set
 
 pub returns : goal.returns
 unfolding put_at
-returns c = simp towards_suc
+returns c =
+    let a = c.args in
+    let e : c.copy_from_slice.new.self ≡ bytes_of a.tag a.kind a.v = c.copy_from_slice.ensures.after ∙ simp c.to_le_bytes.ensures in
+    put_mid-paste (8 * a.i) _ a.buffer.now c.copy_from_slice.new.self (bytes_of a.tag a.kind a.v) 8 e (omega arith) refl ∙ sym (sets-eq (bytes_of a.tag a.kind a.v) a.buffer.now (8 * a.i) (omega arith))

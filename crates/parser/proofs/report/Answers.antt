@@ -1,13 +1,8 @@
--- by hand: it writes the findings: an operation that programs are made of, by the laws of `Tells`.
--- `report` meets its contract: one law for each return.
-use Rattle.parser.proofs.Laws.{tells_off, tells_full, tells_goes}
+-- by hand: the numbers of a finding stand in what is promised.
 use Rattle.parser.proofs.report.Goals as goal
 
-pub returns-then-s-ne0 : goal.returns-then-s-ne0
-returns-then-s-ne0 c = search tells_off
-
-pub returns-then-s : goal.returns-then-s
-returns-then-s c = search tells_full
+pub hold-requires : goal.hold-requires
+hold-requires c = (c.requires.0, c.requires.1, rw c.name.ensures c.requires.2)
 
 pub returns : goal.returns
-returns c = search tells_goes
+returns c = rw (c.code.ensures, c.detail.ensures, c.name.ensures) at c.hold.ensures

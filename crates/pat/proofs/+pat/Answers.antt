@@ -18,9 +18,9 @@ arg_item-refuse-requires t c =
 pub arg_item-returns-then-left-eq0 : goal.arg_item-returns-then-left-eq0
 unfolding util.end_item plan choose chosen hushed
 arg_item-returns-then-left-eq0 t c =
-    let X0 = c.args.text.now in
-    let T0 = c.args.toks.now in
-    let N0 = c.args.env.now in
+    let X0 = c.args.lent.text.now in
+    let T0 = c.args.lent.toks.now in
+    let N0 = c.args.lent.env.now in
     let J0 = c.args.table.now in
     let L0 = c.args.scratch.now in
     let H0 = c.args.finds.now in
@@ -65,9 +65,9 @@ arg_item-close-requires t c =
 pub arg_item-returns-then-at : goal.arg_item-returns-then-at
 unfolding util.end_item plan choose chosen
 arg_item-returns-then-at t c =
-    let X0 = c.args.text.now in
-    let T0 = c.args.toks.now in
-    let N0 = c.args.env.now in
+    let X0 = c.args.lent.text.now in
+    let T0 = c.args.lent.toks.now in
+    let N0 = c.args.lent.env.now in
     let J0 = c.args.table.now in
     let L0 = c.args.scratch.now in
     let H0 = c.args.finds.now in
@@ -94,9 +94,9 @@ arg_item-close-requires-2 t c =
 pub arg_item-returns : goal.arg_item-returns
 unfolding util.end_item plan choose chosen
 arg_item-returns t c =
-    let X0 = c.args.text.now in
-    let T0 = c.args.toks.now in
-    let N0 = c.args.env.now in
+    let X0 = c.args.lent.text.now in
+    let T0 = c.args.lent.toks.now in
+    let N0 = c.args.lent.env.now in
     let J0 = c.args.table.now in
     let L0 = c.args.scratch.now in
     let H0 = c.args.finds.now in
@@ -122,9 +122,9 @@ arg_turn-bump-requires t c =
 pub arg_turn-returns-then-at : goal.arg_turn-returns-then-at
 unfolding util.end_turn plan choose chosen
 arg_turn-returns-then-at t c =
-    let X0 = c.args.text.now in
-    let T0 = c.args.toks.now in
-    let N0 = c.args.env.now in
+    let X0 = c.args.lent.text.now in
+    let T0 = c.args.lent.toks.now in
+    let N0 = c.args.lent.env.now in
     let J0 = c.args.table.now in
     let L0 = c.args.scratch.now in
     let H0 = c.args.finds.now in
@@ -140,46 +140,46 @@ arg_turn-arg_item-item-requires t c =
 
 pub arg_turn-eat-got-requires : goal.arg_turn-eat-got-requires
 arg_turn-eat-got-requires t c =
-    let arg_item = c.in-Missing.ensures in
+    let arg_item = c.in-Err.ensures in
     let arg_item_ok = arg_item.ok in
     (arg_item_ok.reads, arg_item_ok.logs, arg_item_ok.holds, omega arith)
 
-pub arg_turn-state-s2-requires : goal.arg_turn-state-s2-requires
-arg_turn-state-s2-requires t c =
+pub arg_turn-either-s2-requires : goal.arg_turn-either-s2-requires
+arg_turn-either-s2-requires t c =
     tt
 
-pub arg_turn-returns-in-At : goal.arg_turn-returns-in-At
+pub arg_turn-returns-in-Ok : goal.arg_turn-returns-in-Ok
 unfolding util.end_turn plan choose chosen
-arg_turn-returns-in-At t c =
-    let X0 = c.args.text.now in
-    let T0 = c.args.toks.now in
-    let N0 = c.args.env.now in
+arg_turn-returns-in-Ok t c =
+    let X0 = c.args.lent.text.now in
+    let T0 = c.args.lent.toks.now in
+    let N0 = c.args.lent.env.now in
     let J0 = c.args.table.now in
     let L0 = c.args.scratch.now in
     let H0 = c.args.finds.now in
     let S0 = c.args.s in
     let L3 = c.arg_item-item.new.scratch in
     let H3 = c.arg_item-item.new.finds in
-    let S3 = c.in-At.s1 in
-    by_steps {m = (mem X0 T0 N0 J0 L0 H0 S0)} {m' = (mem X0 T0 N0 J0 L3 H3 S3)} (c.requires.0) (λ b. s_kind {a = (mem X0 T0 N0 J0 L0 H0 S0)} {e = (mem X0 T0 N0 J0 L3 H3 S3)} (s_false {a = (mem X0 T0 N0 J0 L0 H0 S0)} {e = (mem X0 T0 N0 J0 L3 H3 S3)} _ _ (kind_off _ _ (mem X0 T0 N0 J0 L0 H0 S0) _ (c.at.ensures) (c.if-at.false)) (s_by {a = (mem X0 T0 N0 J0 L0 H0 S0)} {c = (mem X0 T0 N0 J0 L3 H3 S3)} {e = (mem X0 T0 N0 J0 L3 H3 S3)} _ (runs_in {a = (mem X0 T0 N0 J0 L0 H0 S0)} {c = (mem X0 T0 N0 J0 L3 H3 S3)} (c.in-At.ensures)) s_end)))
+    let S3 = c.in-Ok.s1 in
+    by_steps {m = (mem X0 T0 N0 J0 L0 H0 S0)} {m' = (mem X0 T0 N0 J0 L3 H3 S3)} (c.requires.0) (λ b. s_kind {a = (mem X0 T0 N0 J0 L0 H0 S0)} {e = (mem X0 T0 N0 J0 L3 H3 S3)} (s_false {a = (mem X0 T0 N0 J0 L0 H0 S0)} {e = (mem X0 T0 N0 J0 L3 H3 S3)} _ _ (kind_off _ _ (mem X0 T0 N0 J0 L0 H0 S0) _ (c.at.ensures) (c.if-at.false)) (s_by {a = (mem X0 T0 N0 J0 L0 H0 S0)} {c = (mem X0 T0 N0 J0 L3 H3 S3)} {e = (mem X0 T0 N0 J0 L3 H3 S3)} _ (runs_in {a = (mem X0 T0 N0 J0 L0 H0 S0)} {c = (mem X0 T0 N0 J0 L3 H3 S3)} (c.in-Ok.ensures)) s_end)))
 
-pub arg_turn-returns-in-Missing : goal.arg_turn-returns-in-Missing
+pub arg_turn-returns-in-Err : goal.arg_turn-returns-in-Err
 unfolding util.end_turn plan choose chosen
-arg_turn-returns-in-Missing t c =
-    let X0 = c.args.text.now in
-    let T0 = c.args.toks.now in
-    let N0 = c.args.env.now in
+arg_turn-returns-in-Err t c =
+    let X0 = c.args.lent.text.now in
+    let T0 = c.args.lent.toks.now in
+    let N0 = c.args.lent.env.now in
     let J0 = c.args.table.now in
     let L0 = c.args.scratch.now in
     let H0 = c.args.finds.now in
     let S0 = c.args.s in
     let L3 = c.arg_item-item.new.scratch in
     let H3 = c.arg_item-item.new.finds in
-    let S3 = c.in-Missing.s1 in
+    let S3 = c.in-Err.s1 in
     let L4 = c.eat-got.new.scratch in
     let H4 = c.eat-got.new.finds in
-    let S5 = c.state-s2.result in
-    by_steps {m = (mem X0 T0 N0 J0 L0 H0 S0)} {m' = (mem X0 T0 N0 J0 L4 H4 S5)} (c.requires.0) (λ b. s_kind {a = (mem X0 T0 N0 J0 L0 H0 S0)} {e = (mem X0 T0 N0 J0 L4 H4 S5)} (s_false {a = (mem X0 T0 N0 J0 L0 H0 S0)} {e = (mem X0 T0 N0 J0 L4 H4 S5)} _ _ (kind_off _ _ (mem X0 T0 N0 J0 L0 H0 S0) _ (c.at.ensures) (c.if-at.false)) (s_by {a = (mem X0 T0 N0 J0 L0 H0 S0)} {c = (mem X0 T0 N0 J0 L3 H3 S3)} {e = (mem X0 T0 N0 J0 L4 H4 S5)} _ (runs_in {a = (mem X0 T0 N0 J0 L0 H0 S0)} {c = (mem X0 T0 N0 J0 L3 H3 S3)} (c.in-Missing.ensures)) (s_eats _ _ {x = X0} {t = T0} {n = N0} {j = J0} {l = L3} {h = H3} {l' = L4} {s = S3} {s' = S5} {e = (mem X0 T0 N0 J0 L4 H4 S5)} _ {h' = H4} (eats_settled (c.state-s2.ensures) (c.eat-got.ensures)) s_end))))
+    let S5 = c.either-s2.result in
+    by_steps {m = (mem X0 T0 N0 J0 L0 H0 S0)} {m' = (mem X0 T0 N0 J0 L4 H4 S5)} (c.requires.0) (λ b. s_kind {a = (mem X0 T0 N0 J0 L0 H0 S0)} {e = (mem X0 T0 N0 J0 L4 H4 S5)} (s_false {a = (mem X0 T0 N0 J0 L0 H0 S0)} {e = (mem X0 T0 N0 J0 L4 H4 S5)} _ _ (kind_off _ _ (mem X0 T0 N0 J0 L0 H0 S0) _ (c.at.ensures) (c.if-at.false)) (s_by {a = (mem X0 T0 N0 J0 L0 H0 S0)} {c = (mem X0 T0 N0 J0 L3 H3 S3)} {e = (mem X0 T0 N0 J0 L4 H4 S5)} _ (runs_in {a = (mem X0 T0 N0 J0 L0 H0 S0)} {c = (mem X0 T0 N0 J0 L3 H3 S3)} (c.in-Err.ensures)) (s_eats _ _ {x = X0} {t = T0} {n = N0} {j = J0} {l = L3} {h = H3} {l' = L4} {s = S3} {s' = S5} {e = (mem X0 T0 N0 J0 L4 H4 S5)} _ {h' = H4} (eats_settled (c.either-s2.ensures) (c.eat-got.ensures)) s_end))))
 
 pub args-loop-s2-init : goal.args-loop-s2-init
 args-loop-s2-init t c =
@@ -194,19 +194,19 @@ args-arg_turn-turn-requires t c =
 
 pub args-loop-s2-smaller : goal.args-loop-s2-smaller
 args-loop-s2-smaller t c =
-    let arg_turn = c.in-At.ensures in
+    let arg_turn = c.in-Ok.ensures in
     loop_falls (end_turn_advances true _ _ _ _ _ _) (runs_in {b = 0} arg_turn)
 
 pub args-loop-s2-preserved : goal.args-loop-s2-preserved
 args-loop-s2-preserved t c =
     let inv = c.loop-s2.invariant in
-    let arg_turn = c.in-At.ensures in
+    let arg_turn = c.in-Ok.ensures in
     loop_goes (end_turn_advances true _ _ _ _ _ _) inv (runs_in arg_turn)
 
-pub args-returns-in-Missing : goal.args-returns-in-Missing
-args-returns-in-Missing t c =
+pub args-returns-in-Err : goal.args-returns-in-Err
+args-returns-in-Err t c =
     let inv = c.loop-s2.invariant in
-    let arg_turn = c.in-Missing.ensures in
+    let arg_turn = c.in-Err.ensures in
     loop_ends (end_turn_advances true _ _ _ _ _ _) inv (runs_in arg_turn)
 
 pub as_pat_tl-at-requires : goal.as_pat_tl-at-requires
@@ -221,9 +221,9 @@ as_pat_tl-refuse-requires t c =
 pub as_pat_tl-returns-then-left-eq0 : goal.as_pat_tl-returns-then-left-eq0
 unfolding pat.as_pat_tl plan choose chosen hushed
 as_pat_tl-returns-then-left-eq0 t c =
-    let X0 = c.args.text.now in
-    let T0 = c.args.toks.now in
-    let N0 = c.args.env.now in
+    let X0 = c.args.lent.text.now in
+    let T0 = c.args.lent.toks.now in
+    let N0 = c.args.lent.env.now in
     let J0 = c.args.table.now in
     let L0 = c.args.scratch.now in
     let H0 = c.args.finds.now in
@@ -263,9 +263,9 @@ as_pat_tl-close-requires t c =
 pub as_pat_tl-returns-then-at : goal.as_pat_tl-returns-then-at
 unfolding pat.as_pat_tl plan choose chosen
 as_pat_tl-returns-then-at t c =
-    let X0 = c.args.text.now in
-    let T0 = c.args.toks.now in
-    let N0 = c.args.env.now in
+    let X0 = c.args.lent.text.now in
+    let T0 = c.args.lent.toks.now in
+    let N0 = c.args.lent.env.now in
     let J0 = c.args.table.now in
     let L0 = c.args.scratch.now in
     let H0 = c.args.finds.now in
@@ -283,9 +283,9 @@ as_pat_tl-returns-then-at t c =
 pub as_pat_tl-returns : goal.as_pat_tl-returns
 unfolding pat.as_pat_tl plan choose chosen
 as_pat_tl-returns t c =
-    let X0 = c.args.text.now in
-    let T0 = c.args.toks.now in
-    let N0 = c.args.env.now in
+    let X0 = c.args.lent.text.now in
+    let T0 = c.args.lent.toks.now in
+    let N0 = c.args.lent.env.now in
     let J0 = c.args.table.now in
     let L0 = c.args.scratch.now in
     let H0 = c.args.finds.now in
@@ -299,9 +299,9 @@ as_step-is_infix-requires t c =
 pub as_step-returns-then-is_infix : goal.as_step-returns-then-is_infix
 unfolding pat.as_step plan choose chosen
 as_step-returns-then-is_infix t c =
-    let X0 = c.args.text.now in
-    let T0 = c.args.toks.now in
-    let N0 = c.args.env.now in
+    let X0 = c.args.lent.text.now in
+    let T0 = c.args.lent.toks.now in
+    let N0 = c.args.lent.env.now in
     let J0 = c.args.table.now in
     let L0 = c.args.scratch.now in
     let H0 = c.args.finds.now in
@@ -315,9 +315,9 @@ as_step-refuse-requires t c =
 pub as_step-returns-then-left-eq0 : goal.as_step-returns-then-left-eq0
 unfolding pat.as_step plan choose chosen hushed
 as_step-returns-then-left-eq0 t c =
-    let X0 = c.args.text.now in
-    let T0 = c.args.toks.now in
-    let N0 = c.args.env.now in
+    let X0 = c.args.lent.text.now in
+    let T0 = c.args.lent.toks.now in
+    let N0 = c.args.lent.env.now in
     let J0 = c.args.table.now in
     let L0 = c.args.scratch.now in
     let H0 = c.args.finds.now in
@@ -339,31 +339,31 @@ as_step-as_pat_tl-got-requires t c =
 pub as_step-close-requires : goal.as_step-close-requires
 as_step-close-requires t c =
     let pre1 = c.requires.1 in
-    let as_pat_tl = c.in-At.ensures in
+    let as_pat_tl = c.in-Ok.ensures in
     let as_pat_tl_ok = as_pat_tl.ok in
     (as_pat_tl_ok.logs, pre1)
 
 pub as_step-report-s3-requires : goal.as_step-report-s3-requires
 as_step-report-s3-requires t c =
-    let as_pat_tl = c.in-Missing.ensures in
+    let as_pat_tl = c.in-Err.ensures in
     let as_pat_tl_ok = as_pat_tl.ok in
     (as_pat_tl_ok.holds, (let few = as_pat_tl_ok.reads.few in let inside = as_pat_tl_ok.reads.inside in omega arith), omega arith)
 
-pub as_step-close-requires-in-Missing : goal.as_step-close-requires-in-Missing
-as_step-close-requires-in-Missing t c =
+pub as_step-close-requires-in-Err : goal.as_step-close-requires-in-Err
+as_step-close-requires-in-Err t c =
     let pre1 = c.requires.1 in
-    let as_pat_tl = c.in-Missing.ensures in
+    let as_pat_tl = c.in-Err.ensures in
     let as_pat_tl_ok = as_pat_tl.ok in
     let report = c.report-s3.ensures in
     let report_ok = ok_tells report as_pat_tl_ok in
     (report_ok.logs, pre1)
 
-pub as_step-returns-in-At : goal.as_step-returns-in-At
+pub as_step-returns-in-Ok : goal.as_step-returns-in-Ok
 unfolding pat.as_step plan choose chosen
-as_step-returns-in-At t c =
-    let X0 = c.args.text.now in
-    let T0 = c.args.toks.now in
-    let N0 = c.args.env.now in
+as_step-returns-in-Ok t c =
+    let X0 = c.args.lent.text.now in
+    let T0 = c.args.lent.toks.now in
+    let N0 = c.args.lent.env.now in
     let J0 = c.args.table.now in
     let L0 = c.args.scratch.now in
     let H0 = c.args.finds.now in
@@ -371,17 +371,17 @@ as_step-returns-in-At t c =
     let S4 = c.mark-s1.result in
     let L5 = c.as_pat_tl-got.new.scratch in
     let H5 = c.as_pat_tl-got.new.finds in
-    let S5 = c.in-At.s2 in
+    let S5 = c.in-Ok.s2 in
     let L6 = c.close.new.scratch in
     let S6 = c.close.result in
-    in_steps {m = (mem X0 T0 N0 J0 L0 H0 S0)} {m' = (mem X0 T0 N0 J0 L6 H5 S6)} (c.requires.0) (s_false {a = (mem X0 T0 N0 J0 L0 H0 S0)} {e = (mem X0 T0 N0 J0 L6 H5 S6)} _ _ (test_false (c.is_infix.ensures) (c.if-is_infix.false)) (s_mark {e = (mem X0 T0 N0 J0 L6 H5 S6)} {x = X0} {t = T0} {n = N0} {j = J0} {l = L0} {h = H0} {s = S0} {s' = S4} (c.if-left-eq0.false) (c.mark-s1.ensures) (s_by {a = (mem X0 T0 N0 J0 L0 H0 S4)} {c = (mem X0 T0 N0 J0 L5 H5 S5)} {e = (mem X0 T0 N0 J0 L6 H5 S6)} _ (runs_in {a = (mem X0 T0 N0 J0 L0 H0 S4)} {c = (mem X0 T0 N0 J0 L5 H5 S5)} (c.in-At.ensures)) (s_close {e = (mem X0 T0 N0 J0 L6 H5 S6)} {x = X0} {t = T0} {n = N0} {j = J0} {l = L5} {h = H5} {s = S5} {s' = S6} {l' = L6} (c.close.ensures) s_end))))
+    in_steps {m = (mem X0 T0 N0 J0 L0 H0 S0)} {m' = (mem X0 T0 N0 J0 L6 H5 S6)} (c.requires.0) (s_false {a = (mem X0 T0 N0 J0 L0 H0 S0)} {e = (mem X0 T0 N0 J0 L6 H5 S6)} _ _ (test_false (c.is_infix.ensures) (c.if-is_infix.false)) (s_mark {e = (mem X0 T0 N0 J0 L6 H5 S6)} {x = X0} {t = T0} {n = N0} {j = J0} {l = L0} {h = H0} {s = S0} {s' = S4} (c.if-left-eq0.false) (c.mark-s1.ensures) (s_by {a = (mem X0 T0 N0 J0 L0 H0 S4)} {c = (mem X0 T0 N0 J0 L5 H5 S5)} {e = (mem X0 T0 N0 J0 L6 H5 S6)} _ (runs_in {a = (mem X0 T0 N0 J0 L0 H0 S4)} {c = (mem X0 T0 N0 J0 L5 H5 S5)} (c.in-Ok.ensures)) (s_close {e = (mem X0 T0 N0 J0 L6 H5 S6)} {x = X0} {t = T0} {n = N0} {j = J0} {l = L5} {h = H5} {s = S5} {s' = S6} {l' = L6} (c.close.ensures) s_end))))
 
-pub as_step-returns-in-Missing : goal.as_step-returns-in-Missing
+pub as_step-returns-in-Err : goal.as_step-returns-in-Err
 unfolding pat.as_step plan choose chosen
-as_step-returns-in-Missing t c =
-    let X0 = c.args.text.now in
-    let T0 = c.args.toks.now in
-    let N0 = c.args.env.now in
+as_step-returns-in-Err t c =
+    let X0 = c.args.lent.text.now in
+    let T0 = c.args.lent.toks.now in
+    let N0 = c.args.lent.env.now in
     let J0 = c.args.table.now in
     let L0 = c.args.scratch.now in
     let H0 = c.args.finds.now in
@@ -389,12 +389,12 @@ as_step-returns-in-Missing t c =
     let S4 = c.mark-s1.result in
     let L5 = c.as_pat_tl-got.new.scratch in
     let H5 = c.as_pat_tl-got.new.finds in
-    let S5 = c.in-Missing.s2 in
+    let S5 = c.in-Err.s2 in
     let H6 = c.report-s3.new.finds in
     let S6 = c.report-s3.result in
-    let L7 = c.close-in-Missing.new.scratch in
-    let S7 = c.close-in-Missing.result in
-    in_steps {m = (mem X0 T0 N0 J0 L0 H0 S0)} {m' = (mem X0 T0 N0 J0 L7 H6 S7)} (c.requires.0) (s_false {a = (mem X0 T0 N0 J0 L0 H0 S0)} {e = (mem X0 T0 N0 J0 L7 H6 S7)} _ _ (test_false (c.is_infix.ensures) (c.if-is_infix.false)) (s_mark {e = (mem X0 T0 N0 J0 L7 H6 S7)} {x = X0} {t = T0} {n = N0} {j = J0} {l = L0} {h = H0} {s = S0} {s' = S4} (c.if-left-eq0.false) (c.mark-s1.ensures) (s_by {a = (mem X0 T0 N0 J0 L0 H0 S4)} {c = (mem X0 T0 N0 J0 L5 H5 S5)} {e = (mem X0 T0 N0 J0 L7 H6 S7)} _ (runs_in {a = (mem X0 T0 N0 J0 L0 H0 S4)} {c = (mem X0 T0 N0 J0 L5 H5 S5)} (c.in-Missing.ensures)) (s_report {e = (mem X0 T0 N0 J0 L7 H6 S7)} {x = X0} {t = T0} {n = N0} {j = J0} {l = L5} {h = H5} {s = S5} {s' = S6} {h' = H6} (c.report-s3.ensures) (s_close {e = (mem X0 T0 N0 J0 L7 H6 S7)} {x = X0} {t = T0} {n = N0} {j = J0} {l = L5} {h = H6} {s = S6} {s' = S7} {l' = L7} (c.close-in-Missing.ensures) s_end)))))
+    let L7 = c.close-in-Err.new.scratch in
+    let S7 = c.close-in-Err.result in
+    in_steps {m = (mem X0 T0 N0 J0 L0 H0 S0)} {m' = (mem X0 T0 N0 J0 L7 H6 S7)} (c.requires.0) (s_false {a = (mem X0 T0 N0 J0 L0 H0 S0)} {e = (mem X0 T0 N0 J0 L7 H6 S7)} _ _ (test_false (c.is_infix.ensures) (c.if-is_infix.false)) (s_mark {e = (mem X0 T0 N0 J0 L7 H6 S7)} {x = X0} {t = T0} {n = N0} {j = J0} {l = L0} {h = H0} {s = S0} {s' = S4} (c.if-left-eq0.false) (c.mark-s1.ensures) (s_by {a = (mem X0 T0 N0 J0 L0 H0 S4)} {c = (mem X0 T0 N0 J0 L5 H5 S5)} {e = (mem X0 T0 N0 J0 L7 H6 S7)} _ (runs_in {a = (mem X0 T0 N0 J0 L0 H0 S4)} {c = (mem X0 T0 N0 J0 L5 H5 S5)} (c.in-Err.ensures)) (s_report {e = (mem X0 T0 N0 J0 L7 H6 S7)} {x = X0} {t = T0} {n = N0} {j = J0} {l = L5} {h = H5} {s = S5} {s' = S6} {h' = H6} (c.report-s3.ensures) (s_close {e = (mem X0 T0 N0 J0 L7 H6 S7)} {x = X0} {t = T0} {n = N0} {j = J0} {l = L5} {h = H6} {s = S6} {s' = S7} {l' = L7} (c.close-in-Err.ensures) s_end)))))
 
 pub at_head-s_con-requires : goal.at_head-s_con-requires
 at_head-s_con-requires t c =
@@ -416,9 +416,9 @@ at_head-close-requires t c =
 pub at_head-returns-then-s_con : goal.at_head-returns-then-s_con
 unfolding pat.at_pat_head plan choose chosen
 at_head-returns-then-s_con t c =
-    let X0 = c.args.text.now in
-    let T0 = c.args.toks.now in
-    let N0 = c.args.env.now in
+    let X0 = c.args.lent.text.now in
+    let T0 = c.args.lent.toks.now in
+    let N0 = c.args.lent.env.now in
     let J0 = c.args.table.now in
     let L0 = c.args.scratch.now in
     let H0 = c.args.finds.now in
@@ -445,9 +445,9 @@ at_head-close-requires-then-k-eq-UNDERSCORE t c =
 pub at_head-returns-then-k-eq-UNDERSCORE : goal.at_head-returns-then-k-eq-UNDERSCORE
 unfolding pat.at_pat_head plan choose chosen
 at_head-returns-then-k-eq-UNDERSCORE t c =
-    let X0 = c.args.text.now in
-    let T0 = c.args.toks.now in
-    let N0 = c.args.env.now in
+    let X0 = c.args.lent.text.now in
+    let T0 = c.args.lent.toks.now in
+    let N0 = c.args.lent.env.now in
     let J0 = c.args.table.now in
     let L0 = c.args.scratch.now in
     let H0 = c.args.finds.now in
@@ -463,8 +463,8 @@ at_head-path_infix-got-requires t c =
     let pre0 = c.requires.0 in
     pre0
 
-pub at_head-state-s1-requires : goal.at_head-state-s1-requires
-at_head-state-s1-requires t c =
+pub at_head-either-s1-requires : goal.at_head-either-s1-requires
+at_head-either-s1-requires t c =
     tt
 
 pub at_head-close-requires-then-k-eq-OP_KW : goal.at_head-close-requires-then-k-eq-OP_KW
@@ -472,16 +472,16 @@ at_head-close-requires-then-k-eq-OP_KW t c =
     let pre1 = c.requires.1 in
     let path_infix = c.path_infix-got.ensures in
     let path_infix_ok = path_infix.ok in
-    let state = c.state-s1.ensures in
-    let state_ok = ok_state state path_infix_ok in
-    (state_ok.logs, pre1)
+    let either = c.either-s1.ensures in
+    let either_ok = ok_state either path_infix_ok in
+    (either_ok.logs, pre1)
 
 pub at_head-returns-then-k-eq-OP_KW : goal.at_head-returns-then-k-eq-OP_KW
 unfolding pat.at_pat_head plan choose chosen
 at_head-returns-then-k-eq-OP_KW t c =
-    let X0 = c.args.text.now in
-    let T0 = c.args.toks.now in
-    let N0 = c.args.env.now in
+    let X0 = c.args.lent.text.now in
+    let T0 = c.args.lent.toks.now in
+    let N0 = c.args.lent.env.now in
     let J0 = c.args.table.now in
     let L0 = c.args.scratch.now in
     let H0 = c.args.finds.now in
@@ -489,10 +489,10 @@ at_head-returns-then-k-eq-OP_KW t c =
     let L5 = c.path_infix-got.new.scratch in
     let H5 = c.path_infix-got.new.finds in
     let S5 = out_state c.path_infix-got.result in
-    let S6 = c.state-s1.result in
+    let S6 = c.either-s1.result in
     let L7 = c.close-then-k-eq-OP_KW.new.scratch in
     let S7 = c.close-then-k-eq-OP_KW.result in
-    in_steps {m = (mem X0 T0 N0 J0 L0 H0 S0)} {m' = (mem X0 T0 N0 J0 L7 H5 S7)} (c.requires.0) (s_false {a = (mem X0 T0 N0 J0 L0 H0 S0)} {e = (mem X0 T0 N0 J0 L7 H5 S7)} _ _ (test_false (c.s_con.ensures) (c.if-s_con.false)) (s_false {a = (mem X0 T0 N0 J0 L0 H0 S0)} {e = (mem X0 T0 N0 J0 L7 H5 S7)} _ _ (kind_not (c.if-k-eq-UNDERSCORE.false)) (s_true {a = (mem X0 T0 N0 J0 L0 H0 S0)} {e = (mem X0 T0 N0 J0 L7 H5 S7)} _ _ (kind_is (c.if-k-eq-OP_KW.true)) (s_by {a = (mem X0 T0 N0 J0 L0 H0 S0)} {c = (mem X0 T0 N0 J0 L5 H5 S6)} {e = (mem X0 T0 N0 J0 L7 H5 S7)} _ (settled (c.state-s1.ensures) (runs_in {a = (mem X0 T0 N0 J0 L0 H0 S0)} {c = (mem X0 T0 N0 J0 L5 H5 S5)} (c.path_infix-got.ensures))) (s_close {e = (mem X0 T0 N0 J0 L7 H5 S7)} {x = X0} {t = T0} {n = N0} {j = J0} {l = L5} {h = H5} {s = S6} {s' = S7} {l' = L7} (c.close-then-k-eq-OP_KW.ensures) s_end)))))
+    in_steps {m = (mem X0 T0 N0 J0 L0 H0 S0)} {m' = (mem X0 T0 N0 J0 L7 H5 S7)} (c.requires.0) (s_false {a = (mem X0 T0 N0 J0 L0 H0 S0)} {e = (mem X0 T0 N0 J0 L7 H5 S7)} _ _ (test_false (c.s_con.ensures) (c.if-s_con.false)) (s_false {a = (mem X0 T0 N0 J0 L0 H0 S0)} {e = (mem X0 T0 N0 J0 L7 H5 S7)} _ _ (kind_not (c.if-k-eq-UNDERSCORE.false)) (s_true {a = (mem X0 T0 N0 J0 L0 H0 S0)} {e = (mem X0 T0 N0 J0 L7 H5 S7)} _ _ (kind_is (c.if-k-eq-OP_KW.true)) (s_by {a = (mem X0 T0 N0 J0 L0 H0 S0)} {c = (mem X0 T0 N0 J0 L5 H5 S6)} {e = (mem X0 T0 N0 J0 L7 H5 S7)} _ (settled (c.either-s1.ensures) (runs_in {a = (mem X0 T0 N0 J0 L0 H0 S0)} {c = (mem X0 T0 N0 J0 L5 H5 S5)} (c.path_infix-got.ensures))) (s_close {e = (mem X0 T0 N0 J0 L7 H5 S7)} {x = X0} {t = T0} {n = N0} {j = J0} {l = L5} {h = H5} {s = S6} {s' = S7} {l' = L7} (c.close-then-k-eq-OP_KW.ensures) s_end)))))
 
 pub at_head-name_star-requires : goal.at_head-name_star-requires
 at_head-name_star-requires t c =
@@ -503,8 +503,8 @@ at_head-con_path-got-requires t c =
     let pre0 = c.requires.0 in
     pre0
 
-pub at_head-state-s1-requires-then-name_star : goal.at_head-state-s1-requires-then-name_star
-at_head-state-s1-requires-then-name_star t c =
+pub at_head-either-s1-requires-then-name_star : goal.at_head-either-s1-requires-then-name_star
+at_head-either-s1-requires-then-name_star t c =
     tt
 
 pub at_head-close-requires-then-name_star : goal.at_head-close-requires-then-name_star
@@ -512,16 +512,16 @@ at_head-close-requires-then-name_star t c =
     let pre1 = c.requires.1 in
     let con_path = c.con_path-got.ensures in
     let con_path_ok = con_path.ok in
-    let state2 = c.state-s1-then-name_star.ensures in
-    let state2_ok = ok_state state2 con_path_ok in
-    (state2_ok.logs, pre1)
+    let either2 = c.either-s1-then-name_star.ensures in
+    let either2_ok = ok_state either2 con_path_ok in
+    (either2_ok.logs, pre1)
 
 pub at_head-returns-then-name_star : goal.at_head-returns-then-name_star
 unfolding pat.at_pat_head plan choose chosen
 at_head-returns-then-name_star t c =
-    let X0 = c.args.text.now in
-    let T0 = c.args.toks.now in
-    let N0 = c.args.env.now in
+    let X0 = c.args.lent.text.now in
+    let T0 = c.args.lent.toks.now in
+    let N0 = c.args.lent.env.now in
     let J0 = c.args.table.now in
     let L0 = c.args.scratch.now in
     let H0 = c.args.finds.now in
@@ -529,10 +529,10 @@ at_head-returns-then-name_star t c =
     let L7 = c.con_path-got.new.scratch in
     let H7 = c.con_path-got.new.finds in
     let S7 = out_state c.con_path-got.result in
-    let S8 = c.state-s1-then-name_star.result in
+    let S8 = c.either-s1-then-name_star.result in
     let L9 = c.close-then-name_star.new.scratch in
     let S9 = c.close-then-name_star.result in
-    in_steps {m = (mem X0 T0 N0 J0 L0 H0 S0)} {m' = (mem X0 T0 N0 J0 L9 H7 S9)} (c.requires.0) (s_false {a = (mem X0 T0 N0 J0 L0 H0 S0)} {e = (mem X0 T0 N0 J0 L9 H7 S9)} _ _ (test_false (c.s_con.ensures) (c.if-s_con.false)) (s_false {a = (mem X0 T0 N0 J0 L0 H0 S0)} {e = (mem X0 T0 N0 J0 L9 H7 S9)} _ _ (kind_not (c.if-k-eq-UNDERSCORE.false)) (s_false {a = (mem X0 T0 N0 J0 L0 H0 S0)} {e = (mem X0 T0 N0 J0 L9 H7 S9)} _ _ (kind_not (c.if-k-eq-OP_KW.false)) (s_true {a = (mem X0 T0 N0 J0 L0 H0 S0)} {e = (mem X0 T0 N0 J0 L9 H7 S9)} _ _ (test_true (c.name_star.ensures) (c.if-name_star.true)) (s_by {a = (mem X0 T0 N0 J0 L0 H0 S0)} {c = (mem X0 T0 N0 J0 L7 H7 S8)} {e = (mem X0 T0 N0 J0 L9 H7 S9)} _ (settled (c.state-s1-then-name_star.ensures) (runs_in {a = (mem X0 T0 N0 J0 L0 H0 S0)} {c = (mem X0 T0 N0 J0 L7 H7 S7)} (c.con_path-got.ensures))) (s_close {e = (mem X0 T0 N0 J0 L9 H7 S9)} {x = X0} {t = T0} {n = N0} {j = J0} {l = L7} {h = H7} {s = S8} {s' = S9} {l' = L9} (c.close-then-name_star.ensures) s_end))))))
+    in_steps {m = (mem X0 T0 N0 J0 L0 H0 S0)} {m' = (mem X0 T0 N0 J0 L9 H7 S9)} (c.requires.0) (s_false {a = (mem X0 T0 N0 J0 L0 H0 S0)} {e = (mem X0 T0 N0 J0 L9 H7 S9)} _ _ (test_false (c.s_con.ensures) (c.if-s_con.false)) (s_false {a = (mem X0 T0 N0 J0 L0 H0 S0)} {e = (mem X0 T0 N0 J0 L9 H7 S9)} _ _ (kind_not (c.if-k-eq-UNDERSCORE.false)) (s_false {a = (mem X0 T0 N0 J0 L0 H0 S0)} {e = (mem X0 T0 N0 J0 L9 H7 S9)} _ _ (kind_not (c.if-k-eq-OP_KW.false)) (s_true {a = (mem X0 T0 N0 J0 L0 H0 S0)} {e = (mem X0 T0 N0 J0 L9 H7 S9)} _ _ (test_true (c.name_star.ensures) (c.if-name_star.true)) (s_by {a = (mem X0 T0 N0 J0 L0 H0 S0)} {c = (mem X0 T0 N0 J0 L7 H7 S8)} {e = (mem X0 T0 N0 J0 L9 H7 S9)} _ (settled (c.either-s1-then-name_star.ensures) (runs_in {a = (mem X0 T0 N0 J0 L0 H0 S0)} {c = (mem X0 T0 N0 J0 L7 H7 S7)} (c.con_path-got.ensures))) (s_close {e = (mem X0 T0 N0 J0 L9 H7 S9)} {x = X0} {t = T0} {n = N0} {j = J0} {l = L7} {h = H7} {s = S8} {s' = S9} {l' = L9} (c.close-then-name_star.ensures) s_end))))))
 
 pub at_head-rest-requires : goal.at_head-rest-requires
 at_head-rest-requires t c =
@@ -543,9 +543,9 @@ at_head-rest-requires t c =
 pub at_head-returns : goal.at_head-returns
 unfolding pat.at_pat_head plan choose chosen
 at_head-returns t c =
-    let X0 = c.args.text.now in
-    let T0 = c.args.toks.now in
-    let N0 = c.args.env.now in
+    let X0 = c.args.lent.text.now in
+    let T0 = c.args.lent.toks.now in
+    let N0 = c.args.lent.env.now in
     let J0 = c.args.table.now in
     let L0 = c.args.scratch.now in
     let H0 = c.args.finds.now in
@@ -562,41 +562,41 @@ at_must-at_pat-got-requires t c =
 
 pub at_must-report-requires : goal.at_must-report-requires
 at_must-report-requires t c =
-    let at_pat = c.in-Missing.ensures in
+    let at_pat = c.in-Err.ensures in
     let at_pat_ok = (at_pat true).ok in
     (at_pat_ok.holds, (let few = at_pat_ok.reads.few in let inside = at_pat_ok.reads.inside in omega arith), omega arith)
 
-pub at_must-returns-in-At : goal.at_must-returns-in-At
+pub at_must-returns-in-Ok : goal.at_must-returns-in-Ok
 unfolding pat.at_pat_must plan choose chosen
-at_must-returns-in-At t c =
-    let X0 = c.args.text.now in
-    let T0 = c.args.toks.now in
-    let N0 = c.args.env.now in
+at_must-returns-in-Ok t c =
+    let X0 = c.args.lent.text.now in
+    let T0 = c.args.lent.toks.now in
+    let N0 = c.args.lent.env.now in
     let J0 = c.args.table.now in
     let L0 = c.args.scratch.now in
     let H0 = c.args.finds.now in
     let S0 = c.args.s in
     let L1 = c.at_pat-got.new.scratch in
     let H1 = c.at_pat-got.new.finds in
-    let S1 = c.in-At.s1 in
-    by_steps {m = (mem X0 T0 N0 J0 L0 H0 S0)} {m' = (mem X0 T0 N0 J0 L1 H1 S1)} (c.requires) (λ b. s_by {a = (mem X0 T0 N0 J0 L0 H0 S0)} {c = (mem X0 T0 N0 J0 L1 H1 S1)} {e = (mem X0 T0 N0 J0 L1 H1 S1)} _ (runs_in {a = (mem X0 T0 N0 J0 L0 H0 S0)} {c = (mem X0 T0 N0 J0 L1 H1 S1)} ((c.in-At.ensures) _)) s_end)
+    let S1 = c.in-Ok.s1 in
+    by_steps {m = (mem X0 T0 N0 J0 L0 H0 S0)} {m' = (mem X0 T0 N0 J0 L1 H1 S1)} (c.requires) (λ b. s_by {a = (mem X0 T0 N0 J0 L0 H0 S0)} {c = (mem X0 T0 N0 J0 L1 H1 S1)} {e = (mem X0 T0 N0 J0 L1 H1 S1)} _ (runs_in {a = (mem X0 T0 N0 J0 L0 H0 S0)} {c = (mem X0 T0 N0 J0 L1 H1 S1)} ((c.in-Ok.ensures) _)) s_end)
 
-pub at_must-returns-in-Missing : goal.at_must-returns-in-Missing
+pub at_must-returns-in-Err : goal.at_must-returns-in-Err
 unfolding pat.at_pat_must plan choose chosen
-at_must-returns-in-Missing t c =
-    let X0 = c.args.text.now in
-    let T0 = c.args.toks.now in
-    let N0 = c.args.env.now in
+at_must-returns-in-Err t c =
+    let X0 = c.args.lent.text.now in
+    let T0 = c.args.lent.toks.now in
+    let N0 = c.args.lent.env.now in
     let J0 = c.args.table.now in
     let L0 = c.args.scratch.now in
     let H0 = c.args.finds.now in
     let S0 = c.args.s in
     let L1 = c.at_pat-got.new.scratch in
     let H1 = c.at_pat-got.new.finds in
-    let S1 = c.in-Missing.s1 in
+    let S1 = c.in-Err.s1 in
     let H2 = c.report.new.finds in
     let S2 = c.report.result in
-    by_steps {m = (mem X0 T0 N0 J0 L0 H0 S0)} {m' = (mem X0 T0 N0 J0 L1 H2 S2)} (c.requires) (λ b. s_by {a = (mem X0 T0 N0 J0 L0 H0 S0)} {c = (mem X0 T0 N0 J0 L1 H1 S1)} {e = (mem X0 T0 N0 J0 L1 H2 S2)} _ (runs_in {a = (mem X0 T0 N0 J0 L0 H0 S0)} {c = (mem X0 T0 N0 J0 L1 H1 S1)} ((c.in-Missing.ensures) _)) (s_report {e = (mem X0 T0 N0 J0 L1 H2 S2)} {x = X0} {t = T0} {n = N0} {j = J0} {l = L1} {h = H1} {s = S1} {s' = S2} {h' = H2} (c.report.ensures) s_end))
+    by_steps {m = (mem X0 T0 N0 J0 L0 H0 S0)} {m' = (mem X0 T0 N0 J0 L1 H2 S2)} (c.requires) (λ b. s_by {a = (mem X0 T0 N0 J0 L0 H0 S0)} {c = (mem X0 T0 N0 J0 L1 H1 S1)} {e = (mem X0 T0 N0 J0 L1 H2 S2)} _ (runs_in {a = (mem X0 T0 N0 J0 L0 H0 S0)} {c = (mem X0 T0 N0 J0 L1 H1 S1)} ((c.in-Err.ensures) _)) (s_report {e = (mem X0 T0 N0 J0 L1 H2 S2)} {x = X0} {t = T0} {n = N0} {j = J0} {l = L1} {h = H1} {s = S1} {s' = S2} {h' = H2} (c.report.ensures) s_end))
 
 pub at_pat-peek-requires : goal.at_pat-peek-requires
 at_pat-peek-requires t c =
@@ -618,7 +618,7 @@ pub at_pat-returns-then-left-eq0 : goal.at_pat-returns-then-left-eq0
 unfolding pat.at_pat plan choose chosen hushed
 at_pat-returns-then-left-eq0 t c =
     let pre0 = c.requires in
-    let peek = c.in-Kind.ensures in
+    let peek = c.in-Some.ensures in
     let if1 = c.if-left-eq0.true in
     let refuse = c.refuse.ensures in
     λ g. by_steps pre0 (λ b. s_look peek (s_shut if1 refuse (λ k l. refl)))
@@ -638,7 +638,7 @@ pub at_pat-returns : goal.at_pat-returns
 unfolding pat.at_pat plan choose chosen
 at_pat-returns t c =
     let pre0 = c.requires in
-    let peek = c.in-Kind.ensures in
+    let peek = c.in-Some.ensures in
     let if1 = c.if-left-eq0.false in
     let mark = c.mark-s1.ensures in
     let at_head = c.at_head.ensures in
@@ -665,9 +665,9 @@ at_round-close-requires t c =
 pub at_round-returns-then-at : goal.at_round-returns-then-at
 unfolding pat.at_pat_l_round util.end_sep plan choose chosen
 at_round-returns-then-at t c =
-    let X0 = c.args.text.now in
-    let T0 = c.args.toks.now in
-    let N0 = c.args.env.now in
+    let X0 = c.args.lent.text.now in
+    let T0 = c.args.lent.toks.now in
+    let N0 = c.args.lent.env.now in
     let J0 = c.args.table.now in
     let L0 = c.args.scratch.now in
     let H0 = c.args.finds.now in
@@ -685,12 +685,12 @@ at_round-pat_arg-first-requires t c =
 
 pub at_round-args-s2-requires : goal.at_round-args-s2-requires
 at_round-args-s2-requires t c =
-    let pat_arg = c.in-Missing.ensures in
+    let pat_arg = c.in-Err.ensures in
     let pat_arg_ok = pat_arg.ok in
     (omega arith, (pat_arg_ok, omega arith))
 
-pub at_round-close-requires-in-Missing : goal.at_round-close-requires-in-Missing
-at_round-close-requires-in-Missing t c =
+pub at_round-close-requires-in-Err : goal.at_round-close-requires-in-Err
+at_round-close-requires-in-Err t c =
     let pre1 = c.requires.1 in
     let args2 = c.args-s2.ensures in
     let args2_ok = args2.ok in
@@ -698,57 +698,57 @@ at_round-close-requires-in-Missing t c =
 
 pub at_round-bump-s2-requires : goal.at_round-bump-s2-requires
 at_round-bump-s2-requires t c =
-    let pat_arg = c.in-At.ensures in
+    let pat_arg = c.in-Ok.ensures in
     let pat_arg_ok = pat_arg.ok in
     (pat_arg_ok.reads, pat_arg_ok.logs)
 
-pub at_round-close-requires-in-At : goal.at_round-close-requires-in-At
-at_round-close-requires-in-At t c =
+pub at_round-close-requires-in-Ok : goal.at_round-close-requires-in-Ok
+at_round-close-requires-in-Ok t c =
     let pre1 = c.requires.1 in
-    let pat_arg = c.in-At.ensures in
+    let pat_arg = c.in-Ok.ensures in
     let pat_arg_ok = pat_arg.ok in
     let bump2 = c.bump-s2.ensures in
     let bump2_ok = ok_bumps bump2 pat_arg_ok in
     (bump2_ok.logs, pre1)
 
-pub at_round-returns-in-Missing : goal.at_round-returns-in-Missing
+pub at_round-returns-in-Err : goal.at_round-returns-in-Err
 unfolding pat.at_pat_l_round util.end_sep plan choose chosen
-at_round-returns-in-Missing t c =
-    let X0 = c.args.text.now in
-    let T0 = c.args.toks.now in
-    let N0 = c.args.env.now in
+at_round-returns-in-Err t c =
+    let X0 = c.args.lent.text.now in
+    let T0 = c.args.lent.toks.now in
+    let N0 = c.args.lent.env.now in
     let J0 = c.args.table.now in
     let L0 = c.args.scratch.now in
     let H0 = c.args.finds.now in
     let S0 = c.args.s in
     let L3 = c.pat_arg-first.new.scratch in
     let H3 = c.pat_arg-first.new.finds in
-    let S3 = c.in-Missing.s1 in
+    let S3 = c.in-Err.s1 in
     let L4 = c.args-s2.new.scratch in
     let H4 = c.args-s2.new.finds in
     let S4 = c.args-s2.result in
-    let L5 = c.close-in-Missing.new.scratch in
-    let S5 = c.close-in-Missing.result in
-    in_steps {m = (mem X0 T0 N0 J0 L0 H0 S0)} {m' = (mem X0 T0 N0 J0 L5 H4 S5)} (c.requires.0) (s_kind {a = (mem X0 T0 N0 J0 L0 H0 S0)} {e = (mem X0 T0 N0 J0 L5 H4 S5)} (s_false {a = (mem X0 T0 N0 J0 L0 H0 S0)} {e = (mem X0 T0 N0 J0 L5 H4 S5)} _ _ (kind_off _ _ (mem X0 T0 N0 J0 L0 H0 S0) _ (c.at.ensures) (c.if-at.false)) (s_by {a = (mem X0 T0 N0 J0 L0 H0 S0)} {c = (mem X0 T0 N0 J0 L3 H3 S3)} {e = (mem X0 T0 N0 J0 L5 H4 S5)} _ (runs_in {a = (mem X0 T0 N0 J0 L0 H0 S0)} {c = (mem X0 T0 N0 J0 L3 H3 S3)} (c.in-Missing.ensures)) (s_run {a = (mem X0 T0 N0 J0 L3 H3 S3)} {c = (mem X0 T0 N0 J0 L4 H4 S4)} {e = (mem X0 T0 N0 J0 L5 H4 S5)} (c.args-s2.ensures) (s_close {e = (mem X0 T0 N0 J0 L5 H4 S5)} {x = X0} {t = T0} {n = N0} {j = J0} {l = L4} {h = H4} {s = S4} {s' = S5} {l' = L5} (c.close-in-Missing.ensures) s_end)))))
+    let L5 = c.close-in-Err.new.scratch in
+    let S5 = c.close-in-Err.result in
+    in_steps {m = (mem X0 T0 N0 J0 L0 H0 S0)} {m' = (mem X0 T0 N0 J0 L5 H4 S5)} (c.requires.0) (s_kind {a = (mem X0 T0 N0 J0 L0 H0 S0)} {e = (mem X0 T0 N0 J0 L5 H4 S5)} (s_false {a = (mem X0 T0 N0 J0 L0 H0 S0)} {e = (mem X0 T0 N0 J0 L5 H4 S5)} _ _ (kind_off _ _ (mem X0 T0 N0 J0 L0 H0 S0) _ (c.at.ensures) (c.if-at.false)) (s_by {a = (mem X0 T0 N0 J0 L0 H0 S0)} {c = (mem X0 T0 N0 J0 L3 H3 S3)} {e = (mem X0 T0 N0 J0 L5 H4 S5)} _ (runs_in {a = (mem X0 T0 N0 J0 L0 H0 S0)} {c = (mem X0 T0 N0 J0 L3 H3 S3)} (c.in-Err.ensures)) (s_run {a = (mem X0 T0 N0 J0 L3 H3 S3)} {c = (mem X0 T0 N0 J0 L4 H4 S4)} {e = (mem X0 T0 N0 J0 L5 H4 S5)} (c.args-s2.ensures) (s_close {e = (mem X0 T0 N0 J0 L5 H4 S5)} {x = X0} {t = T0} {n = N0} {j = J0} {l = L4} {h = H4} {s = S4} {s' = S5} {l' = L5} (c.close-in-Err.ensures) s_end)))))
 
-pub at_round-returns-in-At : goal.at_round-returns-in-At
+pub at_round-returns-in-Ok : goal.at_round-returns-in-Ok
 unfolding pat.at_pat_l_round util.end_sep plan choose chosen
-at_round-returns-in-At t c =
-    let X0 = c.args.text.now in
-    let T0 = c.args.toks.now in
-    let N0 = c.args.env.now in
+at_round-returns-in-Ok t c =
+    let X0 = c.args.lent.text.now in
+    let T0 = c.args.lent.toks.now in
+    let N0 = c.args.lent.env.now in
     let J0 = c.args.table.now in
     let L0 = c.args.scratch.now in
     let H0 = c.args.finds.now in
     let S0 = c.args.s in
     let L3 = c.pat_arg-first.new.scratch in
     let H3 = c.pat_arg-first.new.finds in
-    let S3 = c.in-At.s1 in
+    let S3 = c.in-Ok.s1 in
     let L4 = c.bump-s2.new.scratch in
     let S4 = c.bump-s2.result in
-    let L5 = c.close-in-At.new.scratch in
-    let S5 = c.close-in-At.result in
-    in_steps {m = (mem X0 T0 N0 J0 L0 H0 S0)} {m' = (mem X0 T0 N0 J0 L5 H3 S5)} (c.requires.0) (s_kind {a = (mem X0 T0 N0 J0 L0 H0 S0)} {e = (mem X0 T0 N0 J0 L5 H3 S5)} (s_false {a = (mem X0 T0 N0 J0 L0 H0 S0)} {e = (mem X0 T0 N0 J0 L5 H3 S5)} _ _ (kind_off _ _ (mem X0 T0 N0 J0 L0 H0 S0) _ (c.at.ensures) (c.if-at.false)) (s_by {a = (mem X0 T0 N0 J0 L0 H0 S0)} {c = (mem X0 T0 N0 J0 L3 H3 S3)} {e = (mem X0 T0 N0 J0 L5 H3 S5)} _ (runs_in {a = (mem X0 T0 N0 J0 L0 H0 S0)} {c = (mem X0 T0 N0 J0 L3 H3 S3)} (c.in-At.ensures)) (s_bump {e = (mem X0 T0 N0 J0 L5 H3 S5)} {x = X0} {t = T0} {n = N0} {j = J0} {l = L3} {h = H3} {s = S3} {s' = S4} {l' = L4} (c.bump-s2.ensures) (s_close {e = (mem X0 T0 N0 J0 L5 H3 S5)} {x = X0} {t = T0} {n = N0} {j = J0} {l = L4} {h = H3} {s = S4} {s' = S5} {l' = L5} (c.close-in-At.ensures) s_end)))))
+    let L5 = c.close-in-Ok.new.scratch in
+    let S5 = c.close-in-Ok.result in
+    in_steps {m = (mem X0 T0 N0 J0 L0 H0 S0)} {m' = (mem X0 T0 N0 J0 L5 H3 S5)} (c.requires.0) (s_kind {a = (mem X0 T0 N0 J0 L0 H0 S0)} {e = (mem X0 T0 N0 J0 L5 H3 S5)} (s_false {a = (mem X0 T0 N0 J0 L0 H0 S0)} {e = (mem X0 T0 N0 J0 L5 H3 S5)} _ _ (kind_off _ _ (mem X0 T0 N0 J0 L0 H0 S0) _ (c.at.ensures) (c.if-at.false)) (s_by {a = (mem X0 T0 N0 J0 L0 H0 S0)} {c = (mem X0 T0 N0 J0 L3 H3 S3)} {e = (mem X0 T0 N0 J0 L5 H3 S5)} _ (runs_in {a = (mem X0 T0 N0 J0 L0 H0 S0)} {c = (mem X0 T0 N0 J0 L3 H3 S3)} (c.in-Ok.ensures)) (s_bump {e = (mem X0 T0 N0 J0 L5 H3 S5)} {x = X0} {t = T0} {n = N0} {j = J0} {l = L3} {h = H3} {s = S3} {s' = S4} {l' = L4} (c.bump-s2.ensures) (s_close {e = (mem X0 T0 N0 J0 L5 H3 S5)} {x = X0} {t = T0} {n = N0} {j = J0} {l = L4} {h = H3} {s = S4} {s' = S5} {l' = L5} (c.close-in-Ok.ensures) s_end)))))
 
 pub atom-at_pat-got-requires : goal.atom-at_pat-got-requires
 atom-at_pat-got-requires t c =
@@ -758,42 +758,42 @@ atom-at_pat-got-requires t c =
 pub atom-tail-s2-requires : goal.atom-tail-s2-requires
 atom-tail-s2-requires t c =
     let pre1 = c.requires.1 in
-    let at_pat = c.in-At.ensures in
+    let at_pat = c.in-Ok.ensures in
     let at_pat_ok = (at_pat true).ok in
     (omega arith, (at_pat_ok, pre1))
 
-pub atom-returns-in-Missing : goal.atom-returns-in-Missing
+pub atom-returns-in-Err : goal.atom-returns-in-Err
 unfolding pat.atom_pat plan choose chosen
-atom-returns-in-Missing t c =
-    let X0 = c.args.text.now in
-    let T0 = c.args.toks.now in
-    let N0 = c.args.env.now in
+atom-returns-in-Err t c =
+    let X0 = c.args.lent.text.now in
+    let T0 = c.args.lent.toks.now in
+    let N0 = c.args.lent.env.now in
     let J0 = c.args.table.now in
     let L0 = c.args.scratch.now in
     let H0 = c.args.finds.now in
     let S0 = c.args.s in
     let L1 = c.at_pat-got.new.scratch in
     let H1 = c.at_pat-got.new.finds in
-    let S1 = c.in-Missing.s1 in
-    in_steps {m = (mem X0 T0 N0 J0 L0 H0 S0)} {m' = (mem X0 T0 N0 J0 L1 H1 S1)} (c.requires.0) (s_by {a = (mem X0 T0 N0 J0 L0 H0 S0)} {c = (mem X0 T0 N0 J0 L1 H1 S1)} {e = (mem X0 T0 N0 J0 L1 H1 S1)} _ (runs_in {a = (mem X0 T0 N0 J0 L0 H0 S0)} {c = (mem X0 T0 N0 J0 L1 H1 S1)} ((c.in-Missing.ensures) _)) s_end)
+    let S1 = c.in-Err.s1 in
+    in_steps {m = (mem X0 T0 N0 J0 L0 H0 S0)} {m' = (mem X0 T0 N0 J0 L1 H1 S1)} (c.requires.0) (s_by {a = (mem X0 T0 N0 J0 L0 H0 S0)} {c = (mem X0 T0 N0 J0 L1 H1 S1)} {e = (mem X0 T0 N0 J0 L1 H1 S1)} _ (runs_in {a = (mem X0 T0 N0 J0 L0 H0 S0)} {c = (mem X0 T0 N0 J0 L1 H1 S1)} ((c.in-Err.ensures) _)) s_end)
 
-pub atom-returns-in-At : goal.atom-returns-in-At
+pub atom-returns-in-Ok : goal.atom-returns-in-Ok
 unfolding pat.atom_pat plan choose chosen
-atom-returns-in-At t c =
-    let X0 = c.args.text.now in
-    let T0 = c.args.toks.now in
-    let N0 = c.args.env.now in
+atom-returns-in-Ok t c =
+    let X0 = c.args.lent.text.now in
+    let T0 = c.args.lent.toks.now in
+    let N0 = c.args.lent.env.now in
     let J0 = c.args.table.now in
     let L0 = c.args.scratch.now in
     let H0 = c.args.finds.now in
     let S0 = c.args.s in
     let L1 = c.at_pat-got.new.scratch in
     let H1 = c.at_pat-got.new.finds in
-    let S1 = c.in-At.s1 in
+    let S1 = c.in-Ok.s1 in
     let L2 = c.tail-s2.new.scratch in
     let H2 = c.tail-s2.new.finds in
     let S2 = c.tail-s2.result in
-    in_steps {m = (mem X0 T0 N0 J0 L0 H0 S0)} {m' = (mem X0 T0 N0 J0 L2 H2 S2)} (c.requires.0) (s_by {a = (mem X0 T0 N0 J0 L0 H0 S0)} {c = (mem X0 T0 N0 J0 L1 H1 S1)} {e = (mem X0 T0 N0 J0 L2 H2 S2)} _ (runs_in {a = (mem X0 T0 N0 J0 L0 H0 S0)} {c = (mem X0 T0 N0 J0 L1 H1 S1)} ((c.in-At.ensures) _)) (s_run {a = (mem X0 T0 N0 J0 L1 H1 S1)} {c = (mem X0 T0 N0 J0 L2 H2 S2)} {e = (mem X0 T0 N0 J0 L2 H2 S2)} (c.tail-s2.ensures) s_end))
+    in_steps {m = (mem X0 T0 N0 J0 L0 H0 S0)} {m' = (mem X0 T0 N0 J0 L2 H2 S2)} (c.requires.0) (s_by {a = (mem X0 T0 N0 J0 L0 H0 S0)} {c = (mem X0 T0 N0 J0 L1 H1 S1)} {e = (mem X0 T0 N0 J0 L2 H2 S2)} _ (runs_in {a = (mem X0 T0 N0 J0 L0 H0 S0)} {c = (mem X0 T0 N0 J0 L1 H1 S1)} ((c.in-Ok.ensures) _)) (s_run {a = (mem X0 T0 N0 J0 L1 H1 S1)} {c = (mem X0 T0 N0 J0 L2 H2 S2)} {e = (mem X0 T0 N0 J0 L2 H2 S2)} (c.tail-s2.ensures) s_end))
 
 pub con-con_head-head-requires : goal.con-con_head-head-requires
 con-con_head-head-requires t c =
@@ -860,9 +860,9 @@ con_head-refuse-requires t c =
 pub con_head-returns-then-left-eq0 : goal.con_head-returns-then-left-eq0
 unfolding pat.con_head plan choose chosen hushed
 con_head-returns-then-left-eq0 t c =
-    let X0 = c.args.text.now in
-    let T0 = c.args.toks.now in
-    let N0 = c.args.env.now in
+    let X0 = c.args.lent.text.now in
+    let T0 = c.args.lent.toks.now in
+    let N0 = c.args.lent.env.now in
     let J0 = c.args.table.now in
     let L0 = c.args.scratch.now in
     let H0 = c.args.finds.now in
@@ -881,8 +881,8 @@ con_head-con_name-got-requires t c =
     let mark_ok = ok_marks mark pre0 in
     mark_ok
 
-pub con_head-state-s2-requires : goal.con_head-state-s2-requires
-con_head-state-s2-requires t c =
+pub con_head-either-s2-requires : goal.con_head-either-s2-requires
+con_head-either-s2-requires t c =
     tt
 
 pub con_head-con_turn-requires : goal.con_head-con_turn-requires
@@ -890,9 +890,9 @@ con_head-con_turn-requires t c =
     let pre1 = c.requires.1 in
     let con_name = c.con_name-got.ensures in
     let con_name_ok = con_name.ok in
-    let state = c.state-s2.ensures in
-    let state_ok = ok_state state con_name_ok in
-    (omega arith, (state_ok, pre1))
+    let either = c.either-s2.ensures in
+    let either_ok = ok_state either con_name_ok in
+    (omega arith, (either_ok, pre1))
 
 pub con_head-returns : goal.con_head-returns
 unfolding pat.con_head plan choose chosen
@@ -901,9 +901,9 @@ con_head-returns t c =
     let if1 = c.if-left-eq0.false in
     let mark = c.mark-s1.ensures in
     let con_name = c.con_name-got.ensures in
-    let state = c.state-s2.ensures in
+    let either = c.either-s2.ensures in
     let con_turn = c.con_turn.ensures in
-    in_steps pre0 (s_mark if1 mark (s_by _ (settled state (runs_in con_name)) (s_by _ con_turn s_end)))
+    in_steps pre0 (s_mark if1 mark (s_by _ (settled either (runs_in con_name)) (s_by _ con_turn s_end)))
 
 pub con_turn-peek-requires : goal.con_turn-peek-requires
 con_turn-peek-requires t c =
@@ -919,9 +919,9 @@ con_turn-close-requires t c =
 pub con_turn-returns-in_default : goal.con_turn-returns-in_default
 unfolding pat.con_turn plan choose chosen
 con_turn-returns-in_default t c =
-    let X0 = c.args.text.now in
-    let T0 = c.args.toks.now in
-    let N0 = c.args.env.now in
+    let X0 = c.args.lent.text.now in
+    let T0 = c.args.lent.toks.now in
+    let N0 = c.args.lent.env.now in
     let J0 = c.args.table.now in
     let L0 = c.args.scratch.now in
     let H0 = c.args.finds.now in
@@ -944,19 +944,19 @@ con_turn-at_must-s1-requires t c =
     let pre0 = c.requires.0 in
     (omega arith, pre0)
 
-pub con_turn-close-requires-in-Nonfix : goal.con_turn-close-requires-in-Nonfix
-con_turn-close-requires-in-Nonfix t c =
+pub con_turn-close-requires-in-None : goal.con_turn-close-requires-in-None
+con_turn-close-requires-in-None t c =
     let pre1 = c.requires.1 in
     let at_must = c.at_must-s1.ensures in
     let at_must_ok = at_must.ok in
     (at_must_ok.logs, pre1)
 
-pub con_turn-returns-in-Nonfix : goal.con_turn-returns-in-Nonfix
+pub con_turn-returns-in-None : goal.con_turn-returns-in-None
 unfolding pat.con_turn plan choose chosen
-con_turn-returns-in-Nonfix t c =
-    let X0 = c.args.text.now in
-    let T0 = c.args.toks.now in
-    let N0 = c.args.env.now in
+con_turn-returns-in-None t c =
+    let X0 = c.args.lent.text.now in
+    let T0 = c.args.lent.toks.now in
+    let N0 = c.args.lent.env.now in
     let J0 = c.args.table.now in
     let L0 = c.args.scratch.now in
     let H0 = c.args.finds.now in
@@ -964,9 +964,9 @@ con_turn-returns-in-Nonfix t c =
     let L5 = c.at_must-s1.new.scratch in
     let H5 = c.at_must-s1.new.finds in
     let S5 = c.at_must-s1.result in
-    let L6 = c.close-in-Nonfix.new.scratch in
-    let S6 = c.close-in-Nonfix.result in
-    in_steps {m = (mem X0 T0 N0 J0 L0 H0 S0)} {m' = (mem X0 T0 N0 J0 L6 H5 S6)} (c.requires.0) (s_look {a = (mem X0 T0 N0 J0 L0 H0 S0)} {e = (mem X0 T0 N0 J0 L6 H5 S6)} (c.in-Kind.ensures) (s_true {a = (mem X0 T0 N0 J0 L0 H0 S0)} {e = (mem X0 T0 N0 J0 L6 H5 S6)} _ _ (test_true (c.name_star.ensures) (c.if-name_star.true)) (s_fixed {a = (mem X0 T0 N0 J0 L0 H0 S0)} {e = (mem X0 T0 N0 J0 L6 H5 S6)} (c.in-Nonfix.ensures) (s_by {a = (mem X0 T0 N0 J0 L0 H0 S0)} {c = (mem X0 T0 N0 J0 L5 H5 S5)} {e = (mem X0 T0 N0 J0 L6 H5 S6)} _ (runs_in {a = (mem X0 T0 N0 J0 L0 H0 S0)} {c = (mem X0 T0 N0 J0 L5 H5 S5)} (c.at_must-s1.ensures)) (s_close {e = (mem X0 T0 N0 J0 L6 H5 S6)} {x = X0} {t = T0} {n = N0} {j = J0} {l = L5} {h = H5} {s = S5} {s' = S6} {l' = L6} (c.close-in-Nonfix.ensures) s_end)))))
+    let L6 = c.close-in-None.new.scratch in
+    let S6 = c.close-in-None.result in
+    in_steps {m = (mem X0 T0 N0 J0 L0 H0 S0)} {m' = (mem X0 T0 N0 J0 L6 H5 S6)} (c.requires.0) (s_look {a = (mem X0 T0 N0 J0 L0 H0 S0)} {e = (mem X0 T0 N0 J0 L6 H5 S6)} (c.in-Some.ensures) (s_true {a = (mem X0 T0 N0 J0 L0 H0 S0)} {e = (mem X0 T0 N0 J0 L6 H5 S6)} _ _ (test_true (c.name_star.ensures) (c.if-name_star.true)) (s_fixed {a = (mem X0 T0 N0 J0 L0 H0 S0)} {e = (mem X0 T0 N0 J0 L6 H5 S6)} (c.in-None.ensures) (s_by {a = (mem X0 T0 N0 J0 L0 H0 S0)} {c = (mem X0 T0 N0 J0 L5 H5 S5)} {e = (mem X0 T0 N0 J0 L6 H5 S6)} _ (runs_in {a = (mem X0 T0 N0 J0 L0 H0 S0)} {c = (mem X0 T0 N0 J0 L5 H5 S5)} (c.at_must-s1.ensures)) (s_close {e = (mem X0 T0 N0 J0 L6 H5 S6)} {x = X0} {t = T0} {n = N0} {j = J0} {l = L5} {h = H5} {s = S5} {s' = S6} {l' = L6} (c.close-in-None.ensures) s_end)))))
 
 pub con_turn-con_op-requires : goal.con_turn-con_op-requires
 con_turn-con_op-requires t c =
@@ -974,14 +974,14 @@ con_turn-con_op-requires t c =
     let pre1 = c.requires.1 in
     (pre0, pre1)
 
-pub con_turn-returns-in-Is : goal.con_turn-returns-in-Is
+pub con_turn-returns-in-Some-fix : goal.con_turn-returns-in-Some-fix
 unfolding pat.con_turn plan choose chosen
-con_turn-returns-in-Is t c =
+con_turn-returns-in-Some-fix t c =
     let pre0 = c.requires.0 in
-    let peek = c.in-Kind.ensures in
+    let peek = c.in-Some.ensures in
     let name_star = c.name_star.ensures in
     let if1 = c.if-name_star.true in
-    let fixity_at = c.in-Is.ensures in
+    let fixity_at = c.in-Some-fix.ensures in
     let con_op = c.con_op.ensures in
     in_steps pre0 (s_look peek (s_true _ _ (test_true name_star if1) (s_fixed fixity_at (s_by _ con_op s_end))))
 
@@ -1004,9 +1004,9 @@ con_turn-close-requires-then-arg t c =
 pub con_turn-returns-then-arg : goal.con_turn-returns-then-arg
 unfolding pat.con_turn plan choose chosen
 con_turn-returns-then-arg t c =
-    let X0 = c.args.text.now in
-    let T0 = c.args.toks.now in
-    let N0 = c.args.env.now in
+    let X0 = c.args.lent.text.now in
+    let T0 = c.args.lent.toks.now in
+    let N0 = c.args.lent.env.now in
     let J0 = c.args.table.now in
     let L0 = c.args.scratch.now in
     let H0 = c.args.finds.now in
@@ -1016,7 +1016,7 @@ con_turn-returns-then-arg t c =
     let S6 = c.at_must-s1-then-arg.result in
     let L7 = c.close-then-arg.new.scratch in
     let S7 = c.close-then-arg.result in
-    in_steps {m = (mem X0 T0 N0 J0 L0 H0 S0)} {m' = (mem X0 T0 N0 J0 L7 H6 S7)} (c.requires.0) (s_look {a = (mem X0 T0 N0 J0 L0 H0 S0)} {e = (mem X0 T0 N0 J0 L7 H6 S7)} (c.in-Kind.ensures) (s_false {a = (mem X0 T0 N0 J0 L0 H0 S0)} {e = (mem X0 T0 N0 J0 L7 H6 S7)} _ _ (test_false (c.name_star.ensures) (c.if-name_star.false)) (s_true {a = (mem X0 T0 N0 J0 L0 H0 S0)} {e = (mem X0 T0 N0 J0 L7 H6 S7)} _ _ (test_true (c.arg.ensures) (c.if-arg.true)) (s_by {a = (mem X0 T0 N0 J0 L0 H0 S0)} {c = (mem X0 T0 N0 J0 L6 H6 S6)} {e = (mem X0 T0 N0 J0 L7 H6 S7)} _ (runs_in {a = (mem X0 T0 N0 J0 L0 H0 S0)} {c = (mem X0 T0 N0 J0 L6 H6 S6)} (c.at_must-s1-then-arg.ensures)) (s_close {e = (mem X0 T0 N0 J0 L7 H6 S7)} {x = X0} {t = T0} {n = N0} {j = J0} {l = L6} {h = H6} {s = S6} {s' = S7} {l' = L7} (c.close-then-arg.ensures) s_end)))))
+    in_steps {m = (mem X0 T0 N0 J0 L0 H0 S0)} {m' = (mem X0 T0 N0 J0 L7 H6 S7)} (c.requires.0) (s_look {a = (mem X0 T0 N0 J0 L0 H0 S0)} {e = (mem X0 T0 N0 J0 L7 H6 S7)} (c.in-Some.ensures) (s_false {a = (mem X0 T0 N0 J0 L0 H0 S0)} {e = (mem X0 T0 N0 J0 L7 H6 S7)} _ _ (test_false (c.name_star.ensures) (c.if-name_star.false)) (s_true {a = (mem X0 T0 N0 J0 L0 H0 S0)} {e = (mem X0 T0 N0 J0 L7 H6 S7)} _ _ (test_true (c.arg.ensures) (c.if-arg.true)) (s_by {a = (mem X0 T0 N0 J0 L0 H0 S0)} {c = (mem X0 T0 N0 J0 L6 H6 S6)} {e = (mem X0 T0 N0 J0 L7 H6 S7)} _ (runs_in {a = (mem X0 T0 N0 J0 L0 H0 S0)} {c = (mem X0 T0 N0 J0 L6 H6 S6)} (c.at_must-s1-then-arg.ensures)) (s_close {e = (mem X0 T0 N0 J0 L7 H6 S7)} {x = X0} {t = T0} {n = N0} {j = J0} {l = L6} {h = H6} {s = S6} {s' = S7} {l' = L7} (c.close-then-arg.ensures) s_end)))))
 
 pub con_turn-close-requires-2 : goal.con_turn-close-requires-2
 con_turn-close-requires-2 t c =
@@ -1027,16 +1027,16 @@ con_turn-close-requires-2 t c =
 pub con_turn-returns : goal.con_turn-returns
 unfolding pat.con_turn plan choose chosen
 con_turn-returns t c =
-    let X0 = c.args.text.now in
-    let T0 = c.args.toks.now in
-    let N0 = c.args.env.now in
+    let X0 = c.args.lent.text.now in
+    let T0 = c.args.lent.toks.now in
+    let N0 = c.args.lent.env.now in
     let J0 = c.args.table.now in
     let L0 = c.args.scratch.now in
     let H0 = c.args.finds.now in
     let S0 = c.args.s in
     let L6 = c.close-2.new.scratch in
     let S6 = c.close-2.result in
-    in_steps {m = (mem X0 T0 N0 J0 L0 H0 S0)} {m' = (mem X0 T0 N0 J0 L6 H0 S6)} (c.requires.0) (s_look {a = (mem X0 T0 N0 J0 L0 H0 S0)} {e = (mem X0 T0 N0 J0 L6 H0 S6)} (c.in-Kind.ensures) (s_false {a = (mem X0 T0 N0 J0 L0 H0 S0)} {e = (mem X0 T0 N0 J0 L6 H0 S6)} _ _ (test_false (c.name_star.ensures) (c.if-name_star.false)) (s_false {a = (mem X0 T0 N0 J0 L0 H0 S0)} {e = (mem X0 T0 N0 J0 L6 H0 S6)} _ _ (test_false (c.arg.ensures) (c.if-arg.false)) (s_close {e = (mem X0 T0 N0 J0 L6 H0 S6)} {x = X0} {t = T0} {n = N0} {j = J0} {l = L0} {h = H0} {s = S0} {s' = S6} {l' = L6} (c.close-2.ensures) s_end))))
+    in_steps {m = (mem X0 T0 N0 J0 L0 H0 S0)} {m' = (mem X0 T0 N0 J0 L6 H0 S6)} (c.requires.0) (s_look {a = (mem X0 T0 N0 J0 L0 H0 S0)} {e = (mem X0 T0 N0 J0 L6 H0 S6)} (c.in-Some.ensures) (s_false {a = (mem X0 T0 N0 J0 L0 H0 S0)} {e = (mem X0 T0 N0 J0 L6 H0 S6)} _ _ (test_false (c.name_star.ensures) (c.if-name_star.false)) (s_false {a = (mem X0 T0 N0 J0 L0 H0 S0)} {e = (mem X0 T0 N0 J0 L6 H0 S6)} _ _ (test_false (c.arg.ensures) (c.if-arg.false)) (s_close {e = (mem X0 T0 N0 J0 L6 H0 S6)} {x = X0} {t = T0} {n = N0} {j = J0} {l = L0} {h = H0} {s = S0} {s' = S6} {l' = L6} (c.close-2.ensures) s_end))))
 
 pub inf_pat-refuse-requires : goal.inf_pat-refuse-requires
 inf_pat-refuse-requires t c =
@@ -1045,9 +1045,9 @@ inf_pat-refuse-requires t c =
 pub inf_pat-returns-then-left-eq0 : goal.inf_pat-returns-then-left-eq0
 unfolding pat.infix_pat plan choose chosen hushed
 inf_pat-returns-then-left-eq0 t c =
-    let X0 = c.args.text.now in
-    let T0 = c.args.toks.now in
-    let N0 = c.args.env.now in
+    let X0 = c.args.lent.text.now in
+    let T0 = c.args.lent.toks.now in
+    let N0 = c.args.lent.env.now in
     let J0 = c.args.table.now in
     let L0 = c.args.scratch.now in
     let H0 = c.args.finds.now in
@@ -1085,9 +1085,9 @@ inf_pat-close-requires t c =
 pub inf_pat-returns : goal.inf_pat-returns
 unfolding pat.infix_pat plan choose chosen
 inf_pat-returns t c =
-    let X0 = c.args.text.now in
-    let T0 = c.args.toks.now in
-    let N0 = c.args.env.now in
+    let X0 = c.args.lent.text.now in
+    let T0 = c.args.lent.toks.now in
+    let N0 = c.args.lent.env.now in
     let J0 = c.args.table.now in
     let L0 = c.args.scratch.now in
     let H0 = c.args.finds.now in
@@ -1126,56 +1126,56 @@ op_step-should_break_pat-ends-requires t c =
 pub op_step-inf_pat-s2-requires : goal.op_step-inf_pat-s2-requires
 op_step-inf_pat-s2-requires t c =
     let pre1 = c.requires.1 in
-    let should_break_pat = c.in-Missing.ensures in
+    let should_break_pat = c.in-Err.ensures in
     let should_break_pat_ok = (should_break_pat true).ok in
     (omega arith, (should_break_pat_ok, pre1))
 
-pub op_step-returns-in-Nonfix : goal.op_step-returns-in-Nonfix
+pub op_step-returns-in-None : goal.op_step-returns-in-None
 unfolding pat.op_step plan choose chosen
-op_step-returns-in-Nonfix t c =
-    let X0 = c.args.text.now in
-    let T0 = c.args.toks.now in
-    let N0 = c.args.env.now in
+op_step-returns-in-None t c =
+    let X0 = c.args.lent.text.now in
+    let T0 = c.args.lent.toks.now in
+    let N0 = c.args.lent.env.now in
     let J0 = c.args.table.now in
     let L0 = c.args.scratch.now in
     let H0 = c.args.finds.now in
     let S0 = c.args.s in
     let H3 = c.report.new.finds in
     let S3 = c.report.result in
-    in_steps {m = (mem X0 T0 N0 J0 L0 H0 S0)} {m' = (mem X0 T0 N0 J0 L0 H3 S3)} (c.requires.0) (s_fixed {a = (mem X0 T0 N0 J0 L0 H0 S0)} {e = (mem X0 T0 N0 J0 L0 H3 S3)} (c.in-Nonfix.ensures) (s_index (c.index-name.ensures) (s_report {e = (mem X0 T0 N0 J0 L0 H3 S3)} {x = X0} {t = T0} {n = N0} {j = J0} {l = L0} {h = H0} {s = S0} {s' = S3} {h' = H3} (c.report.ensures) s_end)))
+    in_steps {m = (mem X0 T0 N0 J0 L0 H0 S0)} {m' = (mem X0 T0 N0 J0 L0 H3 S3)} (c.requires.0) (s_fixed {a = (mem X0 T0 N0 J0 L0 H0 S0)} {e = (mem X0 T0 N0 J0 L0 H3 S3)} (c.in-None.ensures) (s_index (c.index-name.ensures) (s_report {e = (mem X0 T0 N0 J0 L0 H3 S3)} {x = X0} {t = T0} {n = N0} {j = J0} {l = L0} {h = H0} {s = S0} {s' = S3} {h' = H3} (c.report.ensures) s_end)))
 
-pub op_step-returns-in-At : goal.op_step-returns-in-At
+pub op_step-returns-in-Ok : goal.op_step-returns-in-Ok
 unfolding pat.op_step plan choose chosen
-op_step-returns-in-At t c =
-    let X0 = c.args.text.now in
-    let T0 = c.args.toks.now in
-    let N0 = c.args.env.now in
+op_step-returns-in-Ok t c =
+    let X0 = c.args.lent.text.now in
+    let T0 = c.args.lent.toks.now in
+    let N0 = c.args.lent.env.now in
     let J0 = c.args.table.now in
     let L0 = c.args.scratch.now in
     let H0 = c.args.finds.now in
     let S0 = c.args.s in
     let L2 = c.should_break_pat-ends.new.scratch in
     let H2 = c.should_break_pat-ends.new.finds in
-    let S2 = c.in-At.s1 in
-    in_steps {m = (mem X0 T0 N0 J0 L0 H0 S0)} {m' = (mem X0 T0 N0 J0 L2 H2 S2)} (c.requires.0) (s_fixed {a = (mem X0 T0 N0 J0 L0 H0 S0)} {e = (mem X0 T0 N0 J0 L2 H2 S2)} (c.in-Is.ensures) (s_by {a = (mem X0 T0 N0 J0 L0 H0 S0)} {c = (mem X0 T0 N0 J0 L2 H2 S2)} {e = (mem X0 T0 N0 J0 L2 H2 S2)} _ (runs_always {a = (mem X0 T0 N0 J0 L0 H0 S0)} {c = (mem X0 T0 N0 J0 L2 H2 S2)} ((c.in-At.ensures) _)) s_end))
+    let S2 = c.in-Ok.s1 in
+    in_steps {m = (mem X0 T0 N0 J0 L0 H0 S0)} {m' = (mem X0 T0 N0 J0 L2 H2 S2)} (c.requires.0) (s_fixed {a = (mem X0 T0 N0 J0 L0 H0 S0)} {e = (mem X0 T0 N0 J0 L2 H2 S2)} (c.in-Some.ensures) (s_by {a = (mem X0 T0 N0 J0 L0 H0 S0)} {c = (mem X0 T0 N0 J0 L2 H2 S2)} {e = (mem X0 T0 N0 J0 L2 H2 S2)} _ (runs_always {a = (mem X0 T0 N0 J0 L0 H0 S0)} {c = (mem X0 T0 N0 J0 L2 H2 S2)} ((c.in-Ok.ensures) _)) s_end))
 
-pub op_step-returns-in-Missing : goal.op_step-returns-in-Missing
+pub op_step-returns-in-Err : goal.op_step-returns-in-Err
 unfolding pat.op_step plan choose chosen
-op_step-returns-in-Missing t c =
-    let X0 = c.args.text.now in
-    let T0 = c.args.toks.now in
-    let N0 = c.args.env.now in
+op_step-returns-in-Err t c =
+    let X0 = c.args.lent.text.now in
+    let T0 = c.args.lent.toks.now in
+    let N0 = c.args.lent.env.now in
     let J0 = c.args.table.now in
     let L0 = c.args.scratch.now in
     let H0 = c.args.finds.now in
     let S0 = c.args.s in
     let L2 = c.should_break_pat-ends.new.scratch in
     let H2 = c.should_break_pat-ends.new.finds in
-    let S2 = c.in-Missing.s1 in
+    let S2 = c.in-Err.s1 in
     let L3 = c.inf_pat-s2.new.scratch in
     let H3 = c.inf_pat-s2.new.finds in
     let S3 = c.inf_pat-s2.result in
-    in_steps {m = (mem X0 T0 N0 J0 L0 H0 S0)} {m' = (mem X0 T0 N0 J0 L3 H3 S3)} (c.requires.0) (s_fixed {a = (mem X0 T0 N0 J0 L0 H0 S0)} {e = (mem X0 T0 N0 J0 L3 H3 S3)} (c.in-Is.ensures) (s_by {a = (mem X0 T0 N0 J0 L0 H0 S0)} {c = (mem X0 T0 N0 J0 L2 H2 S2)} {e = (mem X0 T0 N0 J0 L3 H3 S3)} _ (runs_always {a = (mem X0 T0 N0 J0 L0 H0 S0)} {c = (mem X0 T0 N0 J0 L2 H2 S2)} ((c.in-Missing.ensures) _)) (s_by {a = (mem X0 T0 N0 J0 L2 H2 S2)} {c = (mem X0 T0 N0 J0 L3 H3 S3)} {e = (mem X0 T0 N0 J0 L3 H3 S3)} _ (c.inf_pat-s2.ensures) s_end)))
+    in_steps {m = (mem X0 T0 N0 J0 L0 H0 S0)} {m' = (mem X0 T0 N0 J0 L3 H3 S3)} (c.requires.0) (s_fixed {a = (mem X0 T0 N0 J0 L0 H0 S0)} {e = (mem X0 T0 N0 J0 L3 H3 S3)} (c.in-Some.ensures) (s_by {a = (mem X0 T0 N0 J0 L0 H0 S0)} {c = (mem X0 T0 N0 J0 L2 H2 S2)} {e = (mem X0 T0 N0 J0 L3 H3 S3)} _ (runs_always {a = (mem X0 T0 N0 J0 L0 H0 S0)} {c = (mem X0 T0 N0 J0 L2 H2 S2)} ((c.in-Err.ensures) _)) (s_by {a = (mem X0 T0 N0 J0 L2 H2 S2)} {c = (mem X0 T0 N0 J0 L3 H3 S3)} {e = (mem X0 T0 N0 J0 L3 H3 S3)} _ (c.inf_pat-s2.ensures) s_end)))
 
 pub op_tail-fixity_at-fix-requires : goal.op_tail-fixity_at-fix-requires
 op_tail-fixity_at-fix-requires t c =
@@ -1188,24 +1188,24 @@ op_tail-inf_pat-requires t c =
     let pre1 = c.requires.1 in
     (omega arith, (pre0, pre1))
 
-pub op_tail-returns-in-Nonfix : goal.op_tail-returns-in-Nonfix
+pub op_tail-returns-in-None : goal.op_tail-returns-in-None
 unfolding pat.op_tail plan choose chosen
-op_tail-returns-in-Nonfix t c =
-    let X0 = c.args.text.now in
-    let T0 = c.args.toks.now in
-    let N0 = c.args.env.now in
+op_tail-returns-in-None t c =
+    let X0 = c.args.lent.text.now in
+    let T0 = c.args.lent.toks.now in
+    let N0 = c.args.lent.env.now in
     let J0 = c.args.table.now in
     let L0 = c.args.scratch.now in
     let H0 = c.args.finds.now in
     let S0 = c.args.s in
-    in_steps {m = (mem X0 T0 N0 J0 L0 H0 S0)} {m' = (mem X0 T0 N0 J0 L0 H0 S0)} (c.requires.0) (s_fixed {a = (mem X0 T0 N0 J0 L0 H0 S0)} {e = (mem X0 T0 N0 J0 L0 H0 S0)} (c.in-Nonfix.ensures) s_end)
+    in_steps {m = (mem X0 T0 N0 J0 L0 H0 S0)} {m' = (mem X0 T0 N0 J0 L0 H0 S0)} (c.requires.0) (s_fixed {a = (mem X0 T0 N0 J0 L0 H0 S0)} {e = (mem X0 T0 N0 J0 L0 H0 S0)} (c.in-None.ensures) s_end)
 
-pub op_tail-returns-in-Is : goal.op_tail-returns-in-Is
+pub op_tail-returns-in-Some : goal.op_tail-returns-in-Some
 unfolding pat.op_tail plan choose chosen
-op_tail-returns-in-Is t c =
-    let X0 = c.args.text.now in
-    let T0 = c.args.toks.now in
-    let N0 = c.args.env.now in
+op_tail-returns-in-Some t c =
+    let X0 = c.args.lent.text.now in
+    let T0 = c.args.lent.toks.now in
+    let N0 = c.args.lent.env.now in
     let J0 = c.args.table.now in
     let L0 = c.args.scratch.now in
     let H0 = c.args.finds.now in
@@ -1213,7 +1213,7 @@ op_tail-returns-in-Is t c =
     let L2 = c.inf_pat.new.scratch in
     let H2 = c.inf_pat.new.finds in
     let S2 = c.inf_pat.result in
-    in_steps {m = (mem X0 T0 N0 J0 L0 H0 S0)} {m' = (mem X0 T0 N0 J0 L2 H2 S2)} (c.requires.0) (s_fixed {a = (mem X0 T0 N0 J0 L0 H0 S0)} {e = (mem X0 T0 N0 J0 L2 H2 S2)} (c.in-Is.ensures) (s_by {a = (mem X0 T0 N0 J0 L0 H0 S0)} {c = (mem X0 T0 N0 J0 L2 H2 S2)} {e = (mem X0 T0 N0 J0 L2 H2 S2)} _ (c.inf_pat.ensures) s_end))
+    in_steps {m = (mem X0 T0 N0 J0 L0 H0 S0)} {m' = (mem X0 T0 N0 J0 L2 H2 S2)} (c.requires.0) (s_fixed {a = (mem X0 T0 N0 J0 L0 H0 S0)} {e = (mem X0 T0 N0 J0 L2 H2 S2)} (c.in-Some.ensures) (s_by {a = (mem X0 T0 N0 J0 L0 H0 S0)} {c = (mem X0 T0 N0 J0 L2 H2 S2)} {e = (mem X0 T0 N0 J0 L2 H2 S2)} _ (c.inf_pat.ensures) s_end))
 
 pub or_step-is_min-requires : goal.or_step-is_min-requires
 or_step-is_min-requires t c =
@@ -1226,9 +1226,9 @@ or_step-refuse-requires t c =
 pub or_step-returns-then-left-eq0 : goal.or_step-returns-then-left-eq0
 unfolding pat.or_step plan choose chosen hushed
 or_step-returns-then-left-eq0 t c =
-    let X0 = c.args.text.now in
-    let T0 = c.args.toks.now in
-    let N0 = c.args.env.now in
+    let X0 = c.args.lent.text.now in
+    let T0 = c.args.lent.toks.now in
+    let N0 = c.args.lent.env.now in
     let J0 = c.args.table.now in
     let L0 = c.args.scratch.now in
     let H0 = c.args.finds.now in
@@ -1266,9 +1266,9 @@ or_step-close-requires t c =
 pub or_step-returns-then-is_min : goal.or_step-returns-then-is_min
 unfolding pat.or_step plan choose chosen
 or_step-returns-then-is_min t c =
-    let X0 = c.args.text.now in
-    let T0 = c.args.toks.now in
-    let N0 = c.args.env.now in
+    let X0 = c.args.lent.text.now in
+    let T0 = c.args.lent.toks.now in
+    let N0 = c.args.lent.env.now in
     let J0 = c.args.table.now in
     let L0 = c.args.scratch.now in
     let H0 = c.args.finds.now in
@@ -1286,9 +1286,9 @@ or_step-returns-then-is_min t c =
 pub or_step-returns : goal.or_step-returns
 unfolding pat.or_step plan choose chosen
 or_step-returns t c =
-    let X0 = c.args.text.now in
-    let T0 = c.args.toks.now in
-    let N0 = c.args.env.now in
+    let X0 = c.args.lent.text.now in
+    let T0 = c.args.lent.toks.now in
+    let N0 = c.args.lent.env.now in
     let J0 = c.args.table.now in
     let L0 = c.args.scratch.now in
     let H0 = c.args.finds.now in
@@ -1302,9 +1302,9 @@ pat_arg-refuse-requires t c =
 pub pat_arg-returns-then-left-eq0 : goal.pat_arg-returns-then-left-eq0
 unfolding pat.pat_arg plan choose chosen hushed
 pat_arg-returns-then-left-eq0 t c =
-    let X0 = c.args.text.now in
-    let T0 = c.args.toks.now in
-    let N0 = c.args.env.now in
+    let X0 = c.args.lent.text.now in
+    let T0 = c.args.lent.toks.now in
+    let N0 = c.args.lent.env.now in
     let J0 = c.args.table.now in
     let L0 = c.args.scratch.now in
     let H0 = c.args.finds.now in
@@ -1332,9 +1332,9 @@ pat_arg-at-requires t c =
 pub pat_arg-returns-then-at : goal.pat_arg-returns-then-at
 unfolding pat.pat_arg plan choose chosen
 pat_arg-returns-then-at t c =
-    let X0 = c.args.text.now in
-    let T0 = c.args.toks.now in
-    let N0 = c.args.env.now in
+    let X0 = c.args.lent.text.now in
+    let T0 = c.args.lent.toks.now in
+    let N0 = c.args.lent.env.now in
     let J0 = c.args.table.now in
     let L0 = c.args.scratch.now in
     let H0 = c.args.finds.now in
@@ -1351,8 +1351,8 @@ pat_arg-eat-got-requires t c =
     let pat_must_ok = pat_must.ok in
     (pat_must_ok.reads, pat_must_ok.logs, pat_must_ok.holds, omega arith)
 
-pub pat_arg-state-s3-requires : goal.pat_arg-state-s3-requires
-pat_arg-state-s3-requires t c =
+pub pat_arg-either-s3-requires : goal.pat_arg-either-s3-requires
+pat_arg-either-s3-requires t c =
     tt
 
 pub pat_arg-close-requires : goal.pat_arg-close-requires
@@ -1364,16 +1364,16 @@ pat_arg-close-requires t c =
     let pat_must_ok = pat_must.ok in
     let eat = c.eat-got.ensures in
     let eat_ok = ok_eats eat pat_must_ok in
-    let state = c.state-s3.ensures in
-    let state_ok = ok_state state eat_ok in
-    (state_ok.logs, small_len mark_ok)
+    let either = c.either-s3.ensures in
+    let either_ok = ok_state either eat_ok in
+    (either_ok.logs, small_len mark_ok)
 
 pub pat_arg-returns : goal.pat_arg-returns
 unfolding pat.pat_arg plan choose chosen
 pat_arg-returns t c =
-    let X0 = c.args.text.now in
-    let T0 = c.args.toks.now in
-    let N0 = c.args.env.now in
+    let X0 = c.args.lent.text.now in
+    let T0 = c.args.lent.toks.now in
+    let N0 = c.args.lent.env.now in
     let J0 = c.args.table.now in
     let L0 = c.args.scratch.now in
     let H0 = c.args.finds.now in
@@ -1384,10 +1384,10 @@ pat_arg-returns t c =
     let S3 = c.pat_must-s2.result in
     let L6 = c.eat-got.new.scratch in
     let H6 = c.eat-got.new.finds in
-    let S7 = c.state-s3.result in
+    let S7 = c.either-s3.result in
     let L8 = c.close.new.scratch in
     let S8 = c.close.result in
-    by_steps {m = (mem X0 T0 N0 J0 L0 H0 S0)} {m' = (mem X0 T0 N0 J0 L8 H6 S8)} (c.requires) (λ b. s_mark {e = (mem X0 T0 N0 J0 L8 H6 S8)} {x = X0} {t = T0} {n = N0} {j = J0} {l = L0} {h = H0} {s = S0} {s' = S2} (c.if-left-eq0.false) (c.mark-s1.ensures) (s_by {a = (mem X0 T0 N0 J0 L0 H0 S2)} {c = (mem X0 T0 N0 J0 L3 H3 S3)} {e = (mem X0 T0 N0 J0 L8 H6 S8)} _ (runs_in {a = (mem X0 T0 N0 J0 L0 H0 S2)} {c = (mem X0 T0 N0 J0 L3 H3 S3)} (c.pat_must-s2.ensures)) (s_kind {a = (mem X0 T0 N0 J0 L3 H3 S3)} {e = (mem X0 T0 N0 J0 L8 H6 S8)} (s_false {a = (mem X0 T0 N0 J0 L3 H3 S3)} {e = (mem X0 T0 N0 J0 L8 H6 S8)} _ _ (kind_off _ _ (mem X0 T0 N0 J0 L3 H3 S3) _ (c.at.ensures) (c.if-at.false)) (s_eats _ _ {x = X0} {t = T0} {n = N0} {j = J0} {l = L3} {h = H3} {l' = L6} {s = S3} {s' = S7} {e = (mem X0 T0 N0 J0 L8 H6 S8)} _ {h' = H6} (eats_settled (c.state-s3.ensures) (c.eat-got.ensures)) (s_close {e = (mem X0 T0 N0 J0 L8 H6 S8)} {x = X0} {t = T0} {n = N0} {j = J0} {l = L6} {h = H6} {s = S7} {s' = S8} {l' = L8} (c.close.ensures) s_end))))))
+    by_steps {m = (mem X0 T0 N0 J0 L0 H0 S0)} {m' = (mem X0 T0 N0 J0 L8 H6 S8)} (c.requires) (λ b. s_mark {e = (mem X0 T0 N0 J0 L8 H6 S8)} {x = X0} {t = T0} {n = N0} {j = J0} {l = L0} {h = H0} {s = S0} {s' = S2} (c.if-left-eq0.false) (c.mark-s1.ensures) (s_by {a = (mem X0 T0 N0 J0 L0 H0 S2)} {c = (mem X0 T0 N0 J0 L3 H3 S3)} {e = (mem X0 T0 N0 J0 L8 H6 S8)} _ (runs_in {a = (mem X0 T0 N0 J0 L0 H0 S2)} {c = (mem X0 T0 N0 J0 L3 H3 S3)} (c.pat_must-s2.ensures)) (s_kind {a = (mem X0 T0 N0 J0 L3 H3 S3)} {e = (mem X0 T0 N0 J0 L8 H6 S8)} (s_false {a = (mem X0 T0 N0 J0 L3 H3 S3)} {e = (mem X0 T0 N0 J0 L8 H6 S8)} _ _ (kind_off _ _ (mem X0 T0 N0 J0 L3 H3 S3) _ (c.at.ensures) (c.if-at.false)) (s_eats _ _ {x = X0} {t = T0} {n = N0} {j = J0} {l = L3} {h = H3} {l' = L6} {s = S3} {s' = S7} {e = (mem X0 T0 N0 J0 L8 H6 S8)} _ {h' = H6} (eats_settled (c.either-s3.ensures) (c.eat-got.ensures)) (s_close {e = (mem X0 T0 N0 J0 L8 H6 S8)} {x = X0} {t = T0} {n = N0} {j = J0} {l = L6} {h = H6} {s = S7} {s' = S8} {l' = L8} (c.close.ensures) s_end))))))
 
 pub pat_must-pat_prec-got-requires : goal.pat_must-pat_prec-got-requires
 pat_must-pat_prec-got-requires t c =
@@ -1396,41 +1396,41 @@ pat_must-pat_prec-got-requires t c =
 
 pub pat_must-report-requires : goal.pat_must-report-requires
 pat_must-report-requires t c =
-    let pat_prec = c.in-Missing.ensures in
+    let pat_prec = c.in-Err.ensures in
     let pat_prec_ok = pat_prec.ok in
     (pat_prec_ok.holds, (let few = pat_prec_ok.reads.few in let inside = pat_prec_ok.reads.inside in omega arith), omega arith)
 
-pub pat_must-returns-in-At : goal.pat_must-returns-in-At
+pub pat_must-returns-in-Ok : goal.pat_must-returns-in-Ok
 unfolding pat.pat_must plan choose chosen
-pat_must-returns-in-At t c =
-    let X0 = c.args.text.now in
-    let T0 = c.args.toks.now in
-    let N0 = c.args.env.now in
+pat_must-returns-in-Ok t c =
+    let X0 = c.args.lent.text.now in
+    let T0 = c.args.lent.toks.now in
+    let N0 = c.args.lent.env.now in
     let J0 = c.args.table.now in
     let L0 = c.args.scratch.now in
     let H0 = c.args.finds.now in
     let S0 = c.args.s in
     let L1 = c.pat_prec-got.new.scratch in
     let H1 = c.pat_prec-got.new.finds in
-    let S1 = c.in-At.s1 in
-    by_steps {m = (mem X0 T0 N0 J0 L0 H0 S0)} {m' = (mem X0 T0 N0 J0 L1 H1 S1)} (c.requires) (λ b. s_run {a = (mem X0 T0 N0 J0 L0 H0 S0)} {c = (mem X0 T0 N0 J0 L1 H1 S1)} {e = (mem X0 T0 N0 J0 L1 H1 S1)} (runs_in {a = (mem X0 T0 N0 J0 L0 H0 S0)} {c = (mem X0 T0 N0 J0 L1 H1 S1)} (c.in-At.ensures)) s_end)
+    let S1 = c.in-Ok.s1 in
+    by_steps {m = (mem X0 T0 N0 J0 L0 H0 S0)} {m' = (mem X0 T0 N0 J0 L1 H1 S1)} (c.requires) (λ b. s_run {a = (mem X0 T0 N0 J0 L0 H0 S0)} {c = (mem X0 T0 N0 J0 L1 H1 S1)} {e = (mem X0 T0 N0 J0 L1 H1 S1)} (runs_in {a = (mem X0 T0 N0 J0 L0 H0 S0)} {c = (mem X0 T0 N0 J0 L1 H1 S1)} (c.in-Ok.ensures)) s_end)
 
-pub pat_must-returns-in-Missing : goal.pat_must-returns-in-Missing
+pub pat_must-returns-in-Err : goal.pat_must-returns-in-Err
 unfolding pat.pat_must plan choose chosen
-pat_must-returns-in-Missing t c =
-    let X0 = c.args.text.now in
-    let T0 = c.args.toks.now in
-    let N0 = c.args.env.now in
+pat_must-returns-in-Err t c =
+    let X0 = c.args.lent.text.now in
+    let T0 = c.args.lent.toks.now in
+    let N0 = c.args.lent.env.now in
     let J0 = c.args.table.now in
     let L0 = c.args.scratch.now in
     let H0 = c.args.finds.now in
     let S0 = c.args.s in
     let L1 = c.pat_prec-got.new.scratch in
     let H1 = c.pat_prec-got.new.finds in
-    let S1 = c.in-Missing.s1 in
+    let S1 = c.in-Err.s1 in
     let H2 = c.report.new.finds in
     let S2 = c.report.result in
-    by_steps {m = (mem X0 T0 N0 J0 L0 H0 S0)} {m' = (mem X0 T0 N0 J0 L1 H2 S2)} (c.requires) (λ b. s_run {a = (mem X0 T0 N0 J0 L0 H0 S0)} {c = (mem X0 T0 N0 J0 L1 H1 S1)} {e = (mem X0 T0 N0 J0 L1 H2 S2)} (runs_in {a = (mem X0 T0 N0 J0 L0 H0 S0)} {c = (mem X0 T0 N0 J0 L1 H1 S1)} (c.in-Missing.ensures)) (s_report {e = (mem X0 T0 N0 J0 L1 H2 S2)} {x = X0} {t = T0} {n = N0} {j = J0} {l = L1} {h = H1} {s = S1} {s' = S2} {h' = H2} (c.report.ensures) s_end))
+    by_steps {m = (mem X0 T0 N0 J0 L0 H0 S0)} {m' = (mem X0 T0 N0 J0 L1 H2 S2)} (c.requires) (λ b. s_run {a = (mem X0 T0 N0 J0 L0 H0 S0)} {c = (mem X0 T0 N0 J0 L1 H1 S1)} {e = (mem X0 T0 N0 J0 L1 H2 S2)} (runs_in {a = (mem X0 T0 N0 J0 L0 H0 S0)} {c = (mem X0 T0 N0 J0 L1 H1 S1)} (c.in-Err.ensures)) (s_report {e = (mem X0 T0 N0 J0 L1 H2 S2)} {x = X0} {t = T0} {n = N0} {j = J0} {l = L1} {h = H1} {s = S1} {s' = S2} {h' = H2} (c.report.ensures) s_end))
 
 pub pat_prec-peek-requires : goal.pat_prec-peek-requires
 pat_prec-peek-requires t c =
@@ -1445,9 +1445,9 @@ pat_prec-atom-requires t c =
 pub pat_prec-returns-in_default : goal.pat_prec-returns-in_default
 unfolding root.body pat.pat_scope plan choose chosen
 pat_prec-returns-in_default t c =
-    let X0 = c.args.text.now in
-    let T0 = c.args.toks.now in
-    let N0 = c.args.env.now in
+    let X0 = c.args.lent.text.now in
+    let T0 = c.args.lent.toks.now in
+    let N0 = c.args.lent.env.now in
     let J0 = c.args.table.now in
     let L0 = c.args.scratch.now in
     let H0 = c.args.finds.now in
@@ -1469,9 +1469,9 @@ pat_prec-con-requires t c =
 pub pat_prec-returns-then-name_star : goal.pat_prec-returns-then-name_star
 unfolding root.body pat.pat_scope plan choose chosen
 pat_prec-returns-then-name_star t c =
-    let X0 = c.args.text.now in
-    let T0 = c.args.toks.now in
-    let N0 = c.args.env.now in
+    let X0 = c.args.lent.text.now in
+    let T0 = c.args.lent.toks.now in
+    let N0 = c.args.lent.env.now in
     let J0 = c.args.table.now in
     let L0 = c.args.scratch.now in
     let H0 = c.args.finds.now in
@@ -1479,7 +1479,7 @@ pat_prec-returns-then-name_star t c =
     let L4 = c.con.new.scratch in
     let H4 = c.con.new.finds in
     let S4 = out_state c.con.result in
-    by_steps {m = (mem X0 T0 N0 J0 L0 H0 S0)} {m' = (mem X0 T0 N0 J0 L4 H4 S4)} (c.requires) (λ b. s_rule {a = (mem X0 T0 N0 J0 L0 H0 S0)} {e = (mem X0 T0 N0 J0 L4 H4 S4)} (s_look {a = (mem X0 T0 N0 J0 L0 H0 S0)} {e = (mem X0 T0 N0 J0 L4 H4 S4)} (c.in-Kind.ensures) (s_true {a = (mem X0 T0 N0 J0 L0 H0 S0)} {e = (mem X0 T0 N0 J0 L4 H4 S4)} _ _ (test_true (c.name_star.ensures) (c.if-name_star.true)) (s_by {a = (mem X0 T0 N0 J0 L0 H0 S0)} {c = (mem X0 T0 N0 J0 L4 H4 S4)} {e = (mem X0 T0 N0 J0 L4 H4 S4)} _ (c.con.ensures) s_end))))
+    by_steps {m = (mem X0 T0 N0 J0 L0 H0 S0)} {m' = (mem X0 T0 N0 J0 L4 H4 S4)} (c.requires) (λ b. s_rule {a = (mem X0 T0 N0 J0 L0 H0 S0)} {e = (mem X0 T0 N0 J0 L4 H4 S4)} (s_look {a = (mem X0 T0 N0 J0 L0 H0 S0)} {e = (mem X0 T0 N0 J0 L4 H4 S4)} (c.in-Some.ensures) (s_true {a = (mem X0 T0 N0 J0 L0 H0 S0)} {e = (mem X0 T0 N0 J0 L4 H4 S4)} _ _ (test_true (c.name_star.ensures) (c.if-name_star.true)) (s_by {a = (mem X0 T0 N0 J0 L0 H0 S0)} {c = (mem X0 T0 N0 J0 L4 H4 S4)} {e = (mem X0 T0 N0 J0 L4 H4 S4)} _ (c.con.ensures) s_end))))
 
 pub pat_prec-peek_n-requires : goal.pat_prec-peek_n-requires
 pat_prec-peek_n-requires t c =
@@ -1494,9 +1494,9 @@ pat_prec-atom-requires-in_default-peek_n t c =
 pub pat_prec-returns-in_default-peek_n : goal.pat_prec-returns-in_default-peek_n
 unfolding root.body pat.pat_scope plan choose chosen
 pat_prec-returns-in_default-peek_n t c =
-    let X0 = c.args.text.now in
-    let T0 = c.args.toks.now in
-    let N0 = c.args.env.now in
+    let X0 = c.args.lent.text.now in
+    let T0 = c.args.lent.toks.now in
+    let N0 = c.args.lent.env.now in
     let J0 = c.args.table.now in
     let L0 = c.args.scratch.now in
     let H0 = c.args.finds.now in
@@ -1504,7 +1504,7 @@ pat_prec-returns-in_default-peek_n t c =
     let L6 = c.atom-in_default-peek_n.new.scratch in
     let H6 = c.atom-in_default-peek_n.new.finds in
     let S6 = out_state c.atom-in_default-peek_n.result in
-    by_steps {m = (mem X0 T0 N0 J0 L0 H0 S0)} {m' = (mem X0 T0 N0 J0 L6 H6 S6)} (c.requires) (λ b. s_rule {a = (mem X0 T0 N0 J0 L0 H0 S0)} {e = (mem X0 T0 N0 J0 L6 H6 S6)} (s_look {a = (mem X0 T0 N0 J0 L0 H0 S0)} {e = (mem X0 T0 N0 J0 L6 H6 S6)} (c.in-Kind.ensures) (s_false {a = (mem X0 T0 N0 J0 L0 H0 S0)} {e = (mem X0 T0 N0 J0 L6 H6 S6)} _ _ (test_false (c.name_star.ensures) (c.if-name_star.false)) (s_true {a = (mem X0 T0 N0 J0 L0 H0 S0)} {e = (mem X0 T0 N0 J0 L6 H6 S6)} _ _ (kind_is (c.if-k-eq-OP_KW.true)) (s_look {a = (mem X0 T0 N0 J0 L0 H0 S0)} {e = (mem X0 T0 N0 J0 L6 H6 S6)} (c.in_default-peek_n.ensures) (s_by {a = (mem X0 T0 N0 J0 L0 H0 S0)} {c = (mem X0 T0 N0 J0 L6 H6 S6)} {e = (mem X0 T0 N0 J0 L6 H6 S6)} _ (c.atom-in_default-peek_n.ensures) s_end))))))
+    by_steps {m = (mem X0 T0 N0 J0 L0 H0 S0)} {m' = (mem X0 T0 N0 J0 L6 H6 S6)} (c.requires) (λ b. s_rule {a = (mem X0 T0 N0 J0 L0 H0 S0)} {e = (mem X0 T0 N0 J0 L6 H6 S6)} (s_look {a = (mem X0 T0 N0 J0 L0 H0 S0)} {e = (mem X0 T0 N0 J0 L6 H6 S6)} (c.in-Some.ensures) (s_false {a = (mem X0 T0 N0 J0 L0 H0 S0)} {e = (mem X0 T0 N0 J0 L6 H6 S6)} _ _ (test_false (c.name_star.ensures) (c.if-name_star.false)) (s_true {a = (mem X0 T0 N0 J0 L0 H0 S0)} {e = (mem X0 T0 N0 J0 L6 H6 S6)} _ _ (kind_is (c.if-k-eq-OP_KW.true)) (s_look {a = (mem X0 T0 N0 J0 L0 H0 S0)} {e = (mem X0 T0 N0 J0 L6 H6 S6)} (c.in_default-peek_n.ensures) (s_by {a = (mem X0 T0 N0 J0 L0 H0 S0)} {c = (mem X0 T0 N0 J0 L6 H6 S6)} {e = (mem X0 T0 N0 J0 L6 H6 S6)} _ (c.atom-in_default-peek_n.ensures) s_end))))))
 
 pub pat_prec-name_star-requires-then-k-eq-OP_KW : goal.pat_prec-name_star-requires-then-k-eq-OP_KW
 pat_prec-name_star-requires-then-k-eq-OP_KW t c =
@@ -1518,9 +1518,9 @@ pat_prec-con-requires-then-name_star-2 t c =
 pub pat_prec-returns-then-name_star-2 : goal.pat_prec-returns-then-name_star-2
 unfolding root.body pat.pat_scope plan choose chosen
 pat_prec-returns-then-name_star-2 t c =
-    let X0 = c.args.text.now in
-    let T0 = c.args.toks.now in
-    let N0 = c.args.env.now in
+    let X0 = c.args.lent.text.now in
+    let T0 = c.args.lent.toks.now in
+    let N0 = c.args.lent.env.now in
     let J0 = c.args.table.now in
     let L0 = c.args.scratch.now in
     let H0 = c.args.finds.now in
@@ -1528,7 +1528,7 @@ pat_prec-returns-then-name_star-2 t c =
     let L8 = c.con-then-name_star-2.new.scratch in
     let H8 = c.con-then-name_star-2.new.finds in
     let S8 = out_state c.con-then-name_star-2.result in
-    by_steps {m = (mem X0 T0 N0 J0 L0 H0 S0)} {m' = (mem X0 T0 N0 J0 L8 H8 S8)} (c.requires) (λ b. s_rule {a = (mem X0 T0 N0 J0 L0 H0 S0)} {e = (mem X0 T0 N0 J0 L8 H8 S8)} (s_look {a = (mem X0 T0 N0 J0 L0 H0 S0)} {e = (mem X0 T0 N0 J0 L8 H8 S8)} (c.in-Kind.ensures) (s_false {a = (mem X0 T0 N0 J0 L0 H0 S0)} {e = (mem X0 T0 N0 J0 L8 H8 S8)} _ _ (test_false (c.name_star.ensures) (c.if-name_star.false)) (s_true {a = (mem X0 T0 N0 J0 L0 H0 S0)} {e = (mem X0 T0 N0 J0 L8 H8 S8)} _ _ (kind_is (c.if-k-eq-OP_KW.true)) (s_look {a = (mem X0 T0 N0 J0 L0 H0 S0)} {e = (mem X0 T0 N0 J0 L8 H8 S8)} (c.in-Kind-peek_n.ensures) (s_true {a = (mem X0 T0 N0 J0 L0 H0 S0)} {e = (mem X0 T0 N0 J0 L8 H8 S8)} _ _ (test_true (c.name_star-then-k-eq-OP_KW.ensures) (c.if-name_star-2.true)) (s_by {a = (mem X0 T0 N0 J0 L0 H0 S0)} {c = (mem X0 T0 N0 J0 L8 H8 S8)} {e = (mem X0 T0 N0 J0 L8 H8 S8)} _ (c.con-then-name_star-2.ensures) s_end)))))))
+    by_steps {m = (mem X0 T0 N0 J0 L0 H0 S0)} {m' = (mem X0 T0 N0 J0 L8 H8 S8)} (c.requires) (λ b. s_rule {a = (mem X0 T0 N0 J0 L0 H0 S0)} {e = (mem X0 T0 N0 J0 L8 H8 S8)} (s_look {a = (mem X0 T0 N0 J0 L0 H0 S0)} {e = (mem X0 T0 N0 J0 L8 H8 S8)} (c.in-Some.ensures) (s_false {a = (mem X0 T0 N0 J0 L0 H0 S0)} {e = (mem X0 T0 N0 J0 L8 H8 S8)} _ _ (test_false (c.name_star.ensures) (c.if-name_star.false)) (s_true {a = (mem X0 T0 N0 J0 L0 H0 S0)} {e = (mem X0 T0 N0 J0 L8 H8 S8)} _ _ (kind_is (c.if-k-eq-OP_KW.true)) (s_look {a = (mem X0 T0 N0 J0 L0 H0 S0)} {e = (mem X0 T0 N0 J0 L8 H8 S8)} (c.in-Some-peek_n.ensures) (s_true {a = (mem X0 T0 N0 J0 L0 H0 S0)} {e = (mem X0 T0 N0 J0 L8 H8 S8)} _ _ (test_true (c.name_star-then-k-eq-OP_KW.ensures) (c.if-name_star-2.true)) (s_by {a = (mem X0 T0 N0 J0 L0 H0 S0)} {c = (mem X0 T0 N0 J0 L8 H8 S8)} {e = (mem X0 T0 N0 J0 L8 H8 S8)} _ (c.con-then-name_star-2.ensures) s_end)))))))
 
 pub pat_prec-atom-requires-then-k-eq-OP_KW : goal.pat_prec-atom-requires-then-k-eq-OP_KW
 pat_prec-atom-requires-then-k-eq-OP_KW t c =
@@ -1538,9 +1538,9 @@ pat_prec-atom-requires-then-k-eq-OP_KW t c =
 pub pat_prec-returns-then-k-eq-OP_KW : goal.pat_prec-returns-then-k-eq-OP_KW
 unfolding root.body pat.pat_scope plan choose chosen
 pat_prec-returns-then-k-eq-OP_KW t c =
-    let X0 = c.args.text.now in
-    let T0 = c.args.toks.now in
-    let N0 = c.args.env.now in
+    let X0 = c.args.lent.text.now in
+    let T0 = c.args.lent.toks.now in
+    let N0 = c.args.lent.env.now in
     let J0 = c.args.table.now in
     let L0 = c.args.scratch.now in
     let H0 = c.args.finds.now in
@@ -1548,7 +1548,7 @@ pat_prec-returns-then-k-eq-OP_KW t c =
     let L8 = c.atom-then-k-eq-OP_KW.new.scratch in
     let H8 = c.atom-then-k-eq-OP_KW.new.finds in
     let S8 = out_state c.atom-then-k-eq-OP_KW.result in
-    by_steps {m = (mem X0 T0 N0 J0 L0 H0 S0)} {m' = (mem X0 T0 N0 J0 L8 H8 S8)} (c.requires) (λ b. s_rule {a = (mem X0 T0 N0 J0 L0 H0 S0)} {e = (mem X0 T0 N0 J0 L8 H8 S8)} (s_look {a = (mem X0 T0 N0 J0 L0 H0 S0)} {e = (mem X0 T0 N0 J0 L8 H8 S8)} (c.in-Kind.ensures) (s_false {a = (mem X0 T0 N0 J0 L0 H0 S0)} {e = (mem X0 T0 N0 J0 L8 H8 S8)} _ _ (test_false (c.name_star.ensures) (c.if-name_star.false)) (s_true {a = (mem X0 T0 N0 J0 L0 H0 S0)} {e = (mem X0 T0 N0 J0 L8 H8 S8)} _ _ (kind_is (c.if-k-eq-OP_KW.true)) (s_look {a = (mem X0 T0 N0 J0 L0 H0 S0)} {e = (mem X0 T0 N0 J0 L8 H8 S8)} (c.in-Kind-peek_n.ensures) (s_false {a = (mem X0 T0 N0 J0 L0 H0 S0)} {e = (mem X0 T0 N0 J0 L8 H8 S8)} _ _ (test_false (c.name_star-then-k-eq-OP_KW.ensures) (c.if-name_star-2.false)) (s_by {a = (mem X0 T0 N0 J0 L0 H0 S0)} {c = (mem X0 T0 N0 J0 L8 H8 S8)} {e = (mem X0 T0 N0 J0 L8 H8 S8)} _ (c.atom-then-k-eq-OP_KW.ensures) s_end)))))))
+    by_steps {m = (mem X0 T0 N0 J0 L0 H0 S0)} {m' = (mem X0 T0 N0 J0 L8 H8 S8)} (c.requires) (λ b. s_rule {a = (mem X0 T0 N0 J0 L0 H0 S0)} {e = (mem X0 T0 N0 J0 L8 H8 S8)} (s_look {a = (mem X0 T0 N0 J0 L0 H0 S0)} {e = (mem X0 T0 N0 J0 L8 H8 S8)} (c.in-Some.ensures) (s_false {a = (mem X0 T0 N0 J0 L0 H0 S0)} {e = (mem X0 T0 N0 J0 L8 H8 S8)} _ _ (test_false (c.name_star.ensures) (c.if-name_star.false)) (s_true {a = (mem X0 T0 N0 J0 L0 H0 S0)} {e = (mem X0 T0 N0 J0 L8 H8 S8)} _ _ (kind_is (c.if-k-eq-OP_KW.true)) (s_look {a = (mem X0 T0 N0 J0 L0 H0 S0)} {e = (mem X0 T0 N0 J0 L8 H8 S8)} (c.in-Some-peek_n.ensures) (s_false {a = (mem X0 T0 N0 J0 L0 H0 S0)} {e = (mem X0 T0 N0 J0 L8 H8 S8)} _ _ (test_false (c.name_star-then-k-eq-OP_KW.ensures) (c.if-name_star-2.false)) (s_by {a = (mem X0 T0 N0 J0 L0 H0 S0)} {c = (mem X0 T0 N0 J0 L8 H8 S8)} {e = (mem X0 T0 N0 J0 L8 H8 S8)} _ (c.atom-then-k-eq-OP_KW.ensures) s_end)))))))
 
 pub pat_prec-atom-requires-2 : goal.pat_prec-atom-requires-2
 pat_prec-atom-requires-2 t c =
@@ -1558,9 +1558,9 @@ pat_prec-atom-requires-2 t c =
 pub pat_prec-returns : goal.pat_prec-returns
 unfolding root.body pat.pat_scope plan choose chosen
 pat_prec-returns t c =
-    let X0 = c.args.text.now in
-    let T0 = c.args.toks.now in
-    let N0 = c.args.env.now in
+    let X0 = c.args.lent.text.now in
+    let T0 = c.args.lent.toks.now in
+    let N0 = c.args.lent.env.now in
     let J0 = c.args.table.now in
     let L0 = c.args.scratch.now in
     let H0 = c.args.finds.now in
@@ -1568,7 +1568,7 @@ pat_prec-returns t c =
     let L5 = c.atom-2.new.scratch in
     let H5 = c.atom-2.new.finds in
     let S5 = out_state c.atom-2.result in
-    by_steps {m = (mem X0 T0 N0 J0 L0 H0 S0)} {m' = (mem X0 T0 N0 J0 L5 H5 S5)} (c.requires) (λ b. s_rule {a = (mem X0 T0 N0 J0 L0 H0 S0)} {e = (mem X0 T0 N0 J0 L5 H5 S5)} (s_look {a = (mem X0 T0 N0 J0 L0 H0 S0)} {e = (mem X0 T0 N0 J0 L5 H5 S5)} (c.in-Kind.ensures) (s_false {a = (mem X0 T0 N0 J0 L0 H0 S0)} {e = (mem X0 T0 N0 J0 L5 H5 S5)} _ _ (test_false (c.name_star.ensures) (c.if-name_star.false)) (s_false {a = (mem X0 T0 N0 J0 L0 H0 S0)} {e = (mem X0 T0 N0 J0 L5 H5 S5)} _ _ (kind_not (c.if-k-eq-OP_KW.false)) (s_by {a = (mem X0 T0 N0 J0 L0 H0 S0)} {c = (mem X0 T0 N0 J0 L5 H5 S5)} {e = (mem X0 T0 N0 J0 L5 H5 S5)} _ (c.atom-2.ensures) s_end)))))
+    by_steps {m = (mem X0 T0 N0 J0 L0 H0 S0)} {m' = (mem X0 T0 N0 J0 L5 H5 S5)} (c.requires) (λ b. s_rule {a = (mem X0 T0 N0 J0 L0 H0 S0)} {e = (mem X0 T0 N0 J0 L5 H5 S5)} (s_look {a = (mem X0 T0 N0 J0 L0 H0 S0)} {e = (mem X0 T0 N0 J0 L5 H5 S5)} (c.in-Some.ensures) (s_false {a = (mem X0 T0 N0 J0 L0 H0 S0)} {e = (mem X0 T0 N0 J0 L5 H5 S5)} _ _ (test_false (c.name_star.ensures) (c.if-name_star.false)) (s_false {a = (mem X0 T0 N0 J0 L0 H0 S0)} {e = (mem X0 T0 N0 J0 L5 H5 S5)} _ _ (kind_not (c.if-k-eq-OP_KW.false)) (s_by {a = (mem X0 T0 N0 J0 L0 H0 S0)} {c = (mem X0 T0 N0 J0 L5 H5 S5)} {e = (mem X0 T0 N0 J0 L5 H5 S5)} _ (c.atom-2.ensures) s_end)))))
 
 pub rest-bump-s1-requires : goal.rest-bump-s1-requires
 rest-bump-s1-requires t c =
@@ -1592,9 +1592,9 @@ rest-close-requires t c =
 pub rest-returns-then-k-eq-LCURLY : goal.rest-returns-then-k-eq-LCURLY
 unfolding pat.at_pat_rest util.end_sep plan choose chosen
 rest-returns-then-k-eq-LCURLY t c =
-    let X0 = c.args.text.now in
-    let T0 = c.args.toks.now in
-    let N0 = c.args.env.now in
+    let X0 = c.args.lent.text.now in
+    let T0 = c.args.lent.toks.now in
+    let N0 = c.args.lent.env.now in
     let J0 = c.args.table.now in
     let L0 = c.args.scratch.now in
     let H0 = c.args.finds.now in
@@ -1624,9 +1624,9 @@ rest-at_round-requires t c =
 pub rest-returns-then-k-eq-LROUND : goal.rest-returns-then-k-eq-LROUND
 unfolding pat.at_pat_rest util.end_sep plan choose chosen
 rest-returns-then-k-eq-LROUND t c =
-    let X0 = c.args.text.now in
-    let T0 = c.args.toks.now in
-    let N0 = c.args.env.now in
+    let X0 = c.args.lent.text.now in
+    let T0 = c.args.lent.toks.now in
+    let N0 = c.args.lent.env.now in
     let J0 = c.args.table.now in
     let L0 = c.args.scratch.now in
     let H0 = c.args.finds.now in
@@ -1660,9 +1660,9 @@ rest-close-requires-then-k-eq-LSQUARE t c =
 pub rest-returns-then-k-eq-LSQUARE : goal.rest-returns-then-k-eq-LSQUARE
 unfolding pat.at_pat_rest util.end_sep plan choose chosen
 rest-returns-then-k-eq-LSQUARE t c =
-    let X0 = c.args.text.now in
-    let T0 = c.args.toks.now in
-    let N0 = c.args.env.now in
+    let X0 = c.args.lent.text.now in
+    let T0 = c.args.lent.toks.now in
+    let N0 = c.args.lent.env.now in
     let J0 = c.args.table.now in
     let L0 = c.args.scratch.now in
     let H0 = c.args.finds.now in
@@ -1698,9 +1698,9 @@ rest-close-requires-then-k-eq-HASH t c =
 pub rest-returns-then-k-eq-HASH : goal.rest-returns-then-k-eq-HASH
 unfolding pat.at_pat_rest util.end_sep plan choose chosen
 rest-returns-then-k-eq-HASH t c =
-    let X0 = c.args.text.now in
-    let T0 = c.args.toks.now in
-    let N0 = c.args.env.now in
+    let X0 = c.args.lent.text.now in
+    let T0 = c.args.lent.toks.now in
+    let N0 = c.args.lent.env.now in
     let J0 = c.args.table.now in
     let L0 = c.args.scratch.now in
     let H0 = c.args.finds.now in
@@ -1731,9 +1731,9 @@ row-refuse-requires t c =
 pub row-returns-then-left-eq0 : goal.row-returns-then-left-eq0
 unfolding pat.pat_row plan choose chosen hushed
 row-returns-then-left-eq0 t c =
-    let X0 = c.args.text.now in
-    let T0 = c.args.toks.now in
-    let N0 = c.args.env.now in
+    let X0 = c.args.lent.text.now in
+    let T0 = c.args.lent.toks.now in
+    let N0 = c.args.lent.env.now in
     let J0 = c.args.table.now in
     let L0 = c.args.scratch.now in
     let H0 = c.args.finds.now in
@@ -1771,9 +1771,9 @@ row-close-requires t c =
 pub row-returns-then-at : goal.row-returns-then-at
 unfolding pat.pat_row plan choose chosen
 row-returns-then-at t c =
-    let X0 = c.args.text.now in
-    let T0 = c.args.toks.now in
-    let N0 = c.args.env.now in
+    let X0 = c.args.lent.text.now in
+    let T0 = c.args.lent.toks.now in
+    let N0 = c.args.lent.env.now in
     let J0 = c.args.table.now in
     let L0 = c.args.scratch.now in
     let H0 = c.args.finds.now in
@@ -1808,8 +1808,8 @@ row-eat-got-requires t c =
     let lab_ok = ok_eats lab mark_ok in
     (lab_ok.reads, lab_ok.logs, lab_ok.holds, omega arith)
 
-pub row-state-s3-requires : goal.row-state-s3-requires
-row-state-s3-requires t c =
+pub row-either-s3-requires : goal.row-either-s3-requires
+row-either-s3-requires t c =
     tt
 
 pub row-pat_must-s4-requires : goal.row-pat_must-s4-requires
@@ -1821,9 +1821,9 @@ row-pat_must-s4-requires t c =
     let lab_ok = ok_eats lab mark_ok in
     let eat = c.eat-got.ensures in
     let eat_ok = ok_eats eat lab_ok in
-    let state = c.state-s3.ensures in
-    let state_ok = ok_state state eat_ok in
-    (omega arith, state_ok)
+    let either = c.either-s3.ensures in
+    let either_ok = ok_state either eat_ok in
+    (omega arith, either_ok)
 
 pub row-close-requires-then-at_n : goal.row-close-requires-then-at_n
 row-close-requires-then-at_n t c =
@@ -1837,9 +1837,9 @@ row-close-requires-then-at_n t c =
 pub row-returns-then-at_n : goal.row-returns-then-at_n
 unfolding pat.pat_row plan choose chosen
 row-returns-then-at_n t c =
-    let X0 = c.args.text.now in
-    let T0 = c.args.toks.now in
-    let N0 = c.args.env.now in
+    let X0 = c.args.lent.text.now in
+    let T0 = c.args.lent.toks.now in
+    let N0 = c.args.lent.env.now in
     let J0 = c.args.table.now in
     let L0 = c.args.scratch.now in
     let H0 = c.args.finds.now in
@@ -1850,13 +1850,13 @@ row-returns-then-at_n t c =
     let S7 = c.lab-s2.result in
     let L8 = c.eat-got.new.scratch in
     let H8 = c.eat-got.new.finds in
-    let S9 = c.state-s3.result in
+    let S9 = c.either-s3.result in
     let L10 = c.pat_must-s4.new.scratch in
     let H10 = c.pat_must-s4.new.finds in
     let S10 = c.pat_must-s4.result in
     let L11 = c.close-then-at_n.new.scratch in
     let S11 = c.close-then-at_n.result in
-    by_steps {m = (mem X0 T0 N0 J0 L0 H0 S0)} {m' = (mem X0 T0 N0 J0 L11 H10 S11)} (c.requires) (λ b. s_mark {e = (mem X0 T0 N0 J0 L11 H10 S11)} {x = X0} {t = T0} {n = N0} {j = J0} {l = L0} {h = H0} {s = S0} {s' = S2} (c.if-left-eq0.false) (c.mark-s1.ensures) (s_kind {a = (mem X0 T0 N0 J0 L0 H0 S2)} {e = (mem X0 T0 N0 J0 L11 H10 S11)} (s_false {a = (mem X0 T0 N0 J0 L0 H0 S2)} {e = (mem X0 T0 N0 J0 L11 H10 S11)} _ _ (kind_off _ _ (mem X0 T0 N0 J0 L0 H0 S2) _ (c.at.ensures) (c.if-at.false)) (s_kind {a = (mem X0 T0 N0 J0 L0 H0 S2)} {e = (mem X0 T0 N0 J0 L11 H10 S11)} (s_true {a = (mem X0 T0 N0 J0 L0 H0 S2)} {e = (mem X0 T0 N0 J0 L11 H10 S11)} _ _ (kind_at _ _ (mem X0 T0 N0 J0 L0 H0 S2) _ (c.at_n.ensures) (c.if-at_n.true)) (s_eats _ _ {x = X0} {t = T0} {n = N0} {j = J0} {l = L0} {h = H0} {l' = L7} {s = S2} {s' = S7} {e = (mem X0 T0 N0 J0 L11 H10 S11)} _ {h' = H7} (c.lab-s2.ensures) (s_eats _ _ {x = X0} {t = T0} {n = N0} {j = J0} {l = L7} {h = H7} {l' = L8} {s = S7} {s' = S9} {e = (mem X0 T0 N0 J0 L11 H10 S11)} _ {h' = H8} (eats_settled (c.state-s3.ensures) (c.eat-got.ensures)) (s_by {a = (mem X0 T0 N0 J0 L8 H8 S9)} {c = (mem X0 T0 N0 J0 L10 H10 S10)} {e = (mem X0 T0 N0 J0 L11 H10 S11)} _ (runs_in {a = (mem X0 T0 N0 J0 L8 H8 S9)} {c = (mem X0 T0 N0 J0 L10 H10 S10)} (c.pat_must-s4.ensures)) (s_close {e = (mem X0 T0 N0 J0 L11 H10 S11)} {x = X0} {t = T0} {n = N0} {j = J0} {l = L10} {h = H10} {s = S10} {s' = S11} {l' = L11} (c.close-then-at_n.ensures) s_end)))))))))
+    by_steps {m = (mem X0 T0 N0 J0 L0 H0 S0)} {m' = (mem X0 T0 N0 J0 L11 H10 S11)} (c.requires) (λ b. s_mark {e = (mem X0 T0 N0 J0 L11 H10 S11)} {x = X0} {t = T0} {n = N0} {j = J0} {l = L0} {h = H0} {s = S0} {s' = S2} (c.if-left-eq0.false) (c.mark-s1.ensures) (s_kind {a = (mem X0 T0 N0 J0 L0 H0 S2)} {e = (mem X0 T0 N0 J0 L11 H10 S11)} (s_false {a = (mem X0 T0 N0 J0 L0 H0 S2)} {e = (mem X0 T0 N0 J0 L11 H10 S11)} _ _ (kind_off _ _ (mem X0 T0 N0 J0 L0 H0 S2) _ (c.at.ensures) (c.if-at.false)) (s_kind {a = (mem X0 T0 N0 J0 L0 H0 S2)} {e = (mem X0 T0 N0 J0 L11 H10 S11)} (s_true {a = (mem X0 T0 N0 J0 L0 H0 S2)} {e = (mem X0 T0 N0 J0 L11 H10 S11)} _ _ (kind_at _ _ (mem X0 T0 N0 J0 L0 H0 S2) _ (c.at_n.ensures) (c.if-at_n.true)) (s_eats _ _ {x = X0} {t = T0} {n = N0} {j = J0} {l = L0} {h = H0} {l' = L7} {s = S2} {s' = S7} {e = (mem X0 T0 N0 J0 L11 H10 S11)} _ {h' = H7} (c.lab-s2.ensures) (s_eats _ _ {x = X0} {t = T0} {n = N0} {j = J0} {l = L7} {h = H7} {l' = L8} {s = S7} {s' = S9} {e = (mem X0 T0 N0 J0 L11 H10 S11)} _ {h' = H8} (eats_settled (c.either-s3.ensures) (c.eat-got.ensures)) (s_by {a = (mem X0 T0 N0 J0 L8 H8 S9)} {c = (mem X0 T0 N0 J0 L10 H10 S10)} {e = (mem X0 T0 N0 J0 L11 H10 S11)} _ (runs_in {a = (mem X0 T0 N0 J0 L8 H8 S9)} {c = (mem X0 T0 N0 J0 L10 H10 S10)} (c.pat_must-s4.ensures)) (s_close {e = (mem X0 T0 N0 J0 L11 H10 S11)} {x = X0} {t = T0} {n = N0} {j = J0} {l = L10} {h = H10} {s = S10} {s' = S11} {l' = L11} (c.close-then-at_n.ensures) s_end)))))))))
 
 pub row-eat_name_star-name-requires : goal.row-eat_name_star-name-requires
 row-eat_name_star-name-requires t c =
@@ -1865,8 +1865,8 @@ row-eat_name_star-name-requires t c =
     let mark_ok = ok_marks mark pre0 in
     (mark_ok.reads, mark_ok.logs, mark_ok.holds)
 
-pub row-state-s2-requires : goal.row-state-s2-requires
-row-state-s2-requires t c =
+pub row-either-s2-requires : goal.row-either-s2-requires
+row-either-s2-requires t c =
     tt
 
 pub row-ty_annotation-ty-requires : goal.row-ty_annotation-ty-requires
@@ -1876,24 +1876,24 @@ row-ty_annotation-ty-requires t c =
     let mark_ok = ok_marks mark pre0 in
     let eat_name_star = c.eat_name_star-name.ensures in
     let eat_name_star_ok = ok_eats eat_name_star mark_ok in
-    let state2 = c.state-s2.ensures in
-    let state2_ok = ok_state state2 eat_name_star_ok in
-    state2_ok
+    let either2 = c.either-s2.ensures in
+    let either2_ok = ok_state either2 eat_name_star_ok in
+    either2_ok
 
-pub row-state-s3-requires-2 : goal.row-state-s3-requires-2
-row-state-s3-requires-2 t c =
+pub row-either-s3-requires-2 : goal.row-either-s3-requires-2
+row-either-s3-requires-2 t c =
     tt
 
 pub row-as_pat_tl-more-requires : goal.row-as_pat_tl-more-requires
 row-as_pat_tl-more-requires t c =
     let ty_annotation = c.ty_annotation-ty.ensures in
     let ty_annotation_ok = ty_annotation.ok in
-    let state3 = c.state-s3-2.ensures in
-    let state3_ok = ok_state state3 ty_annotation_ok in
-    (omega arith, state3_ok)
+    let either3 = c.either-s3-2.ensures in
+    let either3_ok = ok_state either3 ty_annotation_ok in
+    (omega arith, either3_ok)
 
-pub row-state-s4-requires : goal.row-state-s4-requires
-row-state-s4-requires t c =
+pub row-either-s4-requires : goal.row-either-s4-requires
+row-either-s4-requires t c =
     tt
 
 pub row-close-requires-2 : goal.row-close-requires-2
@@ -1903,16 +1903,16 @@ row-close-requires-2 t c =
     let mark_ok = ok_marks mark pre0 in
     let as_pat_tl = c.as_pat_tl-more.ensures in
     let as_pat_tl_ok = as_pat_tl.ok in
-    let state4 = c.state-s4.ensures in
-    let state4_ok = ok_state state4 as_pat_tl_ok in
-    (state4_ok.logs, small_len mark_ok)
+    let either4 = c.either-s4.ensures in
+    let either4_ok = ok_state either4 as_pat_tl_ok in
+    (either4_ok.logs, small_len mark_ok)
 
 pub row-returns : goal.row-returns
 unfolding pat.pat_row plan choose chosen
 row-returns t c =
-    let X0 = c.args.text.now in
-    let T0 = c.args.toks.now in
-    let N0 = c.args.env.now in
+    let X0 = c.args.lent.text.now in
+    let T0 = c.args.lent.toks.now in
+    let N0 = c.args.lent.env.now in
     let J0 = c.args.table.now in
     let L0 = c.args.scratch.now in
     let H0 = c.args.finds.now in
@@ -1920,18 +1920,18 @@ row-returns t c =
     let S2 = c.mark-s1.result in
     let L7 = c.eat_name_star-name.new.scratch in
     let H7 = c.eat_name_star-name.new.finds in
-    let S8 = c.state-s2.result in
+    let S8 = c.either-s2.result in
     let L9 = c.ty_annotation-ty.new.scratch in
     let H9 = c.ty_annotation-ty.new.finds in
     let S9 = out_state c.ty_annotation-ty.result in
-    let S10 = c.state-s3-2.result in
+    let S10 = c.either-s3-2.result in
     let L11 = c.as_pat_tl-more.new.scratch in
     let H11 = c.as_pat_tl-more.new.finds in
     let S11 = out_state c.as_pat_tl-more.result in
-    let S12 = c.state-s4.result in
+    let S12 = c.either-s4.result in
     let L13 = c.close-2.new.scratch in
     let S13 = c.close-2.result in
-    by_steps {m = (mem X0 T0 N0 J0 L0 H0 S0)} {m' = (mem X0 T0 N0 J0 L13 H11 S13)} (c.requires) (λ b. s_mark {e = (mem X0 T0 N0 J0 L13 H11 S13)} {x = X0} {t = T0} {n = N0} {j = J0} {l = L0} {h = H0} {s = S0} {s' = S2} (c.if-left-eq0.false) (c.mark-s1.ensures) (s_kind {a = (mem X0 T0 N0 J0 L0 H0 S2)} {e = (mem X0 T0 N0 J0 L13 H11 S13)} (s_false {a = (mem X0 T0 N0 J0 L0 H0 S2)} {e = (mem X0 T0 N0 J0 L13 H11 S13)} _ _ (kind_off _ _ (mem X0 T0 N0 J0 L0 H0 S2) _ (c.at.ensures) (c.if-at.false)) (s_kind {a = (mem X0 T0 N0 J0 L0 H0 S2)} {e = (mem X0 T0 N0 J0 L13 H11 S13)} (s_false {a = (mem X0 T0 N0 J0 L0 H0 S2)} {e = (mem X0 T0 N0 J0 L13 H11 S13)} _ _ (kind_off _ _ (mem X0 T0 N0 J0 L0 H0 S2) _ (c.at_n.ensures) (c.if-at_n.false)) (s_eats _ _ {x = X0} {t = T0} {n = N0} {j = J0} {l = L0} {h = H0} {l' = L7} {s = S2} {s' = S8} {e = (mem X0 T0 N0 J0 L13 H11 S13)} _ {h' = H7} (eats_settled (c.state-s2.ensures) (c.eat_name_star-name.ensures)) (s_by {a = (mem X0 T0 N0 J0 L7 H7 S8)} {c = (mem X0 T0 N0 J0 L9 H9 S10)} {e = (mem X0 T0 N0 J0 L13 H11 S13)} _ (settled (c.state-s3-2.ensures) (runs_in {a = (mem X0 T0 N0 J0 L7 H7 S8)} {c = (mem X0 T0 N0 J0 L9 H9 S9)} (c.ty_annotation-ty.ensures))) (s_by {a = (mem X0 T0 N0 J0 L9 H9 S10)} {c = (mem X0 T0 N0 J0 L11 H11 S12)} {e = (mem X0 T0 N0 J0 L13 H11 S13)} _ (settled (c.state-s4.ensures) (runs_in {a = (mem X0 T0 N0 J0 L9 H9 S10)} {c = (mem X0 T0 N0 J0 L11 H11 S11)} (c.as_pat_tl-more.ensures))) (s_close {e = (mem X0 T0 N0 J0 L13 H11 S13)} {x = X0} {t = T0} {n = N0} {j = J0} {l = L11} {h = H11} {s = S12} {s' = S13} {l' = L13} (c.close-2.ensures) s_end)))))))))
+    by_steps {m = (mem X0 T0 N0 J0 L0 H0 S0)} {m' = (mem X0 T0 N0 J0 L13 H11 S13)} (c.requires) (λ b. s_mark {e = (mem X0 T0 N0 J0 L13 H11 S13)} {x = X0} {t = T0} {n = N0} {j = J0} {l = L0} {h = H0} {s = S0} {s' = S2} (c.if-left-eq0.false) (c.mark-s1.ensures) (s_kind {a = (mem X0 T0 N0 J0 L0 H0 S2)} {e = (mem X0 T0 N0 J0 L13 H11 S13)} (s_false {a = (mem X0 T0 N0 J0 L0 H0 S2)} {e = (mem X0 T0 N0 J0 L13 H11 S13)} _ _ (kind_off _ _ (mem X0 T0 N0 J0 L0 H0 S2) _ (c.at.ensures) (c.if-at.false)) (s_kind {a = (mem X0 T0 N0 J0 L0 H0 S2)} {e = (mem X0 T0 N0 J0 L13 H11 S13)} (s_false {a = (mem X0 T0 N0 J0 L0 H0 S2)} {e = (mem X0 T0 N0 J0 L13 H11 S13)} _ _ (kind_off _ _ (mem X0 T0 N0 J0 L0 H0 S2) _ (c.at_n.ensures) (c.if-at_n.false)) (s_eats _ _ {x = X0} {t = T0} {n = N0} {j = J0} {l = L0} {h = H0} {l' = L7} {s = S2} {s' = S8} {e = (mem X0 T0 N0 J0 L13 H11 S13)} _ {h' = H7} (eats_settled (c.either-s2.ensures) (c.eat_name_star-name.ensures)) (s_by {a = (mem X0 T0 N0 J0 L7 H7 S8)} {c = (mem X0 T0 N0 J0 L9 H9 S10)} {e = (mem X0 T0 N0 J0 L13 H11 S13)} _ (settled (c.either-s3-2.ensures) (runs_in {a = (mem X0 T0 N0 J0 L7 H7 S8)} {c = (mem X0 T0 N0 J0 L9 H9 S9)} (c.ty_annotation-ty.ensures))) (s_by {a = (mem X0 T0 N0 J0 L9 H9 S10)} {c = (mem X0 T0 N0 J0 L11 H11 S12)} {e = (mem X0 T0 N0 J0 L13 H11 S13)} _ (settled (c.either-s4.ensures) (runs_in {a = (mem X0 T0 N0 J0 L9 H9 S10)} {c = (mem X0 T0 N0 J0 L11 H11 S11)} (c.as_pat_tl-more.ensures))) (s_close {e = (mem X0 T0 N0 J0 L13 H11 S13)} {x = X0} {t = T0} {n = N0} {j = J0} {l = L11} {h = H11} {s = S12} {s' = S13} {l' = L13} (c.close-2.ensures) s_end)))))))))
 
 pub row_item-refuse-requires : goal.row_item-refuse-requires
 row_item-refuse-requires t c =
@@ -1940,9 +1940,9 @@ row_item-refuse-requires t c =
 pub row_item-returns-then-left-eq0 : goal.row_item-returns-then-left-eq0
 unfolding util.end_item plan choose chosen hushed
 row_item-returns-then-left-eq0 t c =
-    let X0 = c.args.text.now in
-    let T0 = c.args.toks.now in
-    let N0 = c.args.env.now in
+    let X0 = c.args.lent.text.now in
+    let T0 = c.args.lent.toks.now in
+    let N0 = c.args.lent.env.now in
     let J0 = c.args.table.now in
     let L0 = c.args.scratch.now in
     let H0 = c.args.finds.now in
@@ -1987,9 +1987,9 @@ row_item-close-requires t c =
 pub row_item-returns-then-at : goal.row_item-returns-then-at
 unfolding util.end_item plan choose chosen
 row_item-returns-then-at t c =
-    let X0 = c.args.text.now in
-    let T0 = c.args.toks.now in
-    let N0 = c.args.env.now in
+    let X0 = c.args.lent.text.now in
+    let T0 = c.args.lent.toks.now in
+    let N0 = c.args.lent.env.now in
     let J0 = c.args.table.now in
     let L0 = c.args.scratch.now in
     let H0 = c.args.finds.now in
@@ -2016,9 +2016,9 @@ row_item-close-requires-2 t c =
 pub row_item-returns : goal.row_item-returns
 unfolding util.end_item plan choose chosen
 row_item-returns t c =
-    let X0 = c.args.text.now in
-    let T0 = c.args.toks.now in
-    let N0 = c.args.env.now in
+    let X0 = c.args.lent.text.now in
+    let T0 = c.args.lent.toks.now in
+    let N0 = c.args.lent.env.now in
     let J0 = c.args.table.now in
     let L0 = c.args.scratch.now in
     let H0 = c.args.finds.now in
@@ -2044,9 +2044,9 @@ row_turn-bump-requires t c =
 pub row_turn-returns-then-at : goal.row_turn-returns-then-at
 unfolding util.end_turn plan choose chosen
 row_turn-returns-then-at t c =
-    let X0 = c.args.text.now in
-    let T0 = c.args.toks.now in
-    let N0 = c.args.env.now in
+    let X0 = c.args.lent.text.now in
+    let T0 = c.args.lent.toks.now in
+    let N0 = c.args.lent.env.now in
     let J0 = c.args.table.now in
     let L0 = c.args.scratch.now in
     let H0 = c.args.finds.now in
@@ -2062,46 +2062,46 @@ row_turn-row_item-item-requires t c =
 
 pub row_turn-eat-got-requires : goal.row_turn-eat-got-requires
 row_turn-eat-got-requires t c =
-    let row_item = c.in-Missing.ensures in
+    let row_item = c.in-Err.ensures in
     let row_item_ok = row_item.ok in
     (row_item_ok.reads, row_item_ok.logs, row_item_ok.holds, omega arith)
 
-pub row_turn-state-s2-requires : goal.row_turn-state-s2-requires
-row_turn-state-s2-requires t c =
+pub row_turn-either-s2-requires : goal.row_turn-either-s2-requires
+row_turn-either-s2-requires t c =
     tt
 
-pub row_turn-returns-in-At : goal.row_turn-returns-in-At
+pub row_turn-returns-in-Ok : goal.row_turn-returns-in-Ok
 unfolding util.end_turn plan choose chosen
-row_turn-returns-in-At t c =
-    let X0 = c.args.text.now in
-    let T0 = c.args.toks.now in
-    let N0 = c.args.env.now in
+row_turn-returns-in-Ok t c =
+    let X0 = c.args.lent.text.now in
+    let T0 = c.args.lent.toks.now in
+    let N0 = c.args.lent.env.now in
     let J0 = c.args.table.now in
     let L0 = c.args.scratch.now in
     let H0 = c.args.finds.now in
     let S0 = c.args.s in
     let L3 = c.row_item-item.new.scratch in
     let H3 = c.row_item-item.new.finds in
-    let S3 = c.in-At.s1 in
-    by_steps {m = (mem X0 T0 N0 J0 L0 H0 S0)} {m' = (mem X0 T0 N0 J0 L3 H3 S3)} (c.requires) (λ b. s_kind {a = (mem X0 T0 N0 J0 L0 H0 S0)} {e = (mem X0 T0 N0 J0 L3 H3 S3)} (s_false {a = (mem X0 T0 N0 J0 L0 H0 S0)} {e = (mem X0 T0 N0 J0 L3 H3 S3)} _ _ (kind_off _ _ (mem X0 T0 N0 J0 L0 H0 S0) _ (c.at.ensures) (c.if-at.false)) (s_by {a = (mem X0 T0 N0 J0 L0 H0 S0)} {c = (mem X0 T0 N0 J0 L3 H3 S3)} {e = (mem X0 T0 N0 J0 L3 H3 S3)} _ (runs_in {a = (mem X0 T0 N0 J0 L0 H0 S0)} {c = (mem X0 T0 N0 J0 L3 H3 S3)} (c.in-At.ensures)) s_end)))
+    let S3 = c.in-Ok.s1 in
+    by_steps {m = (mem X0 T0 N0 J0 L0 H0 S0)} {m' = (mem X0 T0 N0 J0 L3 H3 S3)} (c.requires) (λ b. s_kind {a = (mem X0 T0 N0 J0 L0 H0 S0)} {e = (mem X0 T0 N0 J0 L3 H3 S3)} (s_false {a = (mem X0 T0 N0 J0 L0 H0 S0)} {e = (mem X0 T0 N0 J0 L3 H3 S3)} _ _ (kind_off _ _ (mem X0 T0 N0 J0 L0 H0 S0) _ (c.at.ensures) (c.if-at.false)) (s_by {a = (mem X0 T0 N0 J0 L0 H0 S0)} {c = (mem X0 T0 N0 J0 L3 H3 S3)} {e = (mem X0 T0 N0 J0 L3 H3 S3)} _ (runs_in {a = (mem X0 T0 N0 J0 L0 H0 S0)} {c = (mem X0 T0 N0 J0 L3 H3 S3)} (c.in-Ok.ensures)) s_end)))
 
-pub row_turn-returns-in-Missing : goal.row_turn-returns-in-Missing
+pub row_turn-returns-in-Err : goal.row_turn-returns-in-Err
 unfolding util.end_turn plan choose chosen
-row_turn-returns-in-Missing t c =
-    let X0 = c.args.text.now in
-    let T0 = c.args.toks.now in
-    let N0 = c.args.env.now in
+row_turn-returns-in-Err t c =
+    let X0 = c.args.lent.text.now in
+    let T0 = c.args.lent.toks.now in
+    let N0 = c.args.lent.env.now in
     let J0 = c.args.table.now in
     let L0 = c.args.scratch.now in
     let H0 = c.args.finds.now in
     let S0 = c.args.s in
     let L3 = c.row_item-item.new.scratch in
     let H3 = c.row_item-item.new.finds in
-    let S3 = c.in-Missing.s1 in
+    let S3 = c.in-Err.s1 in
     let L4 = c.eat-got.new.scratch in
     let H4 = c.eat-got.new.finds in
-    let S5 = c.state-s2.result in
-    by_steps {m = (mem X0 T0 N0 J0 L0 H0 S0)} {m' = (mem X0 T0 N0 J0 L4 H4 S5)} (c.requires) (λ b. s_kind {a = (mem X0 T0 N0 J0 L0 H0 S0)} {e = (mem X0 T0 N0 J0 L4 H4 S5)} (s_false {a = (mem X0 T0 N0 J0 L0 H0 S0)} {e = (mem X0 T0 N0 J0 L4 H4 S5)} _ _ (kind_off _ _ (mem X0 T0 N0 J0 L0 H0 S0) _ (c.at.ensures) (c.if-at.false)) (s_by {a = (mem X0 T0 N0 J0 L0 H0 S0)} {c = (mem X0 T0 N0 J0 L3 H3 S3)} {e = (mem X0 T0 N0 J0 L4 H4 S5)} _ (runs_in {a = (mem X0 T0 N0 J0 L0 H0 S0)} {c = (mem X0 T0 N0 J0 L3 H3 S3)} (c.in-Missing.ensures)) (s_eats _ _ {x = X0} {t = T0} {n = N0} {j = J0} {l = L3} {h = H3} {l' = L4} {s = S3} {s' = S5} {e = (mem X0 T0 N0 J0 L4 H4 S5)} _ {h' = H4} (eats_settled (c.state-s2.ensures) (c.eat-got.ensures)) s_end))))
+    let S5 = c.either-s2.result in
+    by_steps {m = (mem X0 T0 N0 J0 L0 H0 S0)} {m' = (mem X0 T0 N0 J0 L4 H4 S5)} (c.requires) (λ b. s_kind {a = (mem X0 T0 N0 J0 L0 H0 S0)} {e = (mem X0 T0 N0 J0 L4 H4 S5)} (s_false {a = (mem X0 T0 N0 J0 L0 H0 S0)} {e = (mem X0 T0 N0 J0 L4 H4 S5)} _ _ (kind_off _ _ (mem X0 T0 N0 J0 L0 H0 S0) _ (c.at.ensures) (c.if-at.false)) (s_by {a = (mem X0 T0 N0 J0 L0 H0 S0)} {c = (mem X0 T0 N0 J0 L3 H3 S3)} {e = (mem X0 T0 N0 J0 L4 H4 S5)} _ (runs_in {a = (mem X0 T0 N0 J0 L0 H0 S0)} {c = (mem X0 T0 N0 J0 L3 H3 S3)} (c.in-Err.ensures)) (s_eats _ _ {x = X0} {t = T0} {n = N0} {j = J0} {l = L3} {h = H3} {l' = L4} {s = S3} {s' = S5} {e = (mem X0 T0 N0 J0 L4 H4 S5)} _ {h' = H4} (eats_settled (c.either-s2.ensures) (c.eat-got.ensures)) s_end))))
 
 pub rows-loop-s2-init : goal.rows-loop-s2-init
 rows-loop-s2-init t c =
@@ -2115,19 +2115,19 @@ rows-row_turn-turn-requires t c =
 
 pub rows-loop-s2-smaller : goal.rows-loop-s2-smaller
 rows-loop-s2-smaller t c =
-    let row_turn = c.in-At.ensures in
+    let row_turn = c.in-Ok.ensures in
     loop_falls (end_turn_advances true _ _ _ _ _ _) (runs_in {b = 0} row_turn)
 
 pub rows-loop-s2-preserved : goal.rows-loop-s2-preserved
 rows-loop-s2-preserved t c =
     let inv = c.loop-s2.invariant in
-    let row_turn = c.in-At.ensures in
+    let row_turn = c.in-Ok.ensures in
     loop_goes (end_turn_advances true _ _ _ _ _ _) inv (runs_in row_turn)
 
-pub rows-returns-in-Missing : goal.rows-returns-in-Missing
-rows-returns-in-Missing t c =
+pub rows-returns-in-Err : goal.rows-returns-in-Err
+rows-returns-in-Err t c =
     let inv = c.loop-s2.invariant in
-    let row_turn = c.in-Missing.ensures in
+    let row_turn = c.in-Err.ensures in
     loop_ends (end_turn_advances true _ _ _ _ _ _) inv (runs_in row_turn)
 
 pub step-peek-requires : goal.step-peek-requires
@@ -2138,9 +2138,9 @@ step-peek-requires t c =
 pub step-returns-in_default : goal.step-returns-in_default
 unfolding pat.pat_step plan choose chosen
 step-returns-in_default t c =
-    let X0 = c.args.text.now in
-    let T0 = c.args.toks.now in
-    let N0 = c.args.env.now in
+    let X0 = c.args.lent.text.now in
+    let T0 = c.args.lent.toks.now in
+    let N0 = c.args.lent.env.now in
     let J0 = c.args.table.now in
     let L0 = c.args.scratch.now in
     let H0 = c.args.finds.now in
@@ -2160,9 +2160,9 @@ step-op_step-requires t c =
 pub step-returns-then-name_star : goal.step-returns-then-name_star
 unfolding pat.pat_step plan choose chosen
 step-returns-then-name_star t c =
-    let X0 = c.args.text.now in
-    let T0 = c.args.toks.now in
-    let N0 = c.args.env.now in
+    let X0 = c.args.lent.text.now in
+    let T0 = c.args.lent.toks.now in
+    let N0 = c.args.lent.env.now in
     let J0 = c.args.table.now in
     let L0 = c.args.scratch.now in
     let H0 = c.args.finds.now in
@@ -2170,7 +2170,7 @@ step-returns-then-name_star t c =
     let L4 = c.op_step.new.scratch in
     let H4 = c.op_step.new.finds in
     let S4 = out_state c.op_step.result in
-    in_steps {m = (mem X0 T0 N0 J0 L0 H0 S0)} {m' = (mem X0 T0 N0 J0 L4 H4 S4)} (c.requires.0) (s_look {a = (mem X0 T0 N0 J0 L0 H0 S0)} {e = (mem X0 T0 N0 J0 L4 H4 S4)} (c.in-Kind.ensures) (s_true {a = (mem X0 T0 N0 J0 L0 H0 S0)} {e = (mem X0 T0 N0 J0 L4 H4 S4)} _ _ (test_true (c.name_star.ensures) (c.if-name_star.true)) (s_by {a = (mem X0 T0 N0 J0 L0 H0 S0)} {c = (mem X0 T0 N0 J0 L4 H4 S4)} {e = (mem X0 T0 N0 J0 L4 H4 S4)} _ (c.op_step.ensures) s_end)))
+    in_steps {m = (mem X0 T0 N0 J0 L0 H0 S0)} {m' = (mem X0 T0 N0 J0 L4 H4 S4)} (c.requires.0) (s_look {a = (mem X0 T0 N0 J0 L0 H0 S0)} {e = (mem X0 T0 N0 J0 L4 H4 S4)} (c.in-Some.ensures) (s_true {a = (mem X0 T0 N0 J0 L0 H0 S0)} {e = (mem X0 T0 N0 J0 L4 H4 S4)} _ _ (test_true (c.name_star.ensures) (c.if-name_star.true)) (s_by {a = (mem X0 T0 N0 J0 L0 H0 S0)} {c = (mem X0 T0 N0 J0 L4 H4 S4)} {e = (mem X0 T0 N0 J0 L4 H4 S4)} _ (c.op_step.ensures) s_end)))
 
 pub step-or_step-requires : goal.step-or_step-requires
 step-or_step-requires t c =
@@ -2181,9 +2181,9 @@ step-or_step-requires t c =
 pub step-returns-then-k-eq-BAR : goal.step-returns-then-k-eq-BAR
 unfolding pat.pat_step plan choose chosen
 step-returns-then-k-eq-BAR t c =
-    let X0 = c.args.text.now in
-    let T0 = c.args.toks.now in
-    let N0 = c.args.env.now in
+    let X0 = c.args.lent.text.now in
+    let T0 = c.args.lent.toks.now in
+    let N0 = c.args.lent.env.now in
     let J0 = c.args.table.now in
     let L0 = c.args.scratch.now in
     let H0 = c.args.finds.now in
@@ -2191,7 +2191,7 @@ step-returns-then-k-eq-BAR t c =
     let L5 = c.or_step.new.scratch in
     let H5 = c.or_step.new.finds in
     let S5 = out_state c.or_step.result in
-    in_steps {m = (mem X0 T0 N0 J0 L0 H0 S0)} {m' = (mem X0 T0 N0 J0 L5 H5 S5)} (c.requires.0) (s_look {a = (mem X0 T0 N0 J0 L0 H0 S0)} {e = (mem X0 T0 N0 J0 L5 H5 S5)} (c.in-Kind.ensures) (s_false {a = (mem X0 T0 N0 J0 L0 H0 S0)} {e = (mem X0 T0 N0 J0 L5 H5 S5)} _ _ (test_false (c.name_star.ensures) (c.if-name_star.false)) (s_true {a = (mem X0 T0 N0 J0 L0 H0 S0)} {e = (mem X0 T0 N0 J0 L5 H5 S5)} _ _ (kind_is (c.if-k-eq-BAR.true)) (s_by {a = (mem X0 T0 N0 J0 L0 H0 S0)} {c = (mem X0 T0 N0 J0 L5 H5 S5)} {e = (mem X0 T0 N0 J0 L5 H5 S5)} _ (c.or_step.ensures) s_end))))
+    in_steps {m = (mem X0 T0 N0 J0 L0 H0 S0)} {m' = (mem X0 T0 N0 J0 L5 H5 S5)} (c.requires.0) (s_look {a = (mem X0 T0 N0 J0 L0 H0 S0)} {e = (mem X0 T0 N0 J0 L5 H5 S5)} (c.in-Some.ensures) (s_false {a = (mem X0 T0 N0 J0 L0 H0 S0)} {e = (mem X0 T0 N0 J0 L5 H5 S5)} _ _ (test_false (c.name_star.ensures) (c.if-name_star.false)) (s_true {a = (mem X0 T0 N0 J0 L0 H0 S0)} {e = (mem X0 T0 N0 J0 L5 H5 S5)} _ _ (kind_is (c.if-k-eq-BAR.true)) (s_by {a = (mem X0 T0 N0 J0 L0 H0 S0)} {c = (mem X0 T0 N0 J0 L5 H5 S5)} {e = (mem X0 T0 N0 J0 L5 H5 S5)} _ (c.or_step.ensures) s_end))))
 
 pub step-ascription-requires : goal.step-ascription-requires
 step-ascription-requires t c =
@@ -2206,9 +2206,9 @@ step-typed_step-requires t c =
 pub step-returns-then-ascription : goal.step-returns-then-ascription
 unfolding pat.pat_step plan choose chosen
 step-returns-then-ascription t c =
-    let X0 = c.args.text.now in
-    let T0 = c.args.toks.now in
-    let N0 = c.args.env.now in
+    let X0 = c.args.lent.text.now in
+    let T0 = c.args.lent.toks.now in
+    let N0 = c.args.lent.env.now in
     let J0 = c.args.table.now in
     let L0 = c.args.scratch.now in
     let H0 = c.args.finds.now in
@@ -2216,7 +2216,7 @@ step-returns-then-ascription t c =
     let L7 = c.typed_step.new.scratch in
     let H7 = c.typed_step.new.finds in
     let S7 = out_state c.typed_step.result in
-    in_steps {m = (mem X0 T0 N0 J0 L0 H0 S0)} {m' = (mem X0 T0 N0 J0 L7 H7 S7)} (c.requires.0) (s_look {a = (mem X0 T0 N0 J0 L0 H0 S0)} {e = (mem X0 T0 N0 J0 L7 H7 S7)} (c.in-Kind.ensures) (s_false {a = (mem X0 T0 N0 J0 L0 H0 S0)} {e = (mem X0 T0 N0 J0 L7 H7 S7)} _ _ (test_false (c.name_star.ensures) (c.if-name_star.false)) (s_false {a = (mem X0 T0 N0 J0 L0 H0 S0)} {e = (mem X0 T0 N0 J0 L7 H7 S7)} _ _ (kind_not (c.if-k-eq-BAR.false)) (s_true {a = (mem X0 T0 N0 J0 L0 H0 S0)} {e = (mem X0 T0 N0 J0 L7 H7 S7)} _ _ (test_true (c.ascription.ensures) (c.if-ascription.true)) (s_by {a = (mem X0 T0 N0 J0 L0 H0 S0)} {c = (mem X0 T0 N0 J0 L7 H7 S7)} {e = (mem X0 T0 N0 J0 L7 H7 S7)} _ (c.typed_step.ensures) s_end)))))
+    in_steps {m = (mem X0 T0 N0 J0 L0 H0 S0)} {m' = (mem X0 T0 N0 J0 L7 H7 S7)} (c.requires.0) (s_look {a = (mem X0 T0 N0 J0 L0 H0 S0)} {e = (mem X0 T0 N0 J0 L7 H7 S7)} (c.in-Some.ensures) (s_false {a = (mem X0 T0 N0 J0 L0 H0 S0)} {e = (mem X0 T0 N0 J0 L7 H7 S7)} _ _ (test_false (c.name_star.ensures) (c.if-name_star.false)) (s_false {a = (mem X0 T0 N0 J0 L0 H0 S0)} {e = (mem X0 T0 N0 J0 L7 H7 S7)} _ _ (kind_not (c.if-k-eq-BAR.false)) (s_true {a = (mem X0 T0 N0 J0 L0 H0 S0)} {e = (mem X0 T0 N0 J0 L7 H7 S7)} _ _ (test_true (c.ascription.ensures) (c.if-ascription.true)) (s_by {a = (mem X0 T0 N0 J0 L0 H0 S0)} {c = (mem X0 T0 N0 J0 L7 H7 S7)} {e = (mem X0 T0 N0 J0 L7 H7 S7)} _ (c.typed_step.ensures) s_end)))))
 
 pub step-as_step-requires : goal.step-as_step-requires
 step-as_step-requires t c =
@@ -2227,9 +2227,9 @@ step-as_step-requires t c =
 pub step-returns-then-k-eq-AS_KW : goal.step-returns-then-k-eq-AS_KW
 unfolding pat.pat_step plan choose chosen
 step-returns-then-k-eq-AS_KW t c =
-    let X0 = c.args.text.now in
-    let T0 = c.args.toks.now in
-    let N0 = c.args.env.now in
+    let X0 = c.args.lent.text.now in
+    let T0 = c.args.lent.toks.now in
+    let N0 = c.args.lent.env.now in
     let J0 = c.args.table.now in
     let L0 = c.args.scratch.now in
     let H0 = c.args.finds.now in
@@ -2237,19 +2237,19 @@ step-returns-then-k-eq-AS_KW t c =
     let L8 = c.as_step.new.scratch in
     let H8 = c.as_step.new.finds in
     let S8 = out_state c.as_step.result in
-    in_steps {m = (mem X0 T0 N0 J0 L0 H0 S0)} {m' = (mem X0 T0 N0 J0 L8 H8 S8)} (c.requires.0) (s_look {a = (mem X0 T0 N0 J0 L0 H0 S0)} {e = (mem X0 T0 N0 J0 L8 H8 S8)} (c.in-Kind.ensures) (s_false {a = (mem X0 T0 N0 J0 L0 H0 S0)} {e = (mem X0 T0 N0 J0 L8 H8 S8)} _ _ (test_false (c.name_star.ensures) (c.if-name_star.false)) (s_false {a = (mem X0 T0 N0 J0 L0 H0 S0)} {e = (mem X0 T0 N0 J0 L8 H8 S8)} _ _ (kind_not (c.if-k-eq-BAR.false)) (s_false {a = (mem X0 T0 N0 J0 L0 H0 S0)} {e = (mem X0 T0 N0 J0 L8 H8 S8)} _ _ (test_false (c.ascription.ensures) (c.if-ascription.false)) (s_true {a = (mem X0 T0 N0 J0 L0 H0 S0)} {e = (mem X0 T0 N0 J0 L8 H8 S8)} _ _ (kind_is (c.if-k-eq-AS_KW.true)) (s_by {a = (mem X0 T0 N0 J0 L0 H0 S0)} {c = (mem X0 T0 N0 J0 L8 H8 S8)} {e = (mem X0 T0 N0 J0 L8 H8 S8)} _ (c.as_step.ensures) s_end))))))
+    in_steps {m = (mem X0 T0 N0 J0 L0 H0 S0)} {m' = (mem X0 T0 N0 J0 L8 H8 S8)} (c.requires.0) (s_look {a = (mem X0 T0 N0 J0 L0 H0 S0)} {e = (mem X0 T0 N0 J0 L8 H8 S8)} (c.in-Some.ensures) (s_false {a = (mem X0 T0 N0 J0 L0 H0 S0)} {e = (mem X0 T0 N0 J0 L8 H8 S8)} _ _ (test_false (c.name_star.ensures) (c.if-name_star.false)) (s_false {a = (mem X0 T0 N0 J0 L0 H0 S0)} {e = (mem X0 T0 N0 J0 L8 H8 S8)} _ _ (kind_not (c.if-k-eq-BAR.false)) (s_false {a = (mem X0 T0 N0 J0 L0 H0 S0)} {e = (mem X0 T0 N0 J0 L8 H8 S8)} _ _ (test_false (c.ascription.ensures) (c.if-ascription.false)) (s_true {a = (mem X0 T0 N0 J0 L0 H0 S0)} {e = (mem X0 T0 N0 J0 L8 H8 S8)} _ _ (kind_is (c.if-k-eq-AS_KW.true)) (s_by {a = (mem X0 T0 N0 J0 L0 H0 S0)} {c = (mem X0 T0 N0 J0 L8 H8 S8)} {e = (mem X0 T0 N0 J0 L8 H8 S8)} _ (c.as_step.ensures) s_end))))))
 
 pub step-returns : goal.step-returns
 unfolding pat.pat_step plan choose chosen
 step-returns t c =
-    let X0 = c.args.text.now in
-    let T0 = c.args.toks.now in
-    let N0 = c.args.env.now in
+    let X0 = c.args.lent.text.now in
+    let T0 = c.args.lent.toks.now in
+    let N0 = c.args.lent.env.now in
     let J0 = c.args.table.now in
     let L0 = c.args.scratch.now in
     let H0 = c.args.finds.now in
     let S0 = c.args.s in
-    in_steps {m = (mem X0 T0 N0 J0 L0 H0 S0)} {m' = (mem X0 T0 N0 J0 L0 H0 S0)} (c.requires.0) (s_look {a = (mem X0 T0 N0 J0 L0 H0 S0)} {e = (mem X0 T0 N0 J0 L0 H0 S0)} (c.in-Kind.ensures) (s_false {a = (mem X0 T0 N0 J0 L0 H0 S0)} {e = (mem X0 T0 N0 J0 L0 H0 S0)} _ _ (test_false (c.name_star.ensures) (c.if-name_star.false)) (s_false {a = (mem X0 T0 N0 J0 L0 H0 S0)} {e = (mem X0 T0 N0 J0 L0 H0 S0)} _ _ (kind_not (c.if-k-eq-BAR.false)) (s_false {a = (mem X0 T0 N0 J0 L0 H0 S0)} {e = (mem X0 T0 N0 J0 L0 H0 S0)} _ _ (test_false (c.ascription.ensures) (c.if-ascription.false)) (s_false {a = (mem X0 T0 N0 J0 L0 H0 S0)} {e = (mem X0 T0 N0 J0 L0 H0 S0)} _ _ (kind_not (c.if-k-eq-AS_KW.false)) s_end)))))
+    in_steps {m = (mem X0 T0 N0 J0 L0 H0 S0)} {m' = (mem X0 T0 N0 J0 L0 H0 S0)} (c.requires.0) (s_look {a = (mem X0 T0 N0 J0 L0 H0 S0)} {e = (mem X0 T0 N0 J0 L0 H0 S0)} (c.in-Some.ensures) (s_false {a = (mem X0 T0 N0 J0 L0 H0 S0)} {e = (mem X0 T0 N0 J0 L0 H0 S0)} _ _ (test_false (c.name_star.ensures) (c.if-name_star.false)) (s_false {a = (mem X0 T0 N0 J0 L0 H0 S0)} {e = (mem X0 T0 N0 J0 L0 H0 S0)} _ _ (kind_not (c.if-k-eq-BAR.false)) (s_false {a = (mem X0 T0 N0 J0 L0 H0 S0)} {e = (mem X0 T0 N0 J0 L0 H0 S0)} _ _ (test_false (c.ascription.ensures) (c.if-ascription.false)) (s_false {a = (mem X0 T0 N0 J0 L0 H0 S0)} {e = (mem X0 T0 N0 J0 L0 H0 S0)} _ _ (kind_not (c.if-k-eq-AS_KW.false)) s_end)))))
 
 pub tail-loop-s2-init : goal.tail-loop-s2-init
 tail-loop-s2-init t c =
@@ -2265,19 +2265,19 @@ tail-step-turn-requires t c =
 
 pub tail-loop-s2-smaller : goal.tail-loop-s2-smaller
 tail-loop-s2-smaller t c =
-    let step = c.in-At.ensures in
+    let step = c.in-Ok.ensures in
     loop_falls (pat_step_advances _ _ _ _) step
 
 pub tail-loop-s2-preserved : goal.tail-loop-s2-preserved
 tail-loop-s2-preserved t c =
     let inv = c.loop-s2.invariant in
-    let step = c.in-At.ensures in
+    let step = c.in-Ok.ensures in
     loop_goes (pat_step_advances _ _ _ _) inv step
 
-pub tail-returns-in-Missing : goal.tail-returns-in-Missing
-tail-returns-in-Missing t c =
+pub tail-returns-in-Err : goal.tail-returns-in-Err
+tail-returns-in-Err t c =
     let inv = c.loop-s2.invariant in
-    let step = c.in-Missing.ensures in
+    let step = c.in-Err.ensures in
     loop_ends (pat_step_advances _ _ _ _) inv step
 
 pub vector-refuse-requires : goal.vector-refuse-requires
@@ -2287,9 +2287,9 @@ vector-refuse-requires t c =
 pub vector-returns-then-left-eq0 : goal.vector-returns-then-left-eq0
 unfolding pat.vector util.end_sep plan choose chosen hushed
 vector-returns-then-left-eq0 t c =
-    let X0 = c.args.text.now in
-    let T0 = c.args.toks.now in
-    let N0 = c.args.env.now in
+    let X0 = c.args.lent.text.now in
+    let T0 = c.args.lent.toks.now in
+    let N0 = c.args.lent.env.now in
     let J0 = c.args.table.now in
     let L0 = c.args.scratch.now in
     let H0 = c.args.finds.now in
@@ -2308,8 +2308,8 @@ vector-eat-got-requires t c =
     let mark_ok = ok_marks mark pre0 in
     (mark_ok.reads, mark_ok.logs, mark_ok.holds, omega arith)
 
-pub vector-state-s2-requires : goal.vector-state-s2-requires
-vector-state-s2-requires t c =
+pub vector-either-s2-requires : goal.vector-either-s2-requires
+vector-either-s2-requires t c =
     tt
 
 pub vector-args-s3-requires : goal.vector-args-s3-requires
@@ -2319,9 +2319,9 @@ vector-args-s3-requires t c =
     let mark_ok = ok_marks mark pre0 in
     let eat = c.eat-got.ensures in
     let eat_ok = ok_eats eat mark_ok in
-    let state = c.state-s2.ensures in
-    let state_ok = ok_state state eat_ok in
-    (omega arith, (state_ok, omega arith))
+    let either = c.either-s2.ensures in
+    let either_ok = ok_state either eat_ok in
+    (omega arith, (either_ok, omega arith))
 
 pub vector-close-requires : goal.vector-close-requires
 vector-close-requires t c =
@@ -2335,9 +2335,9 @@ vector-close-requires t c =
 pub vector-returns : goal.vector-returns
 unfolding pat.vector util.end_sep plan choose chosen
 vector-returns t c =
-    let X0 = c.args.text.now in
-    let T0 = c.args.toks.now in
-    let N0 = c.args.env.now in
+    let X0 = c.args.lent.text.now in
+    let T0 = c.args.lent.toks.now in
+    let N0 = c.args.lent.env.now in
     let J0 = c.args.table.now in
     let L0 = c.args.scratch.now in
     let H0 = c.args.finds.now in
@@ -2345,10 +2345,10 @@ vector-returns t c =
     let S2 = c.mark-s1.result in
     let L3 = c.eat-got.new.scratch in
     let H3 = c.eat-got.new.finds in
-    let S4 = c.state-s2.result in
+    let S4 = c.either-s2.result in
     let L5 = c.args-s3.new.scratch in
     let H5 = c.args-s3.new.finds in
     let S5 = c.args-s3.result in
     let L6 = c.close.new.scratch in
     let S6 = c.close.result in
-    by_steps {m = (mem X0 T0 N0 J0 L0 H0 S0)} {m' = (mem X0 T0 N0 J0 L6 H5 S6)} (c.requires) (λ b. s_mark {e = (mem X0 T0 N0 J0 L6 H5 S6)} {x = X0} {t = T0} {n = N0} {j = J0} {l = L0} {h = H0} {s = S0} {s' = S2} (c.if-left-eq0.false) (c.mark-s1.ensures) (s_eats _ _ {x = X0} {t = T0} {n = N0} {j = J0} {l = L0} {h = H0} {l' = L3} {s = S2} {s' = S4} {e = (mem X0 T0 N0 J0 L6 H5 S6)} _ {h' = H3} (eats_settled (c.state-s2.ensures) (c.eat-got.ensures)) (s_run {a = (mem X0 T0 N0 J0 L3 H3 S4)} {c = (mem X0 T0 N0 J0 L5 H5 S5)} {e = (mem X0 T0 N0 J0 L6 H5 S6)} (c.args-s3.ensures) (s_close {e = (mem X0 T0 N0 J0 L6 H5 S6)} {x = X0} {t = T0} {n = N0} {j = J0} {l = L5} {h = H5} {s = S5} {s' = S6} {l' = L6} (c.close.ensures) s_end))))
+    by_steps {m = (mem X0 T0 N0 J0 L0 H0 S0)} {m' = (mem X0 T0 N0 J0 L6 H5 S6)} (c.requires) (λ b. s_mark {e = (mem X0 T0 N0 J0 L6 H5 S6)} {x = X0} {t = T0} {n = N0} {j = J0} {l = L0} {h = H0} {s = S0} {s' = S2} (c.if-left-eq0.false) (c.mark-s1.ensures) (s_eats _ _ {x = X0} {t = T0} {n = N0} {j = J0} {l = L0} {h = H0} {l' = L3} {s = S2} {s' = S4} {e = (mem X0 T0 N0 J0 L6 H5 S6)} _ {h' = H3} (eats_settled (c.either-s2.ensures) (c.eat-got.ensures)) (s_run {a = (mem X0 T0 N0 J0 L3 H3 S4)} {c = (mem X0 T0 N0 J0 L5 H5 S5)} {e = (mem X0 T0 N0 J0 L6 H5 S6)} (c.args-s3.ensures) (s_close {e = (mem X0 T0 N0 J0 L6 H5 S6)} {x = X0} {t = T0} {n = N0} {j = J0} {l = L5} {h = H5} {s = S5} {s' = S6} {l' = L6} (c.close.ensures) s_end))))

@@ -4,7 +4,7 @@ use Rattle.grammar.specs.Util as util
 use Rattle.grammar.specs.Pat as pat
 use Rattle.grammar.specs.SyntaxKind as SK
 use Rattle.pat_prec.specs.Prec.{prec_of}
-use Rattle.parser.specs.View.{mem, err_of}
+use Rattle.parser.specs.View.{mem_of, err_of}
 use Rattle.parser.specs.Runs.{Loops, turns}
 use Prim.Native.Nat.{◌*◌}
 use Prim.Native.Nat.{◌+◌}
@@ -21,10 +21,10 @@ abbrev pub decreases-args : goal.decreases-args
 decreases-args l = 64 * l.left + 2
 
 abbrev pub invariant-args-loop-s2 : goal.invariant-args-loop-s2
-invariant-args-loop-s2 l = Loops l.left l.b (util.end_turn {g = true} SK.PatArg SK.Comma l.end (pat.pat_must Prec.Min (err_of l.e))) (mem l.initial.text l.initial.toks l.initial.env l.initial.table l.initial.scratch l.initial.finds l.initial.s1) (mem l.text l.toks l.env l.table l.scratch l.finds l.s1)
+invariant-args-loop-s2 l = Loops l.left l.b (util.end_turn {g = true} SK.PatArg SK.Comma l.end (pat.pat_must Prec.Min (err_of l.e))) (mem_of l.initial.lent l.initial.table l.initial.scratch l.initial.finds l.initial.s1) (mem_of l.lent l.table l.scratch l.finds l.s1)
 
 abbrev pub decreases-args-loop-s2 : goal.decreases-args-loop-s2
-decreases-args-loop-s2 l = turns (mem l.text l.toks l.env l.table l.scratch l.finds l.s1)
+decreases-args-loop-s2 l = turns (mem_of l.lent l.table l.scratch l.finds l.s1)
 
 abbrev pub decreases-as_pat_tl : goal.decreases-as_pat_tl
 decreases-as_pat_tl l = 64 * l.left
@@ -93,10 +93,10 @@ abbrev pub decreases-rows : goal.decreases-rows
 decreases-rows l = 64 * l.left + 2
 
 abbrev pub invariant-rows-loop-s2 : goal.invariant-rows-loop-s2
-invariant-rows-loop-s2 l = Loops l.left l.b (util.end_turn {g = true} SK.PatRow SK.Comma SK.RCurly (pat.pat_row (err_of l.e))) (mem l.initial.text l.initial.toks l.initial.env l.initial.table l.initial.scratch l.initial.finds l.initial.s1) (mem l.text l.toks l.env l.table l.scratch l.finds l.s1)
+invariant-rows-loop-s2 l = Loops l.left l.b (util.end_turn {g = true} SK.PatRow SK.Comma SK.RCurly (pat.pat_row (err_of l.e))) (mem_of l.initial.lent l.initial.table l.initial.scratch l.initial.finds l.initial.s1) (mem_of l.lent l.table l.scratch l.finds l.s1)
 
 abbrev pub decreases-rows-loop-s2 : goal.decreases-rows-loop-s2
-decreases-rows-loop-s2 l = turns (mem l.text l.toks l.env l.table l.scratch l.finds l.s1)
+decreases-rows-loop-s2 l = turns (mem_of l.lent l.table l.scratch l.finds l.s1)
 
 abbrev pub decreases-step : goal.decreases-step
 decreases-step l = 64 * l.left + 2
@@ -105,10 +105,10 @@ abbrev pub decreases-tail : goal.decreases-tail
 decreases-tail l = 64 * l.left + 3
 
 abbrev pub invariant-tail-loop-s2 : goal.invariant-tail-loop-s2
-invariant-tail-loop-s2 l = Loops l.left l.b (pat.pat_step (prec_of l.min) (err_of l.e)) (mem l.initial.text l.initial.toks l.initial.env l.initial.table l.initial.scratch l.initial.finds l.initial.s1) (mem l.text l.toks l.env l.table l.scratch l.finds l.s1)
+invariant-tail-loop-s2 l = Loops l.left l.b (pat.pat_step (prec_of l.min) (err_of l.e)) (mem_of l.initial.lent l.initial.table l.initial.scratch l.initial.finds l.initial.s1) (mem_of l.lent l.table l.scratch l.finds l.s1)
 
 abbrev pub decreases-tail-loop-s2 : goal.decreases-tail-loop-s2
-decreases-tail-loop-s2 l = turns (mem l.text l.toks l.env l.table l.scratch l.finds l.s1)
+decreases-tail-loop-s2 l = turns (mem_of l.lent l.table l.scratch l.finds l.s1)
 
 abbrev pub decreases-vector : goal.decreases-vector
 decreases-vector l = 64 * l.left

@@ -13,29 +13,29 @@ should_break_pat-ends-requires c =
 pub close-requires : goal.close-requires
 close-requires c =
     let pre1 = c.requires.1 in
-    let should_break_pat = c.in-At.ensures in
+    let should_break_pat = c.in-Ok.ensures in
     let should_break_pat_ok = (should_break_pat true).ok in
     (should_break_pat_ok.logs, pre1)
 
-pub close-requires-in-Missing : goal.close-requires-in-Missing
-close-requires-in-Missing c =
+pub close-requires-in-Err : goal.close-requires-in-Err
+close-requires-in-Err c =
     let pre1 = c.requires.1 in
-    let should_break_pat = c.in-Missing.ensures in
+    let should_break_pat = c.in-Err.ensures in
     let should_break_pat_ok = (should_break_pat true).ok in
     (should_break_pat_ok.logs, pre1)
 
-pub returns-in-At : goal.returns-in-At
+pub returns-in-Ok : goal.returns-in-Ok
 unfolding pat.con_op plan choose chosen
-returns-in-At c =
+returns-in-Ok c =
     let pre0 = c.requires.0 in
-    let should_break_pat = c.in-At.ensures in
+    let should_break_pat = c.in-Ok.ensures in
     let close = c.close.ensures in
     in_steps pre0 (s_by _ (runs_always (should_break_pat _)) (s_close close s_end))
 
-pub returns-in-Missing : goal.returns-in-Missing
+pub returns-in-Err : goal.returns-in-Err
 unfolding pat.con_op plan choose chosen
-returns-in-Missing c =
+returns-in-Err c =
     let pre0 = c.requires.0 in
-    let should_break_pat = c.in-Missing.ensures in
-    let close2 = c.close-in-Missing.ensures in
+    let should_break_pat = c.in-Err.ensures in
+    let close2 = c.close-in-Err.ensures in
     in_steps pre0 (s_by _ (runs_always (should_break_pat _)) (s_close close2 s_end))

@@ -1,63 +1,68 @@
--- by hand: a loop over cases, whose invariant is its own.
-use Prim.Native.Nat.{ℕ, ◌+◌, ◌-◌, ◌≤◌}
-use native.Mathlib.Nat.{add-zero}
-use native.Mathlib.Omega.{arith}
-use mathlib.Core.Path.{◌≡◌, ap, sym, ◌∙◌}
-use mathlib.Core.Bool.{Bool}
-use Rattle.replay_parts.specs.Form.{first_case, ends_at}
-use Rattle.replay_parts.specs.Agree.{agrees_at, miss, differing}
-use Rattle.replay_parts.specs.Laws.{formed, stands, ends_fits, ends_step, differing_next, differing_none}
+-- by hand: one step of the definitions for each case.
+use Rattle.std.proofs.Common.{◌≡◌, ◌+◌, ◌-◌, ◌≤◌, true, length, take, drop, arith, sym, ap, ◌∙◌, add-zero}
+use Rattle.std.proofs.lemmas.List.{take_rest}
+use Rattle.std.proofs.lemmas.Option.{MatchOption-at_some}
+use Rattle.answers.specs.Entry.{served}
+use Rattle.replay_parts.specs.Case.{Splits, call_in, says}
+use Rattle.replay_parts.specs.Form.{first_case, fits_at, ends_at}
+use Rattle.replay_parts.specs.Agree.{miss, differing}
+use Rattle.replay_parts.specs.Shift.{ends_shift, differing_shift}
+use Rattle.replay_parts.specs.Laws.{formed, ends_fits, ends_step, differing_step, differing_none}
 use Rattle.replay.proofs.count_differing.Goals as goal
 use Rattle.replay.proofs.count_differing.Goals.{then-not-case_agrees, else-not-case_agrees}
 
-pub number-left-requires : goal.number-left-requires
-number-left-requires c = let f = formed _ c.requires in omega arith
+pub number-count-requires : goal.number-count-requires
+number-count-requires c = let f = formed _ c.requires in omega arith
 
-pub loop-left-init : goal.loop-left-init
-loop-left-init c =
+pub slice_bounds-rest-count : goal.slice_bounds-rest-count
+slice_bounds-rest-count c = let f = formed _ c.requires in omega arith
+
+pub slice_bounds-rest-start : goal.slice_bounds-rest-start
+slice_bounds-rest-start c = let f = formed _ c.requires in omega arith
+
+pub loop-init : goal.loop-init
+loop-init c =
     let list = c.args.list.now in
     let f = formed list c.requires in
-    let e = c.number-left.ensures.0 in
-    (f.counted, omega (arith, c.number-left.ensures.1), ap (λ (k : ℕ). ends_at k list first_case) e ∙ f.ends, omega (arith, ap (λ (k : ℕ). differing k list first_case) e))
+    let n = c.number-count.result in
+    let all : n - 0 ≡ n = omega arith in
+    let front = take (length list - first_case) (drop first_case list) in
+    let rest = take_rest list first_case in
+    record {
+      few = omega arith;
+      ends = ap (λ k. ends_at k front 0) all ∙ ap (λ l. ends_at n l 0) rest ∙ ends_shift first_case list f.counted n 0 ∙ ap (λ k. ends_at k list first_case) c.number-count.ensures ∙ f.ends;
+      counted = omega (arith, ap (λ k. differing k front 0) all ∙ ap (λ l. differing n l 0) rest ∙ differing_shift first_case list n 0);
+    }
 
-pub case_agrees-requires : goal.case_agrees-requires
-case_agrees-requires c =
-    let list = c.args.list.now in
-    let small = (formed list c.requires).small in
-    let k = c.loop-left.left in
-    let a = c.loop-left.at in
-    let fits = ends_fits list a k (omega arith) c.loop-left.invariant.2 in
-    stands list a small fits
+pub unwrap-requires : goal.unwrap-requires
+unwrap-requires c =
+    let there : fits_at c.loop.rest.now 0 ≡ true = ends_fits c.loop.rest.now (c.number-count.result - c.loop.counter) (omega arith) c.loop.invariant.ends in
+    grind (arith, there, c.split_case.ensures)
 
-pub case_end-at-requires : goal.case_end-at-requires
-case_end-at-requires c =
-    let list = c.args.list.now in
-    let small = (formed list c.requires).small in
-    let k = c.loop-left.left in
-    let a = c.loop-left.at in
-    let fits = ends_fits list a k (omega arith) c.loop-left.invariant.2 in
-    let s = stands list a small fits in
-    (s.head, s.small)
-
-pub loop-left-preserved : goal.loop-left-preserved
-loop-left-preserved c =
-    let list = c.args.list.now in
-    let small = (formed list c.requires).small in
-    let k = c.loop-left.left in
-    let a = c.loop-left.at in
-    let fits = ends_fits list a k (omega arith) c.loop-left.invariant.2 in
-    let s = stands list a small fits in
-    let g = c.case_agrees in
-    let n = c.loop-left.n in
-    let m : c.if-not-case_agrees.n ≡ n + miss (agrees_at list a) = elim c.if-not-case_agrees.branch [
-      | then-not-case_agrees w ↦ w.n-is ∙ ap (λ (t : Bool). n + miss t) (sym w.if-not-case_agrees.true ∙ g.ensures)
-      | else-not-case_agrees w ↦ w.n-is ∙ sym (add-zero n) ∙ ap (λ (t : Bool). n + miss t) (sym w.if-not-case_agrees.false ∙ g.ensures)
+pub loop-preserved : goal.loop-preserved
+loop-preserved c =
+    let rest = c.loop.rest.now in
+    let case = c.unwrap.result.0 in
+    let behind = c.unwrap.result.1.now in
+    let s : Splits rest case behind = MatchOption-at_some _ (λ p. Splits rest p.0 p.1.now) _ c.unwrap.ensures c.split_case.ensures in
+    let left = c.number-count.result - c.loop.counter in
+    let fewer : c.number-count.result - (c.loop.counter + 1) ≡ left - 1 = omega arith in
+    let n = c.loop.n in
+    let m : c.if-not-case_agrees.n ≡ n + miss (says case (served (call_in case))) = elim c.if-not-case_agrees.branch [
+      | then-not-case_agrees w ↦ w.n-is ∙ ap (λ t. n + miss t) (sym w.if-not-case_agrees.true ∙ c.case_agrees.ensures)
+      | else-not-case_agrees w ↦ w.n-is ∙ sym (add-zero n) ∙ ap (λ t. n + miss t) (sym w.if-not-case_agrees.false ∙ c.case_agrees.ensures)
     ] in
-    let e = c.case_end-at.ensures in
     let few : c.if-not-case_agrees.n ≤ n + 1 = elim c.if-not-case_agrees.branch [ then-not-case_agrees w ↦ omega arith | else-not-case_agrees w ↦ omega arith ] in
-    (omega (arith, s.whole, e), omega (arith, few), ap (ends_at (k - 1) list) e ∙ sym (ends_step list a fits k (omega arith)) ∙ c.loop-left.invariant.2, omega (arith, m, ap (differing (k - 1) list) e, differing_next list a k (omega arith), c.loop-left.invariant.3))
+    let step = differing_step rest case behind s left (omega arith) in
+    let moved = ap (λ k. differing k behind 0) fewer in
+    record {
+      few = omega (arith, few, c.loop.invariant.few);
+      ends = ap (λ k. ends_at k behind 0) fewer ∙ sym (ends_step rest case behind s left (omega arith)) ∙ c.loop.invariant.ends;
+      counted = omega (arith, m, moved, step, c.loop.invariant.counted);
+    }
 
 pub returns : goal.returns
 returns c =
     let list = c.args.list.now in
-    omega (arith, differing_none list c.loop-left.at c.loop-left.left (omega arith), c.loop-left.invariant.3)
+    let none = differing_none c.loop.rest.now (c.number-count.result - c.loop.counter) (omega arith) in
+    omega (arith, none, c.loop.invariant.counted, ap (λ k. differing k list first_case) c.number-count.ensures)

@@ -1,5 +1,5 @@
 -- by hand: the list has a number in front, by the test of its form.
-use native.Mathlib.Omega.{arith}
+use Rattle.std.proofs.Common.{arith}
 use Rattle.replay_parts.specs.Laws.{formed}
 use Rattle.replay.proofs.replay.Goals as goal
 

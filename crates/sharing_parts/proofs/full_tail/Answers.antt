@@ -9,8 +9,8 @@ sharings-more-requires c =
     let pre0 = c.requires.0 in
     pre0
 
-pub state-s1-requires : goal.state-s1-requires
-state-s1-requires c =
+pub either-s1-requires : goal.either-s1-requires
+either-s1-requires c =
     tt
 
 pub close-requires : goal.close-requires
@@ -18,15 +18,15 @@ close-requires c =
     let pre1 = c.requires.1 in
     let sharings = c.sharings-more.ensures in
     let sharings_ok = sharings.ok in
-    let state = c.state-s1.ensures in
-    let state_ok = ok_state state sharings_ok in
-    (state_ok.logs, pre1)
+    let either = c.either-s1.ensures in
+    let either_ok = ok_state either sharings_ok in
+    (either_ok.logs, pre1)
 
 pub returns : goal.returns
 unfolding decl.full_tail plan choose chosen
 returns c =
     let pre0 = c.requires.0 in
     let sharings = c.sharings-more.ensures in
-    let state = c.state-s1.ensures in
+    let either = c.either-s1.ensures in
     let close = c.close.ensures in
-    in_steps pre0 (s_by _ (settled state sharings) (s_close close s_end))
+    in_steps pre0 (s_by _ (settled either sharings) (s_close close s_end))

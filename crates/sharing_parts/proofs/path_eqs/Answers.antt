@@ -36,24 +36,24 @@ path_must-item-requires c =
     let mark_ok = ok_marks mark inv in
     mark_ok
 
-pub returns-in-Missing : goal.returns-in-Missing
+pub returns-in-Err : goal.returns-in-Err
 unfolding util.many_turn plan choose chosen
-returns-in-Missing c =
+returns-in-Err c =
     let inv = c.loop-s1.invariant in
     let if1 = c.if-left-eq0.false in
     let mark = c.mark-s2.ensures in
-    let path_must = c.in-Missing.ensures in
+    let path_must = c.in-Err.ensures in
     loop_ends (many_turn_advances true SK.Eq SK.PathEq util.path_must _ _) inv (in_steps inv.ok {n = c.args.left} {b = c.args.b} (s_mark if1 mark (s_by _ (runs_in path_must) s_end)))
 
 pub at-requires : goal.at-requires
 at-requires c =
-    let path_must = c.in-At.ensures in
+    let path_must = c.in-Ok.ensures in
     let path_must_ok = path_must.ok in
     path_must_ok.reads
 
 pub bump-s4-requires : goal.bump-s4-requires
 bump-s4-requires c =
-    let path_must = c.in-At.ensures in
+    let path_must = c.in-Ok.ensures in
     let path_must_ok = path_must.ok in
     (path_must_ok.reads, path_must_ok.logs)
 
@@ -62,7 +62,7 @@ close-s1-requires c =
     let inv = c.loop-s1.invariant.ok in
     let mark = c.mark-s2.ensures in
     let mark_ok = ok_marks mark inv in
-    let path_must = c.in-At.ensures in
+    let path_must = c.in-Ok.ensures in
     let path_must_ok = path_must.ok in
     let bump = c.bump-s4.ensures in
     let bump_ok = ok_bumps bump path_must_ok in
@@ -74,7 +74,7 @@ loop-s1-smaller c =
     let inv = c.loop-s1.invariant in
     let if1 = c.if-left-eq0.false in
     let mark = c.mark-s2.ensures in
-    let path_must = c.in-At.ensures in
+    let path_must = c.in-Ok.ensures in
     let at = c.at.ensures in
     let if2 = c.if-at.true in
     let bump = c.bump-s4.ensures in
@@ -87,7 +87,7 @@ loop-s1-preserved c =
     let inv = c.loop-s1.invariant in
     let if1 = c.if-left-eq0.false in
     let mark = c.mark-s2.ensures in
-    let path_must = c.in-At.ensures in
+    let path_must = c.in-Ok.ensures in
     let at = c.at.ensures in
     let if2 = c.if-at.true in
     let bump = c.bump-s4.ensures in
@@ -99,17 +99,17 @@ close-requires c =
     let inv = c.loop-s1.invariant.ok in
     let mark = c.mark-s2.ensures in
     let mark_ok = ok_marks mark inv in
-    let path_must = c.in-At.ensures in
+    let path_must = c.in-Ok.ensures in
     let path_must_ok = path_must.ok in
     (path_must_ok.logs, small_len mark_ok)
 
-pub returns-in-At : goal.returns-in-At
+pub returns-in-Ok : goal.returns-in-Ok
 unfolding util.many_turn plan choose chosen
-returns-in-At c =
+returns-in-Ok c =
     let inv = c.loop-s1.invariant in
     let if1 = c.if-left-eq0.false in
     let mark = c.mark-s2.ensures in
-    let path_must = c.in-At.ensures in
+    let path_must = c.in-Ok.ensures in
     let at = c.at.ensures in
     let if2 = c.if-at.false in
     let close2 = c.close.ensures in

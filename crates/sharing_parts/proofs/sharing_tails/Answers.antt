@@ -16,17 +16,17 @@ sharing_turn-turn-requires c =
 
 pub loop-s2-smaller : goal.loop-s2-smaller
 loop-s2-smaller c =
-    let sharing_turn = c.in-At.ensures in
+    let sharing_turn = c.in-Ok.ensures in
     loop_falls (sharing_advances true _ _) (runs_in {b = 0} sharing_turn)
 
 pub loop-s2-preserved : goal.loop-s2-preserved
 loop-s2-preserved c =
     let inv = c.loop-s2.invariant in
-    let sharing_turn = c.in-At.ensures in
+    let sharing_turn = c.in-Ok.ensures in
     loop_goes (sharing_advances true _ _) inv (runs_in sharing_turn)
 
-pub returns-in-Missing : goal.returns-in-Missing
-returns-in-Missing c =
+pub returns-in-Err : goal.returns-in-Err
+returns-in-Err c =
     let inv = c.loop-s2.invariant in
-    let sharing_turn = c.in-Missing.ensures in
+    let sharing_turn = c.in-Err.ensures in
     loop_ends (sharing_advances true _ _) inv (runs_in sharing_turn)

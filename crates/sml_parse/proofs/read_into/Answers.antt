@@ -3,22 +3,22 @@ use mathlib.Core.Path.{◌∙◌}
 use Rattle.sml_parse.proofs.Whole.{was_grown, was_refused, was_handed}
 use Rattle.sml_parse.proofs.read_into.Goals as goal
 
-pub returns-then-end-ne0 : goal.returns-then-end-ne0
-returns-then-end-ne0 c =
+pub returns-in-Some : goal.returns-in-Some
+returns-in-Some c =
     let a = c.args in
     let r = c.root-end in
     c.refuse_all.ensures
-    ∙ was_refused a.text.now a.toks.now a.env.now a.depth a.mode a.scratch.now a.nodes.now a.finds.now a.last.now _ _ c.start_state-s.ensures.1 r.ensures r.auto.scratch r.auto.finds c.if-end-ne0.true
+    ∙ was_refused a.lent.text.now a.lent.toks.now a.lent.env.now a.depth a.mode a.scratch.now a.nodes.now a.finds.now a.last.now _ _ c.start_state-s.ensures.1 r.ensures r.auto.scratch r.auto.finds c.in-Some.why c.in-Some.is
 
 pub hand_out-requires : goal.hand_out-requires
 hand_out-requires c =
     let a = c.args in
     let r = c.root-end in
-    (r.ensures.ok, was_grown a.text.now a.toks.now a.env.now a.depth a.mode a.scratch.now a.nodes.now a.finds.now a.last.now _ _ c.start_state-s.ensures.1 r.ensures c.if-end-ne0.false)
+    (r.ensures.ok, was_grown a.lent.text.now a.lent.toks.now a.lent.env.now a.depth a.mode a.scratch.now a.nodes.now a.finds.now a.last.now _ _ c.start_state-s.ensures.1 r.ensures c.in_default.is)
 
 pub returns : goal.returns
 returns c =
     let a = c.args in
     let r = c.root-end in
     c.hand_out.ensures
-    ∙ was_handed a.text.now a.toks.now a.env.now a.depth a.mode a.scratch.now a.nodes.now a.finds.now a.last.now _ _ c.start_state-s.ensures.1 r.ensures r.auto.scratch r.auto.finds c.if-end-ne0.false
+    ∙ was_handed a.lent.text.now a.lent.toks.now a.lent.env.now a.depth a.mode a.scratch.now a.nodes.now a.finds.now a.last.now _ _ c.start_state-s.ensures.1 r.ensures r.auto.scratch r.auto.finds c.in_default.is

@@ -19,6 +19,6 @@ read_short-requires c =
 pub returns : goal.returns
 returns c =
     let a = c.args in
-    let k = call_of a.text.now a.toks.now a.env.now a.depth a.mode a.scratch.now a.nodes.now a.finds.now a.last.now in
+    let k = call_of a.lent.text.now a.lent.toks.now a.lent.env.now a.depth a.mode a.scratch.now a.nodes.now a.finds.now a.last.now in
     let l = length-take-le a.n c.clear.new.b (omega (arith, c.clear.auto.b)) in
-    part_cleared k a.n _ c.requires.0 c.clear.ensures (c.read_short.ensures ∙ ap (λ (n : ℕ). read (with_scratch k n)) l)
+    part_cleared k a.n _ c.read_short.result c.requires.0 c.clear.ensures (c.read_short.ensures ∙ ap (λ (n : ℕ). read (with_scratch k n)) l)

@@ -10,14 +10,14 @@ pub returns-then-not-settings_fit : goal.returns-then-not-settings_fit
 unfolding refusal
 returns-then-not-settings_fit c =
     let a = c.args in
-    let k = call_of a.text.now a.toks.now a.env.now a.depth a.mode a.scratch.now a.nodes.now a.finds.now a.last.now in
+    let k = call_of a.lent.text.now a.lent.toks.now a.lent.env.now a.depth a.mode a.scratch.now a.nodes.now a.finds.now a.last.now in
     c.refuse_all.ensures ∙ sym (bad_settings_lem k (sym (settings_alone k) ∙ sym c.settings_fit.ensures ∙ c.if-not-settings_fit.true))
 
 pub returns-then-not-records_fit : goal.returns-then-not-records_fit
 unfolding refusal
 returns-then-not-records_fit c =
     let a = c.args in
-    let k = call_of a.text.now a.toks.now a.env.now a.depth a.mode a.scratch.now a.nodes.now a.finds.now a.last.now in
+    let k = call_of a.lent.text.now a.lent.toks.now a.lent.env.now a.depth a.mode a.scratch.now a.nodes.now a.finds.now a.last.now in
     let s = sym (settings_alone k) ∙ sym c.settings_fit.ensures ∙ c.if-not-settings_fit.false in
     c.refuse_all-then-not-records_fit.ensures ∙ sym (bad_records_lem k s (sym c.records_fit.ensures ∙ c.if-not-records_fit.true))
 
@@ -25,7 +25,7 @@ pub returns-in_default : goal.returns-in_default
 unfolding refusal
 returns-in_default c =
     let a = c.args in
-    let k = call_of a.text.now a.toks.now a.env.now a.depth a.mode a.scratch.now a.nodes.now a.finds.now a.last.now in
+    let k = call_of a.lent.text.now a.lent.toks.now a.lent.env.now a.depth a.mode a.scratch.now a.nodes.now a.finds.now a.last.now in
     let s = sym (settings_alone k) ∙ sym c.settings_fit.ensures ∙ c.if-not-settings_fit.false in
     let r = sym c.records_fit.ensures ∙ c.if-not-records_fit.false in
     c.refuse_all-in_default.ensures ∙ sym (bad_env_lem k s r c.in_default.ensures)
@@ -33,15 +33,15 @@ returns-in_default c =
 pub read_with-requires : goal.read_with-requires
 read_with-requires c =
     let a = c.args in
-    let k = call_of a.text.now a.toks.now a.env.now a.depth a.mode a.scratch.now a.nodes.now a.finds.now a.last.now in
+    let k = call_of a.lent.text.now a.lent.toks.now a.lent.env.now a.depth a.mode a.scratch.now a.nodes.now a.finds.now a.last.now in
     let s = sym (settings_alone k) ∙ sym c.settings_fit.ensures ∙ c.if-not-settings_fit.false in
     let r = sym c.records_fit.ensures ∙ c.if-not-records_fit.false in
-    (was_tested k s r _ c.in-Good.ensures, c.requires)
+    (was_tested k s r _ c.in-Some.ensures, c.requires)
 
 pub returns : goal.returns
 returns c =
     let a = c.args in
-    let k = call_of a.text.now a.toks.now a.env.now a.depth a.mode a.scratch.now a.nodes.now a.finds.now a.last.now in
+    let k = call_of a.lent.text.now a.lent.toks.now a.lent.env.now a.depth a.mode a.scratch.now a.nodes.now a.finds.now a.last.now in
     let s = sym (settings_alone k) ∙ sym c.settings_fit.ensures ∙ c.if-not-settings_fit.false in
     let r = sym c.records_fit.ensures ∙ c.if-not-records_fit.false in
-    c.read_with.ensures ∙ sym (was_good k s r _ c.in-Good.ensures)
+    c.read_with.ensures ∙ sym (was_good k s r _ c.in-Some.ensures)

@@ -1,29 +1,18 @@
--- by hand: tests of one byte: the cases of `number_of`.
--- `names::number_in` meets its contract: by the first byte.
+-- by hand: what std's parse says, in grammar's words.
+-- `number_in` meets its contract.
 use mathlib.Core.Path.{sym, ◌∙◌}
-use native.Mathlib.Omega.{arith}
-use Rattle.grammar.specs.World.{number_of}
-use Rattle.texts.proofs.Texts.{number_tilde, number_plus, number_plain}
+use Rattle.texts.proofs.Numbers.{number_tilde, no_tilde, number_parsed, number_no_text, val_of}
 use Rattle.texts.proofs.number_in.Goals as goal
 
-pub returns-then-len-eq0 : goal.returns-then-len-eq0
-unfolding number_of
-returns-then-len-eq0 c = rw c.if-len-eq0.true
+pub returns-then-starts_with : goal.returns-then-starts_with
+returns-then-starts_with c = sym (number_tilde c.args.text.now (sym c.if-starts_with.ensures.value))
 
-pub returns-then-c-eq126 : goal.returns-then-c-eq126
-returns-then-c-eq126 c =
-    let a = c.args in
-    let z = c.if-len-eq0.false in
-    sym (number_tilde a.text.now a.start a.len (omega arith) c.requires c.if-c-eq126.true)
-
-pub returns-then-c-eq43 : goal.returns-then-c-eq43
-returns-then-c-eq43 c =
-    let a = c.args in
-    let z = c.if-len-eq0.false in
-    c.digits_in.ensures ∙ sym (number_plus a.text.now a.start a.len (omega arith) c.requires c.if-c-eq43.true)
+pub returns-in_default : goal.returns-in_default
+returns-in_default c =
+    sym (number_no_text c.args.text.now (no_tilde c.args.text.now (sym c.if-starts_with.ensures.value)) c.in_default.ensures.cases.0)
 
 pub returns : goal.returns
 returns c =
-    let a = c.args in
-    let z = c.if-len-eq0.false in
-    c.digits_in-2.ensures ∙ sym (number_plain a.text.now a.start a.len (omega arith) c.requires c.if-c-eq126.false c.if-c-eq43.false)
+    let parses = rw c.in-Ok.ensures.cases.0 at c.parse.ensures.value.0 in
+    rw (c.ok_or.ensures.value, c.ok.ensures.value)
+    (val_of c.parse.result ∙ number_parsed c.args.text.now c.parse.result (no_tilde c.args.text.now (sym c.if-starts_with.ensures.value)) parses)

@@ -1,49 +1,41 @@
 -- by hand: it writes the log and the journal: an operation that programs are made of, by the laws of changes.
--- `names::take_as` meets its contract: the bump, and behind it the change.
+-- `take_as` meets its contract: the bump, and behind it the change.
 use native.Mathlib.Omega.{arith}
 use Rattle.grammar.specs.World.{take1}
 use Rattle.sml_fixity.specs.Fix.{fixity_of}
 use Rattle.parser.specs.View.{mem, Did}
-use Rattle.texts.proofs.Changes.{takes_off, takes_none, takes_full, takes_settled}
+use Rattle.texts.proofs.Changes.{takes_off, takes_none, takes_full, takes_refused, takes_changed}
 use Rattle.texts.proofs.take_as.Goals as goal
-use Rattle.texts.proofs.take_as.Goals.{After-bump-r}
+use Rattle.texts.proofs.take_as.Goals.{After-bump-r, then-is_refused-via-then-is_refused, then-is_refused-via-else-is_refused+then-s}
 
 -- what the bump did
-did : (k : After-bump-r) → let a = k.args in Did take1 (mem a.text.now a.toks.now a.env.now a.table.now a.scratch.now a.finds.now a.s) (mem a.text.now a.toks.now a.env.now a.table.now k.bump-r.new.scratch a.finds.now k.bump-r.result)
+did : (k : After-bump-r) → let a = k.args in Did take1 (mem a.lent.text.now a.lent.toks.now a.lent.env.now a.table.now a.scratch.now a.finds.now a.s) (mem a.lent.text.now a.lent.toks.now a.lent.env.now a.table.now k.bump-r.new.scratch a.finds.now k.bump-r.result)
 did k =
     let a = k.args in
-    k.bump-r.ensures.does a.text.now a.env.now a.table.now a.finds.now k.requires
+    k.bump-r.ensures.does a.lent.text.now a.lent.env.now a.table.now a.finds.now k.requires
 
-pub returns-then-s-ne0 : goal.returns-then-s-ne0
-returns-then-s-ne0 c =
-    takes_off c.requires (fixity_of c.args.f) c.if-s-ne0.true
+pub returns-then-is_refused : goal.returns-then-is_refused
+returns-then-is_refused c =
+    elim c.then-is_refused.branch [
+      | then-is_refused-via-then-is_refused w ↦ takes_off c.requires (fixity_of c.args.f) w.if-is_refused.ensures
+      | then-is_refused-via-else-is_refused+then-s w ↦ takes_none c.requires (fixity_of c.args.f) w.if-is_refused.ensures w.if-s.true
+    ]
 
-pub returns-then-s-at : goal.returns-then-s-at
-returns-then-s-at c =
-    takes_none c.requires (fixity_of c.args.f) c.if-s-ne0.false c.if-s-at.true
-
-pub returns-then-r-ne0 : goal.returns-then-r-ne0
-returns-then-r-ne0 c =
-    takes_full (fixity_of c.args.f) c.requires c.if-s-ne0.false c.if-s-at.false (did (goal.at.returns-then-r-ne0 c).After-bump-r) c.if-r-ne0.true
-
-pub start_of-start-requires : goal.start_of-start-requires
-start_of-start-requires c =
-    let r = c.requires.reads in
-    let h = c.if-s-at.false in
-    (omega arith, omega arith)
-
-pub length_of-len-requires : goal.length_of-len-requires
-length_of-len-requires c =
-    let r = c.requires.reads in
-    let h = c.if-s-at.false in
-    (omega arith, omega arith)
+pub returns-then-is_refused-2 : goal.returns-then-is_refused-2
+returns-then-is_refused-2 c =
+    takes_full (fixity_of c.args.f) c.requires c.if-is_refused.ensures c.if-s.false (did (goal.at.returns-then-is_refused-2 c).After-bump-r) c.if-is_refused-2.ensures
 
 pub change-requires : goal.change-requires
 change-requires c =
-    let w = c.requires.names.within c.args.s.at c.if-s-at.false in
+    let w = c.requires.names.within c.args.s.at c.if-s.false in
     ((did (goal.at.change-requires c).After-bump-r).ok.stands, omega (arith, w, c.length_of-len.ensures, c.start_of-start.ensures))
 
-pub returns : goal.returns
-returns c =
-    let h = rw (c.length_of-len.ensures, c.start_of-start.ensures) at c.change.ensures in
-    takes_settled (fixity_of c.args.f) c.requires c.if-s-ne0.false c.if-s-at.false (did (goal.at.returns c).After-bump-r) c.if-r-ne0.false c.change.result h c.settle.ensures
+pub returns-in-Ok : goal.returns-in-Ok
+returns-in-Ok c =
+    let h = rw (c.length_of-len.ensures, c.start_of-start.ensures) at c.in-Ok.ensures in
+    takes_changed (fixity_of c.args.f) c.requires c.if-is_refused.ensures c.if-s.false (did (goal.at.returns-in-Ok c).After-bump-r) c.if-is_refused-2.ensures h
+
+pub returns-in-Err : goal.returns-in-Err
+returns-in-Err c =
+    let h = rw (c.length_of-len.ensures, c.start_of-start.ensures) at c.in-Err.ensures in
+    takes_refused (fixity_of c.args.f) c.requires c.if-is_refused.ensures c.if-s.false (did (goal.at.returns-in-Err c).After-bump-r) c.if-is_refused-2.ensures h c.refuse.ensures

@@ -52,18 +52,6 @@ shown c =
     let a = c.args in
     has a.text.now a.toks.now a.i (sym c.has_text.ensures ∙ c.if-not-has_text.false)
 
-pub overflow_mul-i : goal.overflow_mul-i
-overflow_mul-i c = let h = shown c in search rules
-
-pub overflow_add-i : goal.overflow_add-i
-overflow_add-i c = let h = shown c in search rules
-
-pub pair-start-requires : goal.pair-start-requires
-pair-start-requires c = let h = shown c in search rules
-
-pub end_at-end-requires : goal.end_at-end-requires
-end_at-end-requires c = (shown (goal.at.end_at-end-requires c).Else-not-has_text).there
-
 pub slice_bounds-result-end-2 : goal.slice_bounds-result-end-2
 slice_bounds-result-end-2 c = let h = shown (goal.at.slice_bounds-result-end-2 c).Else-not-has_text in search rules
 

@@ -18,9 +18,9 @@ arg_item-refuse-requires t c =
 pub arg_item-returns-then-left-eq0 : goal.arg_item-returns-then-left-eq0
 unfolding util.end_item plan choose chosen hushed
 arg_item-returns-then-left-eq0 t c =
-    let X0 = c.args.text.now in
-    let T0 = c.args.toks.now in
-    let N0 = c.args.env.now in
+    let X0 = c.args.lent.text.now in
+    let T0 = c.args.lent.toks.now in
+    let N0 = c.args.lent.env.now in
     let J0 = c.args.table.now in
     let L0 = c.args.scratch.now in
     let H0 = c.args.finds.now in
@@ -65,9 +65,9 @@ arg_item-close-requires t c =
 pub arg_item-returns-then-at : goal.arg_item-returns-then-at
 unfolding util.end_item plan choose chosen
 arg_item-returns-then-at t c =
-    let X0 = c.args.text.now in
-    let T0 = c.args.toks.now in
-    let N0 = c.args.env.now in
+    let X0 = c.args.lent.text.now in
+    let T0 = c.args.lent.toks.now in
+    let N0 = c.args.lent.env.now in
     let J0 = c.args.table.now in
     let L0 = c.args.scratch.now in
     let H0 = c.args.finds.now in
@@ -94,9 +94,9 @@ arg_item-close-requires-2 t c =
 pub arg_item-returns : goal.arg_item-returns
 unfolding util.end_item plan choose chosen
 arg_item-returns t c =
-    let X0 = c.args.text.now in
-    let T0 = c.args.toks.now in
-    let N0 = c.args.env.now in
+    let X0 = c.args.lent.text.now in
+    let T0 = c.args.lent.toks.now in
+    let N0 = c.args.lent.env.now in
     let J0 = c.args.table.now in
     let L0 = c.args.scratch.now in
     let H0 = c.args.finds.now in
@@ -122,9 +122,9 @@ arg_turn-bump-requires t c =
 pub arg_turn-returns-then-at : goal.arg_turn-returns-then-at
 unfolding util.end_turn plan choose chosen
 arg_turn-returns-then-at t c =
-    let X0 = c.args.text.now in
-    let T0 = c.args.toks.now in
-    let N0 = c.args.env.now in
+    let X0 = c.args.lent.text.now in
+    let T0 = c.args.lent.toks.now in
+    let N0 = c.args.lent.env.now in
     let J0 = c.args.table.now in
     let L0 = c.args.scratch.now in
     let H0 = c.args.finds.now in
@@ -140,46 +140,46 @@ arg_turn-arg_item-item-requires t c =
 
 pub arg_turn-eat-got-requires : goal.arg_turn-eat-got-requires
 arg_turn-eat-got-requires t c =
-    let arg_item = c.in-Missing.ensures in
+    let arg_item = c.in-Err.ensures in
     let arg_item_ok = arg_item.ok in
     (arg_item_ok.reads, arg_item_ok.logs, arg_item_ok.holds, omega arith)
 
-pub arg_turn-state-s2-requires : goal.arg_turn-state-s2-requires
-arg_turn-state-s2-requires t c =
+pub arg_turn-either-s2-requires : goal.arg_turn-either-s2-requires
+arg_turn-either-s2-requires t c =
     tt
 
-pub arg_turn-returns-in-At : goal.arg_turn-returns-in-At
+pub arg_turn-returns-in-Ok : goal.arg_turn-returns-in-Ok
 unfolding util.end_turn plan choose chosen
-arg_turn-returns-in-At t c =
-    let X0 = c.args.text.now in
-    let T0 = c.args.toks.now in
-    let N0 = c.args.env.now in
+arg_turn-returns-in-Ok t c =
+    let X0 = c.args.lent.text.now in
+    let T0 = c.args.lent.toks.now in
+    let N0 = c.args.lent.env.now in
     let J0 = c.args.table.now in
     let L0 = c.args.scratch.now in
     let H0 = c.args.finds.now in
     let S0 = c.args.s in
     let L3 = c.arg_item-item.new.scratch in
     let H3 = c.arg_item-item.new.finds in
-    let S3 = c.in-At.s1 in
-    by_steps {m = (mem X0 T0 N0 J0 L0 H0 S0)} {m' = (mem X0 T0 N0 J0 L3 H3 S3)} (c.requires) (λ b. s_kind {a = (mem X0 T0 N0 J0 L0 H0 S0)} {e = (mem X0 T0 N0 J0 L3 H3 S3)} (s_false {a = (mem X0 T0 N0 J0 L0 H0 S0)} {e = (mem X0 T0 N0 J0 L3 H3 S3)} _ _ (kind_off _ _ (mem X0 T0 N0 J0 L0 H0 S0) _ (c.at.ensures) (c.if-at.false)) (s_by {a = (mem X0 T0 N0 J0 L0 H0 S0)} {c = (mem X0 T0 N0 J0 L3 H3 S3)} {e = (mem X0 T0 N0 J0 L3 H3 S3)} _ (runs_in {a = (mem X0 T0 N0 J0 L0 H0 S0)} {c = (mem X0 T0 N0 J0 L3 H3 S3)} (c.in-At.ensures)) s_end)))
+    let S3 = c.in-Ok.s1 in
+    by_steps {m = (mem X0 T0 N0 J0 L0 H0 S0)} {m' = (mem X0 T0 N0 J0 L3 H3 S3)} (c.requires) (λ b. s_kind {a = (mem X0 T0 N0 J0 L0 H0 S0)} {e = (mem X0 T0 N0 J0 L3 H3 S3)} (s_false {a = (mem X0 T0 N0 J0 L0 H0 S0)} {e = (mem X0 T0 N0 J0 L3 H3 S3)} _ _ (kind_off _ _ (mem X0 T0 N0 J0 L0 H0 S0) _ (c.at.ensures) (c.if-at.false)) (s_by {a = (mem X0 T0 N0 J0 L0 H0 S0)} {c = (mem X0 T0 N0 J0 L3 H3 S3)} {e = (mem X0 T0 N0 J0 L3 H3 S3)} _ (runs_in {a = (mem X0 T0 N0 J0 L0 H0 S0)} {c = (mem X0 T0 N0 J0 L3 H3 S3)} (c.in-Ok.ensures)) s_end)))
 
-pub arg_turn-returns-in-Missing : goal.arg_turn-returns-in-Missing
+pub arg_turn-returns-in-Err : goal.arg_turn-returns-in-Err
 unfolding util.end_turn plan choose chosen
-arg_turn-returns-in-Missing t c =
-    let X0 = c.args.text.now in
-    let T0 = c.args.toks.now in
-    let N0 = c.args.env.now in
+arg_turn-returns-in-Err t c =
+    let X0 = c.args.lent.text.now in
+    let T0 = c.args.lent.toks.now in
+    let N0 = c.args.lent.env.now in
     let J0 = c.args.table.now in
     let L0 = c.args.scratch.now in
     let H0 = c.args.finds.now in
     let S0 = c.args.s in
     let L3 = c.arg_item-item.new.scratch in
     let H3 = c.arg_item-item.new.finds in
-    let S3 = c.in-Missing.s1 in
+    let S3 = c.in-Err.s1 in
     let L4 = c.eat-got.new.scratch in
     let H4 = c.eat-got.new.finds in
-    let S5 = c.state-s2.result in
-    by_steps {m = (mem X0 T0 N0 J0 L0 H0 S0)} {m' = (mem X0 T0 N0 J0 L4 H4 S5)} (c.requires) (λ b. s_kind {a = (mem X0 T0 N0 J0 L0 H0 S0)} {e = (mem X0 T0 N0 J0 L4 H4 S5)} (s_false {a = (mem X0 T0 N0 J0 L0 H0 S0)} {e = (mem X0 T0 N0 J0 L4 H4 S5)} _ _ (kind_off _ _ (mem X0 T0 N0 J0 L0 H0 S0) _ (c.at.ensures) (c.if-at.false)) (s_by {a = (mem X0 T0 N0 J0 L0 H0 S0)} {c = (mem X0 T0 N0 J0 L3 H3 S3)} {e = (mem X0 T0 N0 J0 L4 H4 S5)} _ (runs_in {a = (mem X0 T0 N0 J0 L0 H0 S0)} {c = (mem X0 T0 N0 J0 L3 H3 S3)} (c.in-Missing.ensures)) (s_eats _ _ {x = X0} {t = T0} {n = N0} {j = J0} {l = L3} {h = H3} {l' = L4} {s = S3} {s' = S5} {e = (mem X0 T0 N0 J0 L4 H4 S5)} _ {h' = H4} (eats_settled (c.state-s2.ensures) (c.eat-got.ensures)) s_end))))
+    let S5 = c.either-s2.result in
+    by_steps {m = (mem X0 T0 N0 J0 L0 H0 S0)} {m' = (mem X0 T0 N0 J0 L4 H4 S5)} (c.requires) (λ b. s_kind {a = (mem X0 T0 N0 J0 L0 H0 S0)} {e = (mem X0 T0 N0 J0 L4 H4 S5)} (s_false {a = (mem X0 T0 N0 J0 L0 H0 S0)} {e = (mem X0 T0 N0 J0 L4 H4 S5)} _ _ (kind_off _ _ (mem X0 T0 N0 J0 L0 H0 S0) _ (c.at.ensures) (c.if-at.false)) (s_by {a = (mem X0 T0 N0 J0 L0 H0 S0)} {c = (mem X0 T0 N0 J0 L3 H3 S3)} {e = (mem X0 T0 N0 J0 L4 H4 S5)} _ (runs_in {a = (mem X0 T0 N0 J0 L0 H0 S0)} {c = (mem X0 T0 N0 J0 L3 H3 S3)} (c.in-Err.ensures)) (s_eats _ _ {x = X0} {t = T0} {n = N0} {j = J0} {l = L3} {h = H3} {l' = L4} {s = S3} {s' = S5} {e = (mem X0 T0 N0 J0 L4 H4 S5)} _ {h' = H4} (eats_settled (c.either-s2.ensures) (c.eat-got.ensures)) s_end))))
 
 pub row_item-refuse-requires : goal.row_item-refuse-requires
 row_item-refuse-requires t c =
@@ -188,9 +188,9 @@ row_item-refuse-requires t c =
 pub row_item-returns-then-left-eq0 : goal.row_item-returns-then-left-eq0
 unfolding util.end_item plan choose chosen hushed
 row_item-returns-then-left-eq0 t c =
-    let X0 = c.args.text.now in
-    let T0 = c.args.toks.now in
-    let N0 = c.args.env.now in
+    let X0 = c.args.lent.text.now in
+    let T0 = c.args.lent.toks.now in
+    let N0 = c.args.lent.env.now in
     let J0 = c.args.table.now in
     let L0 = c.args.scratch.now in
     let H0 = c.args.finds.now in
@@ -235,9 +235,9 @@ row_item-close-requires t c =
 pub row_item-returns-then-at : goal.row_item-returns-then-at
 unfolding util.end_item plan choose chosen
 row_item-returns-then-at t c =
-    let X0 = c.args.text.now in
-    let T0 = c.args.toks.now in
-    let N0 = c.args.env.now in
+    let X0 = c.args.lent.text.now in
+    let T0 = c.args.lent.toks.now in
+    let N0 = c.args.lent.env.now in
     let J0 = c.args.table.now in
     let L0 = c.args.scratch.now in
     let H0 = c.args.finds.now in
@@ -264,9 +264,9 @@ row_item-close-requires-2 t c =
 pub row_item-returns : goal.row_item-returns
 unfolding util.end_item plan choose chosen
 row_item-returns t c =
-    let X0 = c.args.text.now in
-    let T0 = c.args.toks.now in
-    let N0 = c.args.env.now in
+    let X0 = c.args.lent.text.now in
+    let T0 = c.args.lent.toks.now in
+    let N0 = c.args.lent.env.now in
     let J0 = c.args.table.now in
     let L0 = c.args.scratch.now in
     let H0 = c.args.finds.now in
@@ -292,9 +292,9 @@ row_turn-bump-requires t c =
 pub row_turn-returns-then-at : goal.row_turn-returns-then-at
 unfolding util.end_turn plan choose chosen
 row_turn-returns-then-at t c =
-    let X0 = c.args.text.now in
-    let T0 = c.args.toks.now in
-    let N0 = c.args.env.now in
+    let X0 = c.args.lent.text.now in
+    let T0 = c.args.lent.toks.now in
+    let N0 = c.args.lent.env.now in
     let J0 = c.args.table.now in
     let L0 = c.args.scratch.now in
     let H0 = c.args.finds.now in
@@ -310,46 +310,46 @@ row_turn-row_item-item-requires t c =
 
 pub row_turn-eat-got-requires : goal.row_turn-eat-got-requires
 row_turn-eat-got-requires t c =
-    let row_item = c.in-Missing.ensures in
+    let row_item = c.in-Err.ensures in
     let row_item_ok = row_item.ok in
     (row_item_ok.reads, row_item_ok.logs, row_item_ok.holds, omega arith)
 
-pub row_turn-state-s2-requires : goal.row_turn-state-s2-requires
-row_turn-state-s2-requires t c =
+pub row_turn-either-s2-requires : goal.row_turn-either-s2-requires
+row_turn-either-s2-requires t c =
     tt
 
-pub row_turn-returns-in-At : goal.row_turn-returns-in-At
+pub row_turn-returns-in-Ok : goal.row_turn-returns-in-Ok
 unfolding util.end_turn plan choose chosen
-row_turn-returns-in-At t c =
-    let X0 = c.args.text.now in
-    let T0 = c.args.toks.now in
-    let N0 = c.args.env.now in
+row_turn-returns-in-Ok t c =
+    let X0 = c.args.lent.text.now in
+    let T0 = c.args.lent.toks.now in
+    let N0 = c.args.lent.env.now in
     let J0 = c.args.table.now in
     let L0 = c.args.scratch.now in
     let H0 = c.args.finds.now in
     let S0 = c.args.s in
     let L3 = c.row_item-item.new.scratch in
     let H3 = c.row_item-item.new.finds in
-    let S3 = c.in-At.s1 in
-    by_steps {m = (mem X0 T0 N0 J0 L0 H0 S0)} {m' = (mem X0 T0 N0 J0 L3 H3 S3)} (c.requires) (λ b. s_kind {a = (mem X0 T0 N0 J0 L0 H0 S0)} {e = (mem X0 T0 N0 J0 L3 H3 S3)} (s_false {a = (mem X0 T0 N0 J0 L0 H0 S0)} {e = (mem X0 T0 N0 J0 L3 H3 S3)} _ _ (kind_off _ _ (mem X0 T0 N0 J0 L0 H0 S0) _ (c.at.ensures) (c.if-at.false)) (s_by {a = (mem X0 T0 N0 J0 L0 H0 S0)} {c = (mem X0 T0 N0 J0 L3 H3 S3)} {e = (mem X0 T0 N0 J0 L3 H3 S3)} _ (runs_in {a = (mem X0 T0 N0 J0 L0 H0 S0)} {c = (mem X0 T0 N0 J0 L3 H3 S3)} (c.in-At.ensures)) s_end)))
+    let S3 = c.in-Ok.s1 in
+    by_steps {m = (mem X0 T0 N0 J0 L0 H0 S0)} {m' = (mem X0 T0 N0 J0 L3 H3 S3)} (c.requires) (λ b. s_kind {a = (mem X0 T0 N0 J0 L0 H0 S0)} {e = (mem X0 T0 N0 J0 L3 H3 S3)} (s_false {a = (mem X0 T0 N0 J0 L0 H0 S0)} {e = (mem X0 T0 N0 J0 L3 H3 S3)} _ _ (kind_off _ _ (mem X0 T0 N0 J0 L0 H0 S0) _ (c.at.ensures) (c.if-at.false)) (s_by {a = (mem X0 T0 N0 J0 L0 H0 S0)} {c = (mem X0 T0 N0 J0 L3 H3 S3)} {e = (mem X0 T0 N0 J0 L3 H3 S3)} _ (runs_in {a = (mem X0 T0 N0 J0 L0 H0 S0)} {c = (mem X0 T0 N0 J0 L3 H3 S3)} (c.in-Ok.ensures)) s_end)))
 
-pub row_turn-returns-in-Missing : goal.row_turn-returns-in-Missing
+pub row_turn-returns-in-Err : goal.row_turn-returns-in-Err
 unfolding util.end_turn plan choose chosen
-row_turn-returns-in-Missing t c =
-    let X0 = c.args.text.now in
-    let T0 = c.args.toks.now in
-    let N0 = c.args.env.now in
+row_turn-returns-in-Err t c =
+    let X0 = c.args.lent.text.now in
+    let T0 = c.args.lent.toks.now in
+    let N0 = c.args.lent.env.now in
     let J0 = c.args.table.now in
     let L0 = c.args.scratch.now in
     let H0 = c.args.finds.now in
     let S0 = c.args.s in
     let L3 = c.row_item-item.new.scratch in
     let H3 = c.row_item-item.new.finds in
-    let S3 = c.in-Missing.s1 in
+    let S3 = c.in-Err.s1 in
     let L4 = c.eat-got.new.scratch in
     let H4 = c.eat-got.new.finds in
-    let S5 = c.state-s2.result in
-    by_steps {m = (mem X0 T0 N0 J0 L0 H0 S0)} {m' = (mem X0 T0 N0 J0 L4 H4 S5)} (c.requires) (λ b. s_kind {a = (mem X0 T0 N0 J0 L0 H0 S0)} {e = (mem X0 T0 N0 J0 L4 H4 S5)} (s_false {a = (mem X0 T0 N0 J0 L0 H0 S0)} {e = (mem X0 T0 N0 J0 L4 H4 S5)} _ _ (kind_off _ _ (mem X0 T0 N0 J0 L0 H0 S0) _ (c.at.ensures) (c.if-at.false)) (s_by {a = (mem X0 T0 N0 J0 L0 H0 S0)} {c = (mem X0 T0 N0 J0 L3 H3 S3)} {e = (mem X0 T0 N0 J0 L4 H4 S5)} _ (runs_in {a = (mem X0 T0 N0 J0 L0 H0 S0)} {c = (mem X0 T0 N0 J0 L3 H3 S3)} (c.in-Missing.ensures)) (s_eats _ _ {x = X0} {t = T0} {n = N0} {j = J0} {l = L3} {h = H3} {l' = L4} {s = S3} {s' = S5} {e = (mem X0 T0 N0 J0 L4 H4 S5)} _ {h' = H4} (eats_settled (c.state-s2.ensures) (c.eat-got.ensures)) s_end))))
+    let S5 = c.either-s2.result in
+    by_steps {m = (mem X0 T0 N0 J0 L0 H0 S0)} {m' = (mem X0 T0 N0 J0 L4 H4 S5)} (c.requires) (λ b. s_kind {a = (mem X0 T0 N0 J0 L0 H0 S0)} {e = (mem X0 T0 N0 J0 L4 H4 S5)} (s_false {a = (mem X0 T0 N0 J0 L0 H0 S0)} {e = (mem X0 T0 N0 J0 L4 H4 S5)} _ _ (kind_off _ _ (mem X0 T0 N0 J0 L0 H0 S0) _ (c.at.ensures) (c.if-at.false)) (s_by {a = (mem X0 T0 N0 J0 L0 H0 S0)} {c = (mem X0 T0 N0 J0 L3 H3 S3)} {e = (mem X0 T0 N0 J0 L4 H4 S5)} _ (runs_in {a = (mem X0 T0 N0 J0 L0 H0 S0)} {c = (mem X0 T0 N0 J0 L3 H3 S3)} (c.in-Err.ensures)) (s_eats _ _ {x = X0} {t = T0} {n = N0} {j = J0} {l = L3} {h = H3} {l' = L4} {s = S3} {s' = S5} {e = (mem X0 T0 N0 J0 L4 H4 S5)} _ {h' = H4} (eats_settled (c.either-s2.ensures) (c.eat-got.ensures)) s_end))))
 
 pub star_factor-refuse-requires : goal.star_factor-refuse-requires
 star_factor-refuse-requires t c =
@@ -358,9 +358,9 @@ star_factor-refuse-requires t c =
 pub star_factor-returns-then-left-eq0 : goal.star_factor-returns-then-left-eq0
 unfolding types.star_factor plan choose chosen hushed
 star_factor-returns-then-left-eq0 t c =
-    let X0 = c.args.text.now in
-    let T0 = c.args.toks.now in
-    let N0 = c.args.env.now in
+    let X0 = c.args.lent.text.now in
+    let T0 = c.args.lent.toks.now in
+    let N0 = c.args.lent.env.now in
     let J0 = c.args.table.now in
     let L0 = c.args.scratch.now in
     let H0 = c.args.finds.now in
@@ -400,9 +400,9 @@ star_factor-close-requires t c =
 pub star_factor-returns : goal.star_factor-returns
 unfolding types.star_factor plan choose chosen
 star_factor-returns t c =
-    let X0 = c.args.text.now in
-    let T0 = c.args.toks.now in
-    let N0 = c.args.env.now in
+    let X0 = c.args.lent.text.now in
+    let T0 = c.args.lent.toks.now in
+    let N0 = c.args.lent.env.now in
     let J0 = c.args.table.now in
     let L0 = c.args.scratch.now in
     let H0 = c.args.finds.now in
@@ -429,19 +429,19 @@ star_tail-star_turn-turn-requires t c =
 
 pub star_tail-loop-s2-smaller : goal.star_tail-loop-s2-smaller
 star_tail-loop-s2-smaller t c =
-    let star_turn = c.in-At.ensures in
+    let star_turn = c.in-Ok.ensures in
     loop_falls (star_advances _ _) (runs_in {b = 0} star_turn)
 
 pub star_tail-loop-s2-preserved : goal.star_tail-loop-s2-preserved
 star_tail-loop-s2-preserved t c =
     let inv = c.loop-s2.invariant in
-    let star_turn = c.in-At.ensures in
+    let star_turn = c.in-Ok.ensures in
     loop_goes (star_advances _ _) inv (runs_in star_turn)
 
-pub star_tail-returns-in-Missing : goal.star_tail-returns-in-Missing
-star_tail-returns-in-Missing t c =
+pub star_tail-returns-in-Err : goal.star_tail-returns-in-Err
+star_tail-returns-in-Err t c =
     let inv = c.loop-s2.invariant in
-    let star_turn = c.in-Missing.ensures in
+    let star_turn = c.in-Err.ensures in
     loop_ends (star_advances _ _) inv (runs_in star_turn)
 
 pub star_turn-at-requires : goal.star_turn-at-requires
@@ -457,9 +457,9 @@ star_turn-star_factor-requires t c =
 pub star_turn-returns-then-at : goal.star_turn-returns-then-at
 unfolding types.star_turn plan choose chosen
 star_turn-returns-then-at t c =
-    let X0 = c.args.text.now in
-    let T0 = c.args.toks.now in
-    let N0 = c.args.env.now in
+    let X0 = c.args.lent.text.now in
+    let T0 = c.args.lent.toks.now in
+    let N0 = c.args.lent.env.now in
     let J0 = c.args.table.now in
     let L0 = c.args.scratch.now in
     let H0 = c.args.finds.now in
@@ -472,9 +472,9 @@ star_turn-returns-then-at t c =
 pub star_turn-returns-else-at : goal.star_turn-returns-else-at
 unfolding types.star_turn plan choose chosen
 star_turn-returns-else-at t c =
-    let X0 = c.args.text.now in
-    let T0 = c.args.toks.now in
-    let N0 = c.args.env.now in
+    let X0 = c.args.lent.text.now in
+    let T0 = c.args.lent.toks.now in
+    let N0 = c.args.lent.env.now in
     let J0 = c.args.table.now in
     let L0 = c.args.scratch.now in
     let H0 = c.args.finds.now in
@@ -488,9 +488,9 @@ ty_arg-refuse-requires t c =
 pub ty_arg-returns-then-left-eq0 : goal.ty_arg-returns-then-left-eq0
 unfolding types.ty_arg plan choose chosen hushed
 ty_arg-returns-then-left-eq0 t c =
-    let X0 = c.args.text.now in
-    let T0 = c.args.toks.now in
-    let N0 = c.args.env.now in
+    let X0 = c.args.lent.text.now in
+    let T0 = c.args.lent.toks.now in
+    let N0 = c.args.lent.env.now in
     let J0 = c.args.table.now in
     let L0 = c.args.scratch.now in
     let H0 = c.args.finds.now in
@@ -518,9 +518,9 @@ ty_arg-at-requires t c =
 pub ty_arg-returns-then-at : goal.ty_arg-returns-then-at
 unfolding types.ty_arg plan choose chosen
 ty_arg-returns-then-at t c =
-    let X0 = c.args.text.now in
-    let T0 = c.args.toks.now in
-    let N0 = c.args.env.now in
+    let X0 = c.args.lent.text.now in
+    let T0 = c.args.lent.toks.now in
+    let N0 = c.args.lent.env.now in
     let J0 = c.args.table.now in
     let L0 = c.args.scratch.now in
     let H0 = c.args.finds.now in
@@ -537,8 +537,8 @@ ty_arg-eat-got-requires t c =
     let ty_must_ok = ty_must.ok in
     (ty_must_ok.reads, ty_must_ok.logs, ty_must_ok.holds, omega arith)
 
-pub ty_arg-state-s3-requires : goal.ty_arg-state-s3-requires
-ty_arg-state-s3-requires t c =
+pub ty_arg-either-s3-requires : goal.ty_arg-either-s3-requires
+ty_arg-either-s3-requires t c =
     tt
 
 pub ty_arg-close-requires : goal.ty_arg-close-requires
@@ -550,16 +550,16 @@ ty_arg-close-requires t c =
     let ty_must_ok = ty_must.ok in
     let eat = c.eat-got.ensures in
     let eat_ok = ok_eats eat ty_must_ok in
-    let state = c.state-s3.ensures in
-    let state_ok = ok_state state eat_ok in
-    (state_ok.logs, small_len mark_ok)
+    let either = c.either-s3.ensures in
+    let either_ok = ok_state either eat_ok in
+    (either_ok.logs, small_len mark_ok)
 
 pub ty_arg-returns : goal.ty_arg-returns
 unfolding types.ty_arg plan choose chosen
 ty_arg-returns t c =
-    let X0 = c.args.text.now in
-    let T0 = c.args.toks.now in
-    let N0 = c.args.env.now in
+    let X0 = c.args.lent.text.now in
+    let T0 = c.args.lent.toks.now in
+    let N0 = c.args.lent.env.now in
     let J0 = c.args.table.now in
     let L0 = c.args.scratch.now in
     let H0 = c.args.finds.now in
@@ -570,10 +570,10 @@ ty_arg-returns t c =
     let S3 = c.ty_must-s2.result in
     let L6 = c.eat-got.new.scratch in
     let H6 = c.eat-got.new.finds in
-    let S7 = c.state-s3.result in
+    let S7 = c.either-s3.result in
     let L8 = c.close.new.scratch in
     let S8 = c.close.result in
-    by_steps {m = (mem X0 T0 N0 J0 L0 H0 S0)} {m' = (mem X0 T0 N0 J0 L8 H6 S8)} (c.requires) (λ b. s_mark {e = (mem X0 T0 N0 J0 L8 H6 S8)} {x = X0} {t = T0} {n = N0} {j = J0} {l = L0} {h = H0} {s = S0} {s' = S2} (c.if-left-eq0.false) (c.mark-s1.ensures) (s_by {a = (mem X0 T0 N0 J0 L0 H0 S2)} {c = (mem X0 T0 N0 J0 L3 H3 S3)} {e = (mem X0 T0 N0 J0 L8 H6 S8)} _ (runs_in {a = (mem X0 T0 N0 J0 L0 H0 S2)} {c = (mem X0 T0 N0 J0 L3 H3 S3)} (c.ty_must-s2.ensures)) (s_kind {a = (mem X0 T0 N0 J0 L3 H3 S3)} {e = (mem X0 T0 N0 J0 L8 H6 S8)} (s_false {a = (mem X0 T0 N0 J0 L3 H3 S3)} {e = (mem X0 T0 N0 J0 L8 H6 S8)} _ _ (kind_off _ _ (mem X0 T0 N0 J0 L3 H3 S3) _ (c.at.ensures) (c.if-at.false)) (s_eats _ _ {x = X0} {t = T0} {n = N0} {j = J0} {l = L3} {h = H3} {l' = L6} {s = S3} {s' = S7} {e = (mem X0 T0 N0 J0 L8 H6 S8)} _ {h' = H6} (eats_settled (c.state-s3.ensures) (c.eat-got.ensures)) (s_close {e = (mem X0 T0 N0 J0 L8 H6 S8)} {x = X0} {t = T0} {n = N0} {j = J0} {l = L6} {h = H6} {s = S7} {s' = S8} {l' = L8} (c.close.ensures) s_end))))))
+    by_steps {m = (mem X0 T0 N0 J0 L0 H0 S0)} {m' = (mem X0 T0 N0 J0 L8 H6 S8)} (c.requires) (λ b. s_mark {e = (mem X0 T0 N0 J0 L8 H6 S8)} {x = X0} {t = T0} {n = N0} {j = J0} {l = L0} {h = H0} {s = S0} {s' = S2} (c.if-left-eq0.false) (c.mark-s1.ensures) (s_by {a = (mem X0 T0 N0 J0 L0 H0 S2)} {c = (mem X0 T0 N0 J0 L3 H3 S3)} {e = (mem X0 T0 N0 J0 L8 H6 S8)} _ (runs_in {a = (mem X0 T0 N0 J0 L0 H0 S2)} {c = (mem X0 T0 N0 J0 L3 H3 S3)} (c.ty_must-s2.ensures)) (s_kind {a = (mem X0 T0 N0 J0 L3 H3 S3)} {e = (mem X0 T0 N0 J0 L8 H6 S8)} (s_false {a = (mem X0 T0 N0 J0 L3 H3 S3)} {e = (mem X0 T0 N0 J0 L8 H6 S8)} _ _ (kind_off _ _ (mem X0 T0 N0 J0 L3 H3 S3) _ (c.at.ensures) (c.if-at.false)) (s_eats _ _ {x = X0} {t = T0} {n = N0} {j = J0} {l = L3} {h = H3} {l' = L6} {s = S3} {s' = S7} {e = (mem X0 T0 N0 J0 L8 H6 S8)} _ {h' = H6} (eats_settled (c.either-s3.ensures) (c.eat-got.ensures)) (s_close {e = (mem X0 T0 N0 J0 L8 H6 S8)} {x = X0} {t = T0} {n = N0} {j = J0} {l = L6} {h = H6} {s = S7} {s' = S8} {l' = L8} (c.close.ensures) s_end))))))
 
 pub ty_args-loop-s2-init : goal.ty_args-loop-s2-init
 ty_args-loop-s2-init t c =
@@ -587,19 +587,19 @@ ty_args-arg_turn-turn-requires t c =
 
 pub ty_args-loop-s2-smaller : goal.ty_args-loop-s2-smaller
 ty_args-loop-s2-smaller t c =
-    let arg_turn = c.in-At.ensures in
+    let arg_turn = c.in-Ok.ensures in
     loop_falls (end_turn_advances true _ _ _ _ _ _) (runs_in {b = 0} arg_turn)
 
 pub ty_args-loop-s2-preserved : goal.ty_args-loop-s2-preserved
 ty_args-loop-s2-preserved t c =
     let inv = c.loop-s2.invariant in
-    let arg_turn = c.in-At.ensures in
+    let arg_turn = c.in-Ok.ensures in
     loop_goes (end_turn_advances true _ _ _ _ _ _) inv (runs_in arg_turn)
 
-pub ty_args-returns-in-Missing : goal.ty_args-returns-in-Missing
-ty_args-returns-in-Missing t c =
+pub ty_args-returns-in-Err : goal.ty_args-returns-in-Err
+ty_args-returns-in-Err t c =
     let inv = c.loop-s2.invariant in
-    let arg_turn = c.in-Missing.ensures in
+    let arg_turn = c.in-Err.ensures in
     loop_ends (end_turn_advances true _ _ _ _ _ _) inv (runs_in arg_turn)
 
 pub ty_arrow-refuse-requires : goal.ty_arrow-refuse-requires
@@ -609,9 +609,9 @@ ty_arrow-refuse-requires t c =
 pub ty_arrow-returns-then-left-eq0 : goal.ty_arrow-returns-then-left-eq0
 unfolding types.ty_arrow plan choose chosen hushed
 ty_arrow-returns-then-left-eq0 t c =
-    let X0 = c.args.text.now in
-    let T0 = c.args.toks.now in
-    let N0 = c.args.env.now in
+    let X0 = c.args.lent.text.now in
+    let T0 = c.args.lent.toks.now in
+    let N0 = c.args.lent.env.now in
     let J0 = c.args.table.now in
     let L0 = c.args.scratch.now in
     let H0 = c.args.finds.now in
@@ -649,9 +649,9 @@ ty_arrow-close-requires t c =
 pub ty_arrow-returns : goal.ty_arrow-returns
 unfolding types.ty_arrow plan choose chosen
 ty_arrow-returns t c =
-    let X0 = c.args.text.now in
-    let T0 = c.args.toks.now in
-    let N0 = c.args.env.now in
+    let X0 = c.args.lent.text.now in
+    let T0 = c.args.lent.toks.now in
+    let N0 = c.args.lent.env.now in
     let J0 = c.args.table.now in
     let L0 = c.args.scratch.now in
     let H0 = c.args.finds.now in
@@ -682,9 +682,9 @@ ty_head-close-requires t c =
 pub ty_head-returns-then-k-eq-DOT_DOT_DOT : goal.ty_head-returns-then-k-eq-DOT_DOT_DOT
 unfolding types.ty_head plan choose chosen
 ty_head-returns-then-k-eq-DOT_DOT_DOT t c =
-    let X0 = c.args.text.now in
-    let T0 = c.args.toks.now in
-    let N0 = c.args.env.now in
+    let X0 = c.args.lent.text.now in
+    let T0 = c.args.lent.toks.now in
+    let N0 = c.args.lent.env.now in
     let J0 = c.args.table.now in
     let L0 = c.args.scratch.now in
     let H0 = c.args.finds.now in
@@ -711,9 +711,9 @@ ty_head-close-requires-then-k-eq-UNDERSCORE t c =
 pub ty_head-returns-then-k-eq-UNDERSCORE : goal.ty_head-returns-then-k-eq-UNDERSCORE
 unfolding types.ty_head plan choose chosen
 ty_head-returns-then-k-eq-UNDERSCORE t c =
-    let X0 = c.args.text.now in
-    let T0 = c.args.toks.now in
-    let N0 = c.args.env.now in
+    let X0 = c.args.lent.text.now in
+    let T0 = c.args.lent.toks.now in
+    let N0 = c.args.lent.env.now in
     let J0 = c.args.table.now in
     let L0 = c.args.scratch.now in
     let H0 = c.args.finds.now in
@@ -740,9 +740,9 @@ ty_head-close-requires-then-k-eq-TY_VAR t c =
 pub ty_head-returns-then-k-eq-TY_VAR : goal.ty_head-returns-then-k-eq-TY_VAR
 unfolding types.ty_head plan choose chosen
 ty_head-returns-then-k-eq-TY_VAR t c =
-    let X0 = c.args.text.now in
-    let T0 = c.args.toks.now in
-    let N0 = c.args.env.now in
+    let X0 = c.args.lent.text.now in
+    let T0 = c.args.lent.toks.now in
+    let N0 = c.args.lent.env.now in
     let J0 = c.args.table.now in
     let L0 = c.args.scratch.now in
     let H0 = c.args.finds.now in
@@ -762,9 +762,9 @@ ty_head-ty_inner-requires t c =
 pub ty_head-returns : goal.ty_head-returns
 unfolding types.ty_head plan choose chosen
 ty_head-returns t c =
-    let X0 = c.args.text.now in
-    let T0 = c.args.toks.now in
-    let N0 = c.args.env.now in
+    let X0 = c.args.lent.text.now in
+    let T0 = c.args.lent.toks.now in
+    let N0 = c.args.lent.env.now in
     let J0 = c.args.table.now in
     let L0 = c.args.scratch.now in
     let H0 = c.args.finds.now in
@@ -796,9 +796,9 @@ ty_inner-close-requires t c =
 pub ty_inner-returns-then-k-eq-LCURLY : goal.ty_inner-returns-then-k-eq-LCURLY
 unfolding types.ty_inner util.end_sep plan choose chosen
 ty_inner-returns-then-k-eq-LCURLY t c =
-    let X0 = c.args.text.now in
-    let T0 = c.args.toks.now in
-    let N0 = c.args.env.now in
+    let X0 = c.args.lent.text.now in
+    let T0 = c.args.lent.toks.now in
+    let N0 = c.args.lent.env.now in
     let J0 = c.args.table.now in
     let L0 = c.args.scratch.now in
     let H0 = c.args.finds.now in
@@ -821,9 +821,9 @@ ty_inner-ty_round-requires t c =
 pub ty_inner-returns-then-k-eq-LROUND : goal.ty_inner-returns-then-k-eq-LROUND
 unfolding types.ty_inner util.end_sep plan choose chosen
 ty_inner-returns-then-k-eq-LROUND t c =
-    let X0 = c.args.text.now in
-    let T0 = c.args.toks.now in
-    let N0 = c.args.env.now in
+    let X0 = c.args.lent.text.now in
+    let T0 = c.args.lent.toks.now in
+    let N0 = c.args.lent.env.now in
     let J0 = c.args.table.now in
     let L0 = c.args.scratch.now in
     let H0 = c.args.finds.now in
@@ -838,8 +838,8 @@ ty_inner-path_must-got-requires t c =
     let pre0 = c.requires.0 in
     pre0
 
-pub ty_inner-state-s1-requires : goal.ty_inner-state-s1-requires
-ty_inner-state-s1-requires t c =
+pub ty_inner-either-s1-requires : goal.ty_inner-either-s1-requires
+ty_inner-either-s1-requires t c =
     tt
 
 pub ty_inner-close-requires-then-k-eq-NAME : goal.ty_inner-close-requires-then-k-eq-NAME
@@ -847,16 +847,16 @@ ty_inner-close-requires-then-k-eq-NAME t c =
     let pre1 = c.requires.1 in
     let path_must = c.path_must-got.ensures in
     let path_must_ok = path_must.ok in
-    let state = c.state-s1.ensures in
-    let state_ok = ok_state state path_must_ok in
-    (state_ok.logs, pre1)
+    let either = c.either-s1.ensures in
+    let either_ok = ok_state either path_must_ok in
+    (either_ok.logs, pre1)
 
 pub ty_inner-returns-then-k-eq-NAME : goal.ty_inner-returns-then-k-eq-NAME
 unfolding types.ty_inner util.end_sep plan choose chosen
 ty_inner-returns-then-k-eq-NAME t c =
-    let X0 = c.args.text.now in
-    let T0 = c.args.toks.now in
-    let N0 = c.args.env.now in
+    let X0 = c.args.lent.text.now in
+    let T0 = c.args.lent.toks.now in
+    let N0 = c.args.lent.env.now in
     let J0 = c.args.table.now in
     let L0 = c.args.scratch.now in
     let H0 = c.args.finds.now in
@@ -864,10 +864,10 @@ ty_inner-returns-then-k-eq-NAME t c =
     let L4 = c.path_must-got.new.scratch in
     let H4 = c.path_must-got.new.finds in
     let S4 = out_state c.path_must-got.result in
-    let S5 = c.state-s1.result in
+    let S5 = c.either-s1.result in
     let L6 = c.close-then-k-eq-NAME.new.scratch in
     let S6 = c.close-then-k-eq-NAME.result in
-    in_steps {m = (mem X0 T0 N0 J0 L0 H0 S0)} {m' = (mem X0 T0 N0 J0 L6 H4 S6)} (c.requires.0) (s_false {a = (mem X0 T0 N0 J0 L0 H0 S0)} {e = (mem X0 T0 N0 J0 L6 H4 S6)} _ _ (kind_not (c.if-k-eq-LCURLY.false)) (s_false {a = (mem X0 T0 N0 J0 L0 H0 S0)} {e = (mem X0 T0 N0 J0 L6 H4 S6)} _ _ (kind_not (c.if-k-eq-LROUND.false)) (s_true {a = (mem X0 T0 N0 J0 L0 H0 S0)} {e = (mem X0 T0 N0 J0 L6 H4 S6)} _ _ (kind_is (c.if-k-eq-NAME.true)) (s_by {a = (mem X0 T0 N0 J0 L0 H0 S0)} {c = (mem X0 T0 N0 J0 L4 H4 S5)} {e = (mem X0 T0 N0 J0 L6 H4 S6)} _ (settled (c.state-s1.ensures) (runs_in {a = (mem X0 T0 N0 J0 L0 H0 S0)} {c = (mem X0 T0 N0 J0 L4 H4 S4)} (c.path_must-got.ensures))) (s_close {e = (mem X0 T0 N0 J0 L6 H4 S6)} {x = X0} {t = T0} {n = N0} {j = J0} {l = L4} {h = H4} {s = S5} {s' = S6} {l' = L6} (c.close-then-k-eq-NAME.ensures) s_end)))))
+    in_steps {m = (mem X0 T0 N0 J0 L0 H0 S0)} {m' = (mem X0 T0 N0 J0 L6 H4 S6)} (c.requires.0) (s_false {a = (mem X0 T0 N0 J0 L0 H0 S0)} {e = (mem X0 T0 N0 J0 L6 H4 S6)} _ _ (kind_not (c.if-k-eq-LCURLY.false)) (s_false {a = (mem X0 T0 N0 J0 L0 H0 S0)} {e = (mem X0 T0 N0 J0 L6 H4 S6)} _ _ (kind_not (c.if-k-eq-LROUND.false)) (s_true {a = (mem X0 T0 N0 J0 L0 H0 S0)} {e = (mem X0 T0 N0 J0 L6 H4 S6)} _ _ (kind_is (c.if-k-eq-NAME.true)) (s_by {a = (mem X0 T0 N0 J0 L0 H0 S0)} {c = (mem X0 T0 N0 J0 L4 H4 S5)} {e = (mem X0 T0 N0 J0 L6 H4 S6)} _ (settled (c.either-s1.ensures) (runs_in {a = (mem X0 T0 N0 J0 L0 H0 S0)} {c = (mem X0 T0 N0 J0 L4 H4 S4)} (c.path_must-got.ensures))) (s_close {e = (mem X0 T0 N0 J0 L6 H4 S6)} {x = X0} {t = T0} {n = N0} {j = J0} {l = L4} {h = H4} {s = S5} {s' = S6} {l' = L6} (c.close-then-k-eq-NAME.ensures) s_end)))))
 
 pub ty_inner-returns : goal.ty_inner-returns
 unfolding types.ty_inner util.end_sep plan choose chosen
@@ -885,41 +885,41 @@ ty_must-ty_prec-got-requires t c =
 
 pub ty_must-report-requires : goal.ty_must-report-requires
 ty_must-report-requires t c =
-    let ty_prec = c.in-Missing.ensures in
+    let ty_prec = c.in-Err.ensures in
     let ty_prec_ok = ty_prec.ok in
     (ty_prec_ok.holds, (let few = ty_prec_ok.reads.few in let inside = ty_prec_ok.reads.inside in omega arith), omega arith)
 
-pub ty_must-returns-in-At : goal.ty_must-returns-in-At
+pub ty_must-returns-in-Ok : goal.ty_must-returns-in-Ok
 unfolding types.ty_must plan choose chosen
-ty_must-returns-in-At t c =
-    let X0 = c.args.text.now in
-    let T0 = c.args.toks.now in
-    let N0 = c.args.env.now in
+ty_must-returns-in-Ok t c =
+    let X0 = c.args.lent.text.now in
+    let T0 = c.args.lent.toks.now in
+    let N0 = c.args.lent.env.now in
     let J0 = c.args.table.now in
     let L0 = c.args.scratch.now in
     let H0 = c.args.finds.now in
     let S0 = c.args.s in
     let L1 = c.ty_prec-got.new.scratch in
     let H1 = c.ty_prec-got.new.finds in
-    let S1 = c.in-At.s1 in
-    by_steps {m = (mem X0 T0 N0 J0 L0 H0 S0)} {m' = (mem X0 T0 N0 J0 L1 H1 S1)} (c.requires) (λ b. s_run {a = (mem X0 T0 N0 J0 L0 H0 S0)} {c = (mem X0 T0 N0 J0 L1 H1 S1)} {e = (mem X0 T0 N0 J0 L1 H1 S1)} (runs_in {a = (mem X0 T0 N0 J0 L0 H0 S0)} {c = (mem X0 T0 N0 J0 L1 H1 S1)} (c.in-At.ensures)) s_end)
+    let S1 = c.in-Ok.s1 in
+    by_steps {m = (mem X0 T0 N0 J0 L0 H0 S0)} {m' = (mem X0 T0 N0 J0 L1 H1 S1)} (c.requires) (λ b. s_run {a = (mem X0 T0 N0 J0 L0 H0 S0)} {c = (mem X0 T0 N0 J0 L1 H1 S1)} {e = (mem X0 T0 N0 J0 L1 H1 S1)} (runs_in {a = (mem X0 T0 N0 J0 L0 H0 S0)} {c = (mem X0 T0 N0 J0 L1 H1 S1)} (c.in-Ok.ensures)) s_end)
 
-pub ty_must-returns-in-Missing : goal.ty_must-returns-in-Missing
+pub ty_must-returns-in-Err : goal.ty_must-returns-in-Err
 unfolding types.ty_must plan choose chosen
-ty_must-returns-in-Missing t c =
-    let X0 = c.args.text.now in
-    let T0 = c.args.toks.now in
-    let N0 = c.args.env.now in
+ty_must-returns-in-Err t c =
+    let X0 = c.args.lent.text.now in
+    let T0 = c.args.lent.toks.now in
+    let N0 = c.args.lent.env.now in
     let J0 = c.args.table.now in
     let L0 = c.args.scratch.now in
     let H0 = c.args.finds.now in
     let S0 = c.args.s in
     let L1 = c.ty_prec-got.new.scratch in
     let H1 = c.ty_prec-got.new.finds in
-    let S1 = c.in-Missing.s1 in
+    let S1 = c.in-Err.s1 in
     let H2 = c.report.new.finds in
     let S2 = c.report.result in
-    by_steps {m = (mem X0 T0 N0 J0 L0 H0 S0)} {m' = (mem X0 T0 N0 J0 L1 H2 S2)} (c.requires) (λ b. s_run {a = (mem X0 T0 N0 J0 L0 H0 S0)} {c = (mem X0 T0 N0 J0 L1 H1 S1)} {e = (mem X0 T0 N0 J0 L1 H2 S2)} (runs_in {a = (mem X0 T0 N0 J0 L0 H0 S0)} {c = (mem X0 T0 N0 J0 L1 H1 S1)} (c.in-Missing.ensures)) (s_report {e = (mem X0 T0 N0 J0 L1 H2 S2)} {x = X0} {t = T0} {n = N0} {j = J0} {l = L1} {h = H1} {s = S1} {s' = S2} {h' = H2} (c.report.ensures) s_end))
+    by_steps {m = (mem X0 T0 N0 J0 L0 H0 S0)} {m' = (mem X0 T0 N0 J0 L1 H2 S2)} (c.requires) (λ b. s_run {a = (mem X0 T0 N0 J0 L0 H0 S0)} {c = (mem X0 T0 N0 J0 L1 H1 S1)} {e = (mem X0 T0 N0 J0 L1 H2 S2)} (runs_in {a = (mem X0 T0 N0 J0 L0 H0 S0)} {c = (mem X0 T0 N0 J0 L1 H1 S1)} (c.in-Err.ensures)) (s_report {e = (mem X0 T0 N0 J0 L1 H2 S2)} {x = X0} {t = T0} {n = N0} {j = J0} {l = L1} {h = H1} {s = S1} {s' = S2} {h' = H2} (c.report.ensures) s_end))
 
 pub ty_prec-peek-requires : goal.ty_prec-peek-requires
 ty_prec-peek-requires t c =
@@ -929,14 +929,9 @@ ty_prec-peek-requires t c =
 pub ty_prec-returns-in_default : goal.ty_prec-returns-in_default
 unfolding root.body types.ty_scope plan choose chosen
 ty_prec-returns-in_default t c =
-    let X0 = c.args.text.now in
-    let T0 = c.args.toks.now in
-    let N0 = c.args.env.now in
-    let J0 = c.args.table.now in
-    let L0 = c.args.scratch.now in
-    let H0 = c.args.finds.now in
-    let S0 = c.args.s in
-    by_steps {m = (mem X0 T0 N0 J0 L0 H0 S0)} {m' = (mem X0 T0 N0 J0 L0 H0 S0)} (c.requires) (λ b. s_rule {a = (mem X0 T0 N0 J0 L0 H0 S0)} {e = (mem X0 T0 N0 J0 L0 H0 S0)} (s_look {a = (mem X0 T0 N0 J0 L0 H0 S0)} {e = (mem X0 T0 N0 J0 L0 H0 S0)} (c.in_default.ensures) s_end))
+    let pre0 = c.requires in
+    let peek = c.in_default.ensures in
+    by_steps pre0 (λ b. s_rule (s_look peek s_end))
 
 pub ty_prec-refuse-requires : goal.ty_prec-refuse-requires
 ty_prec-refuse-requires t c =
@@ -945,15 +940,15 @@ ty_prec-refuse-requires t c =
 pub ty_prec-returns-then-left-eq0 : goal.ty_prec-returns-then-left-eq0
 unfolding root.body types.ty_scope plan choose chosen hushed
 ty_prec-returns-then-left-eq0 t c =
-    let X0 = c.args.text.now in
-    let T0 = c.args.toks.now in
-    let N0 = c.args.env.now in
+    let X0 = c.args.lent.text.now in
+    let T0 = c.args.lent.toks.now in
+    let N0 = c.args.lent.env.now in
     let J0 = c.args.table.now in
     let L0 = c.args.scratch.now in
     let H0 = c.args.finds.now in
     let S0 = c.args.s in
     let S3 = c.refuse.result in
-    by_steps {m = (mem X0 T0 N0 J0 L0 H0 S0)} {m' = (mem X0 T0 N0 J0 L0 H0 S3)} (c.requires) (λ b. s_rule {a = (mem X0 T0 N0 J0 L0 H0 S0)} {e = (mem X0 T0 N0 J0 L0 H0 S3)} (s_look {a = (mem X0 T0 N0 J0 L0 H0 S0)} {e = (mem X0 T0 N0 J0 L0 H0 S3)} (c.in-Kind.ensures) (s_shut (c.if-left-eq0.true) (c.refuse.ensures) (λ k l. refl))))
+    by_steps {m = (mem X0 T0 N0 J0 L0 H0 S0)} {m' = (mem X0 T0 N0 J0 L0 H0 S3)} (c.requires) (λ b. s_rule {a = (mem X0 T0 N0 J0 L0 H0 S0)} {e = (mem X0 T0 N0 J0 L0 H0 S3)} (s_look {a = (mem X0 T0 N0 J0 L0 H0 S0)} {e = (mem X0 T0 N0 J0 L0 H0 S3)} (c.in-Some.ensures) (s_shut (c.if-left-eq0.true) (c.refuse.ensures) (λ k l. refl))))
 
 pub ty_prec-mark-requires : goal.ty_prec-mark-requires
 ty_prec-mark-requires t c =
@@ -969,16 +964,16 @@ ty_prec-ty_head-head-requires t c =
 pub ty_prec-ty_tail-requires : goal.ty_prec-ty_tail-requires
 ty_prec-ty_tail-requires t c =
     let pre0 = c.requires in
-    let ty_head = c.in-At.ensures in
+    let ty_head = c.in-Ok.ensures in
     let ty_head_ok = ty_head.ok in
     (omega arith, (ty_head_ok, small_len pre0))
 
-pub ty_prec-returns-in-Missing : goal.ty_prec-returns-in-Missing
+pub ty_prec-returns-in-Err : goal.ty_prec-returns-in-Err
 unfolding root.body types.ty_scope plan choose chosen
-ty_prec-returns-in-Missing t c =
-    let X0 = c.args.text.now in
-    let T0 = c.args.toks.now in
-    let N0 = c.args.env.now in
+ty_prec-returns-in-Err t c =
+    let X0 = c.args.lent.text.now in
+    let T0 = c.args.lent.toks.now in
+    let N0 = c.args.lent.env.now in
     let J0 = c.args.table.now in
     let L0 = c.args.scratch.now in
     let H0 = c.args.finds.now in
@@ -986,15 +981,15 @@ ty_prec-returns-in-Missing t c =
     let S3 = c.mark.result in
     let L4 = c.ty_head-head.new.scratch in
     let H4 = c.ty_head-head.new.finds in
-    let S4 = c.in-Missing.s2 in
-    by_steps {m = (mem X0 T0 N0 J0 L0 H0 S0)} {m' = (mem X0 T0 N0 J0 L4 H4 S4)} (c.requires) (λ b. s_rule {a = (mem X0 T0 N0 J0 L0 H0 S0)} {e = (mem X0 T0 N0 J0 L4 H4 S4)} (s_look {a = (mem X0 T0 N0 J0 L0 H0 S0)} {e = (mem X0 T0 N0 J0 L4 H4 S4)} (c.in-Kind.ensures) (s_mark {e = (mem X0 T0 N0 J0 L4 H4 S4)} {x = X0} {t = T0} {n = N0} {j = J0} {l = L0} {h = H0} {s = S0} {s' = S3} (c.if-left-eq0.false) (c.mark.ensures) (s_by {a = (mem X0 T0 N0 J0 L0 H0 S3)} {c = (mem X0 T0 N0 J0 L4 H4 S4)} {e = (mem X0 T0 N0 J0 L4 H4 S4)} _ (c.in-Missing.ensures) s_end))))
+    let S4 = c.in-Err.s2 in
+    by_steps {m = (mem X0 T0 N0 J0 L0 H0 S0)} {m' = (mem X0 T0 N0 J0 L4 H4 S4)} (c.requires) (λ b. s_rule {a = (mem X0 T0 N0 J0 L0 H0 S0)} {e = (mem X0 T0 N0 J0 L4 H4 S4)} (s_look {a = (mem X0 T0 N0 J0 L0 H0 S0)} {e = (mem X0 T0 N0 J0 L4 H4 S4)} (c.in-Some.ensures) (s_mark {e = (mem X0 T0 N0 J0 L4 H4 S4)} {x = X0} {t = T0} {n = N0} {j = J0} {l = L0} {h = H0} {s = S0} {s' = S3} (c.if-left-eq0.false) (c.mark.ensures) (s_by {a = (mem X0 T0 N0 J0 L0 H0 S3)} {c = (mem X0 T0 N0 J0 L4 H4 S4)} {e = (mem X0 T0 N0 J0 L4 H4 S4)} _ (c.in-Err.ensures) s_end))))
 
-pub ty_prec-returns-in-At : goal.ty_prec-returns-in-At
+pub ty_prec-returns-in-Ok : goal.ty_prec-returns-in-Ok
 unfolding root.body types.ty_scope plan choose chosen
-ty_prec-returns-in-At t c =
-    let X0 = c.args.text.now in
-    let T0 = c.args.toks.now in
-    let N0 = c.args.env.now in
+ty_prec-returns-in-Ok t c =
+    let X0 = c.args.lent.text.now in
+    let T0 = c.args.lent.toks.now in
+    let N0 = c.args.lent.env.now in
     let J0 = c.args.table.now in
     let L0 = c.args.scratch.now in
     let H0 = c.args.finds.now in
@@ -1002,11 +997,11 @@ ty_prec-returns-in-At t c =
     let S3 = c.mark.result in
     let L4 = c.ty_head-head.new.scratch in
     let H4 = c.ty_head-head.new.finds in
-    let S4 = c.in-At.s2 in
+    let S4 = c.in-Ok.s2 in
     let L5 = c.ty_tail.new.scratch in
     let H5 = c.ty_tail.new.finds in
     let S5 = c.ty_tail.result in
-    by_steps {m = (mem X0 T0 N0 J0 L0 H0 S0)} {m' = (mem X0 T0 N0 J0 L5 H5 S5)} (c.requires) (λ b. s_rule {a = (mem X0 T0 N0 J0 L0 H0 S0)} {e = (mem X0 T0 N0 J0 L5 H5 S5)} (s_look {a = (mem X0 T0 N0 J0 L0 H0 S0)} {e = (mem X0 T0 N0 J0 L5 H5 S5)} (c.in-Kind.ensures) (s_mark {e = (mem X0 T0 N0 J0 L5 H5 S5)} {x = X0} {t = T0} {n = N0} {j = J0} {l = L0} {h = H0} {s = S0} {s' = S3} (c.if-left-eq0.false) (c.mark.ensures) (s_by {a = (mem X0 T0 N0 J0 L0 H0 S3)} {c = (mem X0 T0 N0 J0 L4 H4 S4)} {e = (mem X0 T0 N0 J0 L5 H5 S5)} _ (c.in-At.ensures) (s_run {a = (mem X0 T0 N0 J0 L4 H4 S4)} {c = (mem X0 T0 N0 J0 L5 H5 S5)} {e = (mem X0 T0 N0 J0 L5 H5 S5)} (c.ty_tail.ensures) s_end)))))
+    by_steps {m = (mem X0 T0 N0 J0 L0 H0 S0)} {m' = (mem X0 T0 N0 J0 L5 H5 S5)} (c.requires) (λ b. s_rule {a = (mem X0 T0 N0 J0 L0 H0 S0)} {e = (mem X0 T0 N0 J0 L5 H5 S5)} (s_look {a = (mem X0 T0 N0 J0 L0 H0 S0)} {e = (mem X0 T0 N0 J0 L5 H5 S5)} (c.in-Some.ensures) (s_mark {e = (mem X0 T0 N0 J0 L5 H5 S5)} {x = X0} {t = T0} {n = N0} {j = J0} {l = L0} {h = H0} {s = S0} {s' = S3} (c.if-left-eq0.false) (c.mark.ensures) (s_by {a = (mem X0 T0 N0 J0 L0 H0 S3)} {c = (mem X0 T0 N0 J0 L4 H4 S4)} {e = (mem X0 T0 N0 J0 L5 H5 S5)} _ (c.in-Ok.ensures) (s_run {a = (mem X0 T0 N0 J0 L4 H4 S4)} {c = (mem X0 T0 N0 J0 L5 H5 S5)} {e = (mem X0 T0 N0 J0 L5 H5 S5)} (c.ty_tail.ensures) s_end)))))
 
 pub ty_round-ty_seq-seq-requires : goal.ty_round-ty_seq-seq-requires
 ty_round-ty_seq-seq-requires t c =
@@ -1015,12 +1010,12 @@ ty_round-ty_seq-seq-requires t c =
 
 pub ty_round-path_must-got-requires : goal.ty_round-path_must-got-requires
 ty_round-path_must-got-requires t c =
-    let ty_seq = c.in-Missing.ensures in
+    let ty_seq = c.in-Err.ensures in
     let ty_seq_ok = ty_seq.ok in
     ty_seq_ok
 
-pub ty_round-state-s2-requires : goal.ty_round-state-s2-requires
-ty_round-state-s2-requires t c =
+pub ty_round-either-s2-requires : goal.ty_round-either-s2-requires
+ty_round-either-s2-requires t c =
     tt
 
 pub ty_round-close-requires : goal.ty_round-close-requires
@@ -1028,64 +1023,64 @@ ty_round-close-requires t c =
     let pre1 = c.requires.1 in
     let path_must = c.path_must-got.ensures in
     let path_must_ok = path_must.ok in
-    let state = c.state-s2.ensures in
-    let state_ok = ok_state state path_must_ok in
-    (state_ok.logs, pre1)
+    let either = c.either-s2.ensures in
+    let either_ok = ok_state either path_must_ok in
+    (either_ok.logs, pre1)
 
 pub ty_round-bump-s2-requires : goal.ty_round-bump-s2-requires
 ty_round-bump-s2-requires t c =
-    let ty_seq = c.in-At.ensures in
+    let ty_seq = c.in-Ok.ensures in
     let ty_seq_ok = ty_seq.ok in
     (ty_seq_ok.reads, ty_seq_ok.logs)
 
-pub ty_round-close-requires-in-At : goal.ty_round-close-requires-in-At
-ty_round-close-requires-in-At t c =
+pub ty_round-close-requires-in-Ok : goal.ty_round-close-requires-in-Ok
+ty_round-close-requires-in-Ok t c =
     let pre1 = c.requires.1 in
-    let ty_seq = c.in-At.ensures in
+    let ty_seq = c.in-Ok.ensures in
     let ty_seq_ok = ty_seq.ok in
     let bump = c.bump-s2.ensures in
     let bump_ok = ok_bumps bump ty_seq_ok in
     (bump_ok.logs, pre1)
 
-pub ty_round-returns-in-Missing : goal.ty_round-returns-in-Missing
+pub ty_round-returns-in-Err : goal.ty_round-returns-in-Err
 unfolding types.ty_round plan choose chosen
-ty_round-returns-in-Missing t c =
-    let X0 = c.args.text.now in
-    let T0 = c.args.toks.now in
-    let N0 = c.args.env.now in
+ty_round-returns-in-Err t c =
+    let X0 = c.args.lent.text.now in
+    let T0 = c.args.lent.toks.now in
+    let N0 = c.args.lent.env.now in
     let J0 = c.args.table.now in
     let L0 = c.args.scratch.now in
     let H0 = c.args.finds.now in
     let S0 = c.args.s in
     let L1 = c.ty_seq-seq.new.scratch in
     let H1 = c.ty_seq-seq.new.finds in
-    let S1 = c.in-Missing.s1 in
+    let S1 = c.in-Err.s1 in
     let L2 = c.path_must-got.new.scratch in
     let H2 = c.path_must-got.new.finds in
     let S2 = out_state c.path_must-got.result in
-    let S3 = c.state-s2.result in
+    let S3 = c.either-s2.result in
     let L4 = c.close.new.scratch in
     let S4 = c.close.result in
-    in_steps {m = (mem X0 T0 N0 J0 L0 H0 S0)} {m' = (mem X0 T0 N0 J0 L4 H2 S4)} (c.requires.0) (s_by {a = (mem X0 T0 N0 J0 L0 H0 S0)} {c = (mem X0 T0 N0 J0 L1 H1 S1)} {e = (mem X0 T0 N0 J0 L4 H2 S4)} _ (runs_in {a = (mem X0 T0 N0 J0 L0 H0 S0)} {c = (mem X0 T0 N0 J0 L1 H1 S1)} (c.in-Missing.ensures)) (s_by {a = (mem X0 T0 N0 J0 L1 H1 S1)} {c = (mem X0 T0 N0 J0 L2 H2 S3)} {e = (mem X0 T0 N0 J0 L4 H2 S4)} _ (settled (c.state-s2.ensures) (runs_in {a = (mem X0 T0 N0 J0 L1 H1 S1)} {c = (mem X0 T0 N0 J0 L2 H2 S2)} (c.path_must-got.ensures))) (s_close {e = (mem X0 T0 N0 J0 L4 H2 S4)} {x = X0} {t = T0} {n = N0} {j = J0} {l = L2} {h = H2} {s = S3} {s' = S4} {l' = L4} (c.close.ensures) s_end)))
+    in_steps {m = (mem X0 T0 N0 J0 L0 H0 S0)} {m' = (mem X0 T0 N0 J0 L4 H2 S4)} (c.requires.0) (s_by {a = (mem X0 T0 N0 J0 L0 H0 S0)} {c = (mem X0 T0 N0 J0 L1 H1 S1)} {e = (mem X0 T0 N0 J0 L4 H2 S4)} _ (runs_in {a = (mem X0 T0 N0 J0 L0 H0 S0)} {c = (mem X0 T0 N0 J0 L1 H1 S1)} (c.in-Err.ensures)) (s_by {a = (mem X0 T0 N0 J0 L1 H1 S1)} {c = (mem X0 T0 N0 J0 L2 H2 S3)} {e = (mem X0 T0 N0 J0 L4 H2 S4)} _ (settled (c.either-s2.ensures) (runs_in {a = (mem X0 T0 N0 J0 L1 H1 S1)} {c = (mem X0 T0 N0 J0 L2 H2 S2)} (c.path_must-got.ensures))) (s_close {e = (mem X0 T0 N0 J0 L4 H2 S4)} {x = X0} {t = T0} {n = N0} {j = J0} {l = L2} {h = H2} {s = S3} {s' = S4} {l' = L4} (c.close.ensures) s_end)))
 
-pub ty_round-returns-in-At : goal.ty_round-returns-in-At
+pub ty_round-returns-in-Ok : goal.ty_round-returns-in-Ok
 unfolding types.ty_round plan choose chosen
-ty_round-returns-in-At t c =
-    let X0 = c.args.text.now in
-    let T0 = c.args.toks.now in
-    let N0 = c.args.env.now in
+ty_round-returns-in-Ok t c =
+    let X0 = c.args.lent.text.now in
+    let T0 = c.args.lent.toks.now in
+    let N0 = c.args.lent.env.now in
     let J0 = c.args.table.now in
     let L0 = c.args.scratch.now in
     let H0 = c.args.finds.now in
     let S0 = c.args.s in
     let L1 = c.ty_seq-seq.new.scratch in
     let H1 = c.ty_seq-seq.new.finds in
-    let S1 = c.in-At.s1 in
+    let S1 = c.in-Ok.s1 in
     let L2 = c.bump-s2.new.scratch in
     let S2 = c.bump-s2.result in
-    let L3 = c.close-in-At.new.scratch in
-    let S3 = c.close-in-At.result in
-    in_steps {m = (mem X0 T0 N0 J0 L0 H0 S0)} {m' = (mem X0 T0 N0 J0 L3 H1 S3)} (c.requires.0) (s_by {a = (mem X0 T0 N0 J0 L0 H0 S0)} {c = (mem X0 T0 N0 J0 L1 H1 S1)} {e = (mem X0 T0 N0 J0 L3 H1 S3)} _ (runs_in {a = (mem X0 T0 N0 J0 L0 H0 S0)} {c = (mem X0 T0 N0 J0 L1 H1 S1)} (c.in-At.ensures)) (s_bump {e = (mem X0 T0 N0 J0 L3 H1 S3)} {x = X0} {t = T0} {n = N0} {j = J0} {l = L1} {h = H1} {s = S1} {s' = S2} {l' = L2} (c.bump-s2.ensures) (s_close {e = (mem X0 T0 N0 J0 L3 H1 S3)} {x = X0} {t = T0} {n = N0} {j = J0} {l = L2} {h = H1} {s = S2} {s' = S3} {l' = L3} (c.close-in-At.ensures) s_end)))
+    let L3 = c.close-in-Ok.new.scratch in
+    let S3 = c.close-in-Ok.result in
+    in_steps {m = (mem X0 T0 N0 J0 L0 H0 S0)} {m' = (mem X0 T0 N0 J0 L3 H1 S3)} (c.requires.0) (s_by {a = (mem X0 T0 N0 J0 L0 H0 S0)} {c = (mem X0 T0 N0 J0 L1 H1 S1)} {e = (mem X0 T0 N0 J0 L3 H1 S3)} _ (runs_in {a = (mem X0 T0 N0 J0 L0 H0 S0)} {c = (mem X0 T0 N0 J0 L1 H1 S1)} (c.in-Ok.ensures)) (s_bump {e = (mem X0 T0 N0 J0 L3 H1 S3)} {x = X0} {t = T0} {n = N0} {j = J0} {l = L1} {h = H1} {s = S1} {s' = S2} {l' = L2} (c.bump-s2.ensures) (s_close {e = (mem X0 T0 N0 J0 L3 H1 S3)} {x = X0} {t = T0} {n = N0} {j = J0} {l = L2} {h = H1} {s = S2} {s' = S3} {l' = L3} (c.close-in-Ok.ensures) s_end)))
 
 pub ty_row-lab-s1-requires : goal.ty_row-lab-s1-requires
 ty_row-lab-s1-requires t c =
@@ -1111,9 +1106,9 @@ ty_row-ty_must-requires t c =
 pub ty_row-returns : goal.ty_row-returns
 unfolding types.ty_row plan choose chosen
 ty_row-returns t c =
-    let X0 = c.args.text.now in
-    let T0 = c.args.toks.now in
-    let N0 = c.args.env.now in
+    let X0 = c.args.lent.text.now in
+    let T0 = c.args.lent.toks.now in
+    let N0 = c.args.lent.env.now in
     let J0 = c.args.table.now in
     let L0 = c.args.scratch.now in
     let H0 = c.args.finds.now in
@@ -1140,19 +1135,19 @@ ty_rows-row_turn-turn-requires t c =
 
 pub ty_rows-loop-s2-smaller : goal.ty_rows-loop-s2-smaller
 ty_rows-loop-s2-smaller t c =
-    let row_turn = c.in-At.ensures in
+    let row_turn = c.in-Ok.ensures in
     loop_falls (end_turn_advances true _ _ _ _ _ _) (runs_in {b = 0} row_turn)
 
 pub ty_rows-loop-s2-preserved : goal.ty_rows-loop-s2-preserved
 ty_rows-loop-s2-preserved t c =
     let inv = c.loop-s2.invariant in
-    let row_turn = c.in-At.ensures in
+    let row_turn = c.in-Ok.ensures in
     loop_goes (end_turn_advances true _ _ _ _ _ _) inv (runs_in row_turn)
 
-pub ty_rows-returns-in-Missing : goal.ty_rows-returns-in-Missing
-ty_rows-returns-in-Missing t c =
+pub ty_rows-returns-in-Err : goal.ty_rows-returns-in-Err
+ty_rows-returns-in-Err t c =
     let inv = c.loop-s2.invariant in
-    let row_turn = c.in-Missing.ensures in
+    let row_turn = c.in-Err.ensures in
     loop_ends (end_turn_advances true _ _ _ _ _ _) inv (runs_in row_turn)
 
 pub ty_seq-refuse-requires : goal.ty_seq-refuse-requires
@@ -1162,9 +1157,9 @@ ty_seq-refuse-requires t c =
 pub ty_seq-returns-then-left-eq0 : goal.ty_seq-returns-then-left-eq0
 unfolding types.ty_seq util.end_sep plan choose chosen hushed
 ty_seq-returns-then-left-eq0 t c =
-    let X0 = c.args.text.now in
-    let T0 = c.args.toks.now in
-    let N0 = c.args.env.now in
+    let X0 = c.args.lent.text.now in
+    let T0 = c.args.lent.toks.now in
+    let N0 = c.args.lent.env.now in
     let J0 = c.args.table.now in
     let L0 = c.args.scratch.now in
     let H0 = c.args.finds.now in
@@ -1194,7 +1189,7 @@ ty_seq-ty_arg-arg-requires t c =
 
 pub ty_seq-ty_args-s4-requires : goal.ty_seq-ty_args-s4-requires
 ty_seq-ty_args-s4-requires t c =
-    let ty_arg = c.in-Missing.ensures in
+    let ty_arg = c.in-Err.ensures in
     let ty_arg_ok = ty_arg.ok in
     (omega arith, ty_arg_ok)
 
@@ -1207,12 +1202,12 @@ ty_seq-close-requires t c =
     let ty_args_ok = ty_args.ok in
     (ty_args_ok.logs, small_len mark_ok)
 
-pub ty_seq-returns-in-Missing : goal.ty_seq-returns-in-Missing
+pub ty_seq-returns-in-Err : goal.ty_seq-returns-in-Err
 unfolding types.ty_seq util.end_sep plan choose chosen
-ty_seq-returns-in-Missing t c =
-    let X0 = c.args.text.now in
-    let T0 = c.args.toks.now in
-    let N0 = c.args.env.now in
+ty_seq-returns-in-Err t c =
+    let X0 = c.args.lent.text.now in
+    let T0 = c.args.lent.toks.now in
+    let N0 = c.args.lent.env.now in
     let J0 = c.args.table.now in
     let L0 = c.args.scratch.now in
     let H0 = c.args.finds.now in
@@ -1222,20 +1217,20 @@ ty_seq-returns-in-Missing t c =
     let S3 = c.bump-s2.result in
     let L4 = c.ty_arg-arg.new.scratch in
     let H4 = c.ty_arg-arg.new.finds in
-    let S4 = c.in-Missing.s3 in
+    let S4 = c.in-Err.s3 in
     let L5 = c.ty_args-s4.new.scratch in
     let H5 = c.ty_args-s4.new.finds in
     let S5 = c.ty_args-s4.result in
     let L6 = c.close.new.scratch in
     let S6 = c.close.result in
-    by_steps {m = (mem X0 T0 N0 J0 L0 H0 S0)} {m' = (mem X0 T0 N0 J0 L6 H5 S6)} (c.requires) (λ b. s_mark {e = (mem X0 T0 N0 J0 L6 H5 S6)} {x = X0} {t = T0} {n = N0} {j = J0} {l = L0} {h = H0} {s = S0} {s' = S2} (c.if-left-eq0.false) (c.mark-s1.ensures) (s_bump {e = (mem X0 T0 N0 J0 L6 H5 S6)} {x = X0} {t = T0} {n = N0} {j = J0} {l = L0} {h = H0} {s = S2} {s' = S3} {l' = L3} (c.bump-s2.ensures) (s_by {a = (mem X0 T0 N0 J0 L3 H0 S3)} {c = (mem X0 T0 N0 J0 L4 H4 S4)} {e = (mem X0 T0 N0 J0 L6 H5 S6)} _ (runs_in {a = (mem X0 T0 N0 J0 L3 H0 S3)} {c = (mem X0 T0 N0 J0 L4 H4 S4)} (c.in-Missing.ensures)) (s_run {a = (mem X0 T0 N0 J0 L4 H4 S4)} {c = (mem X0 T0 N0 J0 L5 H5 S5)} {e = (mem X0 T0 N0 J0 L6 H5 S6)} (c.ty_args-s4.ensures) (s_close {e = (mem X0 T0 N0 J0 L6 H5 S6)} {x = X0} {t = T0} {n = N0} {j = J0} {l = L5} {h = H5} {s = S5} {s' = S6} {l' = L6} (c.close.ensures) s_end)))))
+    by_steps {m = (mem X0 T0 N0 J0 L0 H0 S0)} {m' = (mem X0 T0 N0 J0 L6 H5 S6)} (c.requires) (λ b. s_mark {e = (mem X0 T0 N0 J0 L6 H5 S6)} {x = X0} {t = T0} {n = N0} {j = J0} {l = L0} {h = H0} {s = S0} {s' = S2} (c.if-left-eq0.false) (c.mark-s1.ensures) (s_bump {e = (mem X0 T0 N0 J0 L6 H5 S6)} {x = X0} {t = T0} {n = N0} {j = J0} {l = L0} {h = H0} {s = S2} {s' = S3} {l' = L3} (c.bump-s2.ensures) (s_by {a = (mem X0 T0 N0 J0 L3 H0 S3)} {c = (mem X0 T0 N0 J0 L4 H4 S4)} {e = (mem X0 T0 N0 J0 L6 H5 S6)} _ (runs_in {a = (mem X0 T0 N0 J0 L3 H0 S3)} {c = (mem X0 T0 N0 J0 L4 H4 S4)} (c.in-Err.ensures)) (s_run {a = (mem X0 T0 N0 J0 L4 H4 S4)} {c = (mem X0 T0 N0 J0 L5 H5 S5)} {e = (mem X0 T0 N0 J0 L6 H5 S6)} (c.ty_args-s4.ensures) (s_close {e = (mem X0 T0 N0 J0 L6 H5 S6)} {x = X0} {t = T0} {n = N0} {j = J0} {l = L5} {h = H5} {s = S5} {s' = S6} {l' = L6} (c.close.ensures) s_end)))))
 
-pub ty_seq-returns-in-At : goal.ty_seq-returns-in-At
+pub ty_seq-returns-in-Ok : goal.ty_seq-returns-in-Ok
 unfolding types.ty_seq util.end_sep plan choose chosen
-ty_seq-returns-in-At t c =
-    let X0 = c.args.text.now in
-    let T0 = c.args.toks.now in
-    let N0 = c.args.env.now in
+ty_seq-returns-in-Ok t c =
+    let X0 = c.args.lent.text.now in
+    let T0 = c.args.lent.toks.now in
+    let N0 = c.args.lent.env.now in
     let J0 = c.args.table.now in
     let L0 = c.args.scratch.now in
     let H0 = c.args.finds.now in
@@ -1245,8 +1240,8 @@ ty_seq-returns-in-At t c =
     let S3 = c.bump-s2.result in
     let L4 = c.ty_arg-arg.new.scratch in
     let H4 = c.ty_arg-arg.new.finds in
-    let S4 = c.in-At.s3 in
-    by_steps {m = (mem X0 T0 N0 J0 L0 H0 S0)} {m' = (mem X0 T0 N0 J0 L4 H4 S4)} (c.requires) (λ b. s_mark {e = (mem X0 T0 N0 J0 L4 H4 S4)} {x = X0} {t = T0} {n = N0} {j = J0} {l = L0} {h = H0} {s = S0} {s' = S2} (c.if-left-eq0.false) (c.mark-s1.ensures) (s_bump {e = (mem X0 T0 N0 J0 L4 H4 S4)} {x = X0} {t = T0} {n = N0} {j = J0} {l = L0} {h = H0} {s = S2} {s' = S3} {l' = L3} (c.bump-s2.ensures) (s_by {a = (mem X0 T0 N0 J0 L3 H0 S3)} {c = (mem X0 T0 N0 J0 L4 H4 S4)} {e = (mem X0 T0 N0 J0 L4 H4 S4)} _ (runs_in {a = (mem X0 T0 N0 J0 L3 H0 S3)} {c = (mem X0 T0 N0 J0 L4 H4 S4)} (c.in-At.ensures)) s_end)))
+    let S4 = c.in-Ok.s3 in
+    by_steps {m = (mem X0 T0 N0 J0 L0 H0 S0)} {m' = (mem X0 T0 N0 J0 L4 H4 S4)} (c.requires) (λ b. s_mark {e = (mem X0 T0 N0 J0 L4 H4 S4)} {x = X0} {t = T0} {n = N0} {j = J0} {l = L0} {h = H0} {s = S0} {s' = S2} (c.if-left-eq0.false) (c.mark-s1.ensures) (s_bump {e = (mem X0 T0 N0 J0 L4 H4 S4)} {x = X0} {t = T0} {n = N0} {j = J0} {l = L0} {h = H0} {s = S2} {s' = S3} {l' = L3} (c.bump-s2.ensures) (s_by {a = (mem X0 T0 N0 J0 L3 H0 S3)} {c = (mem X0 T0 N0 J0 L4 H4 S4)} {e = (mem X0 T0 N0 J0 L4 H4 S4)} _ (runs_in {a = (mem X0 T0 N0 J0 L3 H0 S3)} {c = (mem X0 T0 N0 J0 L4 H4 S4)} (c.in-Ok.ensures)) s_end)))
 
 pub ty_step-peek-requires : goal.ty_step-peek-requires
 ty_step-peek-requires t c =
@@ -1256,30 +1251,25 @@ ty_step-peek-requires t c =
 pub ty_step-returns-in_default : goal.ty_step-returns-in_default
 unfolding types.ty_step plan choose chosen
 ty_step-returns-in_default t c =
-    let X0 = c.args.text.now in
-    let T0 = c.args.toks.now in
-    let N0 = c.args.env.now in
-    let J0 = c.args.table.now in
-    let L0 = c.args.scratch.now in
-    let H0 = c.args.finds.now in
-    let S0 = c.args.s in
-    in_steps {m = (mem X0 T0 N0 J0 L0 H0 S0)} {m' = (mem X0 T0 N0 J0 L0 H0 S0)} (c.requires.0) (s_look {a = (mem X0 T0 N0 J0 L0 H0 S0)} {e = (mem X0 T0 N0 J0 L0 H0 S0)} (c.in_default.ensures) s_end)
+    let pre0 = c.requires.0 in
+    let peek = c.in_default.ensures in
+    in_steps pre0 (s_look peek s_end)
 
-pub ty_step-arrow_ends-requires : goal.ty_step-arrow_ends-requires
-ty_step-arrow_ends-requires t c =
+pub ty_step-ends-requires : goal.ty_step-ends-requires
+ty_step-ends-requires t c =
     tt
 
-pub ty_step-returns-then-arrow_ends : goal.ty_step-returns-then-arrow_ends
+pub ty_step-returns-then-ends : goal.ty_step-returns-then-ends
 unfolding types.ty_step plan choose chosen
-ty_step-returns-then-arrow_ends t c =
-    let X0 = c.args.text.now in
-    let T0 = c.args.toks.now in
-    let N0 = c.args.env.now in
+ty_step-returns-then-ends t c =
+    let X0 = c.args.lent.text.now in
+    let T0 = c.args.lent.toks.now in
+    let N0 = c.args.lent.env.now in
     let J0 = c.args.table.now in
     let L0 = c.args.scratch.now in
     let H0 = c.args.finds.now in
     let S0 = c.args.s in
-    in_steps {m = (mem X0 T0 N0 J0 L0 H0 S0)} {m' = (mem X0 T0 N0 J0 L0 H0 S0)} (c.requires.0) (s_look {a = (mem X0 T0 N0 J0 L0 H0 S0)} {e = (mem X0 T0 N0 J0 L0 H0 S0)} (c.in-Kind.ensures) (s_true {a = (mem X0 T0 N0 J0 L0 H0 S0)} {e = (mem X0 T0 N0 J0 L0 H0 S0)} _ _ (kind_is (c.if-k-eq-MINUS_GT.true)) (s_true {a = (mem X0 T0 N0 J0 L0 H0 S0)} {e = (mem X0 T0 N0 J0 L0 H0 S0)} _ _ (test_true (c.arrow_ends.ensures) (c.if-arrow_ends.true)) s_end)))
+    in_steps {m = (mem X0 T0 N0 J0 L0 H0 S0)} {m' = (mem X0 T0 N0 J0 L0 H0 S0)} (c.requires.0) (s_look {a = (mem X0 T0 N0 J0 L0 H0 S0)} {e = (mem X0 T0 N0 J0 L0 H0 S0)} (c.in-Some.ensures) (s_true {a = (mem X0 T0 N0 J0 L0 H0 S0)} {e = (mem X0 T0 N0 J0 L0 H0 S0)} _ _ (kind_is (c.if-k-eq-MINUS_GT.true)) (s_true {a = (mem X0 T0 N0 J0 L0 H0 S0)} {e = (mem X0 T0 N0 J0 L0 H0 S0)} _ _ (test_true (c.ends.ensures) (c.if-ends.true)) s_end)))
 
 pub ty_step-ty_arrow-requires : goal.ty_step-ty_arrow-requires
 ty_step-ty_arrow-requires t c =
@@ -1290,9 +1280,9 @@ ty_step-ty_arrow-requires t c =
 pub ty_step-returns-then-k-eq-MINUS_GT : goal.ty_step-returns-then-k-eq-MINUS_GT
 unfolding types.ty_step plan choose chosen
 ty_step-returns-then-k-eq-MINUS_GT t c =
-    let X0 = c.args.text.now in
-    let T0 = c.args.toks.now in
-    let N0 = c.args.env.now in
+    let X0 = c.args.lent.text.now in
+    let T0 = c.args.lent.toks.now in
+    let N0 = c.args.lent.env.now in
     let J0 = c.args.table.now in
     let L0 = c.args.scratch.now in
     let H0 = c.args.finds.now in
@@ -1300,23 +1290,23 @@ ty_step-returns-then-k-eq-MINUS_GT t c =
     let L5 = c.ty_arrow.new.scratch in
     let H5 = c.ty_arrow.new.finds in
     let S5 = c.ty_arrow.result in
-    in_steps {m = (mem X0 T0 N0 J0 L0 H0 S0)} {m' = (mem X0 T0 N0 J0 L5 H5 S5)} (c.requires.0) (s_look {a = (mem X0 T0 N0 J0 L0 H0 S0)} {e = (mem X0 T0 N0 J0 L5 H5 S5)} (c.in-Kind.ensures) (s_true {a = (mem X0 T0 N0 J0 L0 H0 S0)} {e = (mem X0 T0 N0 J0 L5 H5 S5)} _ _ (kind_is (c.if-k-eq-MINUS_GT.true)) (s_false {a = (mem X0 T0 N0 J0 L0 H0 S0)} {e = (mem X0 T0 N0 J0 L5 H5 S5)} _ _ (test_false (c.arrow_ends.ensures) (c.if-arrow_ends.false)) (s_by {a = (mem X0 T0 N0 J0 L0 H0 S0)} {c = (mem X0 T0 N0 J0 L5 H5 S5)} {e = (mem X0 T0 N0 J0 L5 H5 S5)} _ (c.ty_arrow.ensures) s_end))))
+    in_steps {m = (mem X0 T0 N0 J0 L0 H0 S0)} {m' = (mem X0 T0 N0 J0 L5 H5 S5)} (c.requires.0) (s_look {a = (mem X0 T0 N0 J0 L0 H0 S0)} {e = (mem X0 T0 N0 J0 L5 H5 S5)} (c.in-Some.ensures) (s_true {a = (mem X0 T0 N0 J0 L0 H0 S0)} {e = (mem X0 T0 N0 J0 L5 H5 S5)} _ _ (kind_is (c.if-k-eq-MINUS_GT.true)) (s_false {a = (mem X0 T0 N0 J0 L0 H0 S0)} {e = (mem X0 T0 N0 J0 L5 H5 S5)} _ _ (test_false (c.ends.ensures) (c.if-ends.false)) (s_by {a = (mem X0 T0 N0 J0 L0 H0 S0)} {c = (mem X0 T0 N0 J0 L5 H5 S5)} {e = (mem X0 T0 N0 J0 L5 H5 S5)} _ (c.ty_arrow.ensures) s_end))))
 
-pub ty_step-star_ends-requires : goal.ty_step-star_ends-requires
-ty_step-star_ends-requires t c =
+pub ty_step-ends-requires-then-k-eq-STAR : goal.ty_step-ends-requires-then-k-eq-STAR
+ty_step-ends-requires-then-k-eq-STAR t c =
     tt
 
-pub ty_step-returns-then-star_ends : goal.ty_step-returns-then-star_ends
+pub ty_step-returns-then-ends-2 : goal.ty_step-returns-then-ends-2
 unfolding types.ty_step plan choose chosen
-ty_step-returns-then-star_ends t c =
-    let X0 = c.args.text.now in
-    let T0 = c.args.toks.now in
-    let N0 = c.args.env.now in
+ty_step-returns-then-ends-2 t c =
+    let X0 = c.args.lent.text.now in
+    let T0 = c.args.lent.toks.now in
+    let N0 = c.args.lent.env.now in
     let J0 = c.args.table.now in
     let L0 = c.args.scratch.now in
     let H0 = c.args.finds.now in
     let S0 = c.args.s in
-    in_steps {m = (mem X0 T0 N0 J0 L0 H0 S0)} {m' = (mem X0 T0 N0 J0 L0 H0 S0)} (c.requires.0) (s_look {a = (mem X0 T0 N0 J0 L0 H0 S0)} {e = (mem X0 T0 N0 J0 L0 H0 S0)} (c.in-Kind.ensures) (s_false {a = (mem X0 T0 N0 J0 L0 H0 S0)} {e = (mem X0 T0 N0 J0 L0 H0 S0)} _ _ (kind_not (c.if-k-eq-MINUS_GT.false)) (s_true {a = (mem X0 T0 N0 J0 L0 H0 S0)} {e = (mem X0 T0 N0 J0 L0 H0 S0)} _ _ (kind_is (c.if-k-eq-STAR.true)) (s_true {a = (mem X0 T0 N0 J0 L0 H0 S0)} {e = (mem X0 T0 N0 J0 L0 H0 S0)} _ _ (test_true (c.star_ends.ensures) (c.if-star_ends.true)) s_end))))
+    in_steps {m = (mem X0 T0 N0 J0 L0 H0 S0)} {m' = (mem X0 T0 N0 J0 L0 H0 S0)} (c.requires.0) (s_look {a = (mem X0 T0 N0 J0 L0 H0 S0)} {e = (mem X0 T0 N0 J0 L0 H0 S0)} (c.in-Some.ensures) (s_false {a = (mem X0 T0 N0 J0 L0 H0 S0)} {e = (mem X0 T0 N0 J0 L0 H0 S0)} _ _ (kind_not (c.if-k-eq-MINUS_GT.false)) (s_true {a = (mem X0 T0 N0 J0 L0 H0 S0)} {e = (mem X0 T0 N0 J0 L0 H0 S0)} _ _ (kind_is (c.if-k-eq-STAR.true)) (s_true {a = (mem X0 T0 N0 J0 L0 H0 S0)} {e = (mem X0 T0 N0 J0 L0 H0 S0)} _ _ (test_true (c.ends-then-k-eq-STAR.ensures) (c.if-ends-2.true)) s_end))))
 
 pub ty_step-ty_tuple-requires : goal.ty_step-ty_tuple-requires
 ty_step-ty_tuple-requires t c =
@@ -1327,9 +1317,9 @@ ty_step-ty_tuple-requires t c =
 pub ty_step-returns-then-k-eq-STAR : goal.ty_step-returns-then-k-eq-STAR
 unfolding types.ty_step plan choose chosen
 ty_step-returns-then-k-eq-STAR t c =
-    let X0 = c.args.text.now in
-    let T0 = c.args.toks.now in
-    let N0 = c.args.env.now in
+    let X0 = c.args.lent.text.now in
+    let T0 = c.args.lent.toks.now in
+    let N0 = c.args.lent.env.now in
     let J0 = c.args.table.now in
     let L0 = c.args.scratch.now in
     let H0 = c.args.finds.now in
@@ -1337,7 +1327,7 @@ ty_step-returns-then-k-eq-STAR t c =
     let L6 = c.ty_tuple.new.scratch in
     let H6 = c.ty_tuple.new.finds in
     let S6 = c.ty_tuple.result in
-    in_steps {m = (mem X0 T0 N0 J0 L0 H0 S0)} {m' = (mem X0 T0 N0 J0 L6 H6 S6)} (c.requires.0) (s_look {a = (mem X0 T0 N0 J0 L0 H0 S0)} {e = (mem X0 T0 N0 J0 L6 H6 S6)} (c.in-Kind.ensures) (s_false {a = (mem X0 T0 N0 J0 L0 H0 S0)} {e = (mem X0 T0 N0 J0 L6 H6 S6)} _ _ (kind_not (c.if-k-eq-MINUS_GT.false)) (s_true {a = (mem X0 T0 N0 J0 L0 H0 S0)} {e = (mem X0 T0 N0 J0 L6 H6 S6)} _ _ (kind_is (c.if-k-eq-STAR.true)) (s_false {a = (mem X0 T0 N0 J0 L0 H0 S0)} {e = (mem X0 T0 N0 J0 L6 H6 S6)} _ _ (test_false (c.star_ends.ensures) (c.if-star_ends.false)) (s_by {a = (mem X0 T0 N0 J0 L0 H0 S0)} {c = (mem X0 T0 N0 J0 L6 H6 S6)} {e = (mem X0 T0 N0 J0 L6 H6 S6)} _ (c.ty_tuple.ensures) s_end)))))
+    in_steps {m = (mem X0 T0 N0 J0 L0 H0 S0)} {m' = (mem X0 T0 N0 J0 L6 H6 S6)} (c.requires.0) (s_look {a = (mem X0 T0 N0 J0 L0 H0 S0)} {e = (mem X0 T0 N0 J0 L6 H6 S6)} (c.in-Some.ensures) (s_false {a = (mem X0 T0 N0 J0 L0 H0 S0)} {e = (mem X0 T0 N0 J0 L6 H6 S6)} _ _ (kind_not (c.if-k-eq-MINUS_GT.false)) (s_true {a = (mem X0 T0 N0 J0 L0 H0 S0)} {e = (mem X0 T0 N0 J0 L6 H6 S6)} _ _ (kind_is (c.if-k-eq-STAR.true)) (s_false {a = (mem X0 T0 N0 J0 L0 H0 S0)} {e = (mem X0 T0 N0 J0 L6 H6 S6)} _ _ (test_false (c.ends-then-k-eq-STAR.ensures) (c.if-ends-2.false)) (s_by {a = (mem X0 T0 N0 J0 L0 H0 S0)} {c = (mem X0 T0 N0 J0 L6 H6 S6)} {e = (mem X0 T0 N0 J0 L6 H6 S6)} _ (c.ty_tuple.ensures) s_end)))))
 
 pub ty_step-ty_con-requires : goal.ty_step-ty_con-requires
 ty_step-ty_con-requires t c =
@@ -1348,9 +1338,9 @@ ty_step-ty_con-requires t c =
 pub ty_step-returns-then-k-eq-NAME : goal.ty_step-returns-then-k-eq-NAME
 unfolding types.ty_step plan choose chosen
 ty_step-returns-then-k-eq-NAME t c =
-    let X0 = c.args.text.now in
-    let T0 = c.args.toks.now in
-    let N0 = c.args.env.now in
+    let X0 = c.args.lent.text.now in
+    let T0 = c.args.lent.toks.now in
+    let N0 = c.args.lent.env.now in
     let J0 = c.args.table.now in
     let L0 = c.args.scratch.now in
     let H0 = c.args.finds.now in
@@ -1358,19 +1348,19 @@ ty_step-returns-then-k-eq-NAME t c =
     let L5 = c.ty_con.new.scratch in
     let H5 = c.ty_con.new.finds in
     let S5 = c.ty_con.result in
-    in_steps {m = (mem X0 T0 N0 J0 L0 H0 S0)} {m' = (mem X0 T0 N0 J0 L5 H5 S5)} (c.requires.0) (s_look {a = (mem X0 T0 N0 J0 L0 H0 S0)} {e = (mem X0 T0 N0 J0 L5 H5 S5)} (c.in-Kind.ensures) (s_false {a = (mem X0 T0 N0 J0 L0 H0 S0)} {e = (mem X0 T0 N0 J0 L5 H5 S5)} _ _ (kind_not (c.if-k-eq-MINUS_GT.false)) (s_false {a = (mem X0 T0 N0 J0 L0 H0 S0)} {e = (mem X0 T0 N0 J0 L5 H5 S5)} _ _ (kind_not (c.if-k-eq-STAR.false)) (s_true {a = (mem X0 T0 N0 J0 L0 H0 S0)} {e = (mem X0 T0 N0 J0 L5 H5 S5)} _ _ (kind_is (c.if-k-eq-NAME.true)) (s_by {a = (mem X0 T0 N0 J0 L0 H0 S0)} {c = (mem X0 T0 N0 J0 L5 H5 S5)} {e = (mem X0 T0 N0 J0 L5 H5 S5)} _ (c.ty_con.ensures) s_end)))))
+    in_steps {m = (mem X0 T0 N0 J0 L0 H0 S0)} {m' = (mem X0 T0 N0 J0 L5 H5 S5)} (c.requires.0) (s_look {a = (mem X0 T0 N0 J0 L0 H0 S0)} {e = (mem X0 T0 N0 J0 L5 H5 S5)} (c.in-Some.ensures) (s_false {a = (mem X0 T0 N0 J0 L0 H0 S0)} {e = (mem X0 T0 N0 J0 L5 H5 S5)} _ _ (kind_not (c.if-k-eq-MINUS_GT.false)) (s_false {a = (mem X0 T0 N0 J0 L0 H0 S0)} {e = (mem X0 T0 N0 J0 L5 H5 S5)} _ _ (kind_not (c.if-k-eq-STAR.false)) (s_true {a = (mem X0 T0 N0 J0 L0 H0 S0)} {e = (mem X0 T0 N0 J0 L5 H5 S5)} _ _ (kind_is (c.if-k-eq-NAME.true)) (s_by {a = (mem X0 T0 N0 J0 L0 H0 S0)} {c = (mem X0 T0 N0 J0 L5 H5 S5)} {e = (mem X0 T0 N0 J0 L5 H5 S5)} _ (c.ty_con.ensures) s_end)))))
 
 pub ty_step-returns : goal.ty_step-returns
 unfolding types.ty_step plan choose chosen
 ty_step-returns t c =
-    let X0 = c.args.text.now in
-    let T0 = c.args.toks.now in
-    let N0 = c.args.env.now in
+    let X0 = c.args.lent.text.now in
+    let T0 = c.args.lent.toks.now in
+    let N0 = c.args.lent.env.now in
     let J0 = c.args.table.now in
     let L0 = c.args.scratch.now in
     let H0 = c.args.finds.now in
     let S0 = c.args.s in
-    in_steps {m = (mem X0 T0 N0 J0 L0 H0 S0)} {m' = (mem X0 T0 N0 J0 L0 H0 S0)} (c.requires.0) (s_look {a = (mem X0 T0 N0 J0 L0 H0 S0)} {e = (mem X0 T0 N0 J0 L0 H0 S0)} (c.in-Kind.ensures) (s_false {a = (mem X0 T0 N0 J0 L0 H0 S0)} {e = (mem X0 T0 N0 J0 L0 H0 S0)} _ _ (kind_not (c.if-k-eq-MINUS_GT.false)) (s_false {a = (mem X0 T0 N0 J0 L0 H0 S0)} {e = (mem X0 T0 N0 J0 L0 H0 S0)} _ _ (kind_not (c.if-k-eq-STAR.false)) (s_false {a = (mem X0 T0 N0 J0 L0 H0 S0)} {e = (mem X0 T0 N0 J0 L0 H0 S0)} _ _ (kind_not (c.if-k-eq-NAME.false)) s_end))))
+    in_steps {m = (mem X0 T0 N0 J0 L0 H0 S0)} {m' = (mem X0 T0 N0 J0 L0 H0 S0)} (c.requires.0) (s_look {a = (mem X0 T0 N0 J0 L0 H0 S0)} {e = (mem X0 T0 N0 J0 L0 H0 S0)} (c.in-Some.ensures) (s_false {a = (mem X0 T0 N0 J0 L0 H0 S0)} {e = (mem X0 T0 N0 J0 L0 H0 S0)} _ _ (kind_not (c.if-k-eq-MINUS_GT.false)) (s_false {a = (mem X0 T0 N0 J0 L0 H0 S0)} {e = (mem X0 T0 N0 J0 L0 H0 S0)} _ _ (kind_not (c.if-k-eq-STAR.false)) (s_false {a = (mem X0 T0 N0 J0 L0 H0 S0)} {e = (mem X0 T0 N0 J0 L0 H0 S0)} _ _ (kind_not (c.if-k-eq-NAME.false)) s_end))))
 
 pub ty_tail-loop-s2-init : goal.ty_tail-loop-s2-init
 ty_tail-loop-s2-init t c =
@@ -1386,19 +1376,19 @@ ty_tail-ty_step-step-requires t c =
 
 pub ty_tail-loop-s2-smaller : goal.ty_tail-loop-s2-smaller
 ty_tail-loop-s2-smaller t c =
-    let ty_step = c.in-At.ensures in
+    let ty_step = c.in-Ok.ensures in
     loop_falls (ty_step_advances _ _ _) ty_step
 
 pub ty_tail-loop-s2-preserved : goal.ty_tail-loop-s2-preserved
 ty_tail-loop-s2-preserved t c =
     let inv = c.loop-s2.invariant in
-    let ty_step = c.in-At.ensures in
+    let ty_step = c.in-Ok.ensures in
     loop_goes (ty_step_advances _ _ _) inv ty_step
 
-pub ty_tail-returns-in-Missing : goal.ty_tail-returns-in-Missing
-ty_tail-returns-in-Missing t c =
+pub ty_tail-returns-in-Err : goal.ty_tail-returns-in-Err
+ty_tail-returns-in-Err t c =
     let inv = c.loop-s2.invariant in
-    let ty_step = c.in-Missing.ensures in
+    let ty_step = c.in-Err.ensures in
     loop_ends (ty_step_advances _ _ _) inv ty_step
 
 pub ty_tuple-refuse-requires : goal.ty_tuple-refuse-requires
@@ -1408,9 +1398,9 @@ ty_tuple-refuse-requires t c =
 pub ty_tuple-returns-then-left-eq0 : goal.ty_tuple-returns-then-left-eq0
 unfolding types.ty_tuple plan choose chosen hushed
 ty_tuple-returns-then-left-eq0 t c =
-    let X0 = c.args.text.now in
-    let T0 = c.args.toks.now in
-    let N0 = c.args.env.now in
+    let X0 = c.args.lent.text.now in
+    let T0 = c.args.lent.toks.now in
+    let N0 = c.args.lent.env.now in
     let J0 = c.args.table.now in
     let L0 = c.args.scratch.now in
     let H0 = c.args.finds.now in
@@ -1439,9 +1429,9 @@ ty_tuple-close-requires t c =
 pub ty_tuple-returns : goal.ty_tuple-returns
 unfolding types.ty_tuple plan choose chosen
 ty_tuple-returns t c =
-    let X0 = c.args.text.now in
-    let T0 = c.args.toks.now in
-    let N0 = c.args.env.now in
+    let X0 = c.args.lent.text.now in
+    let T0 = c.args.lent.toks.now in
+    let N0 = c.args.lent.env.now in
     let J0 = c.args.table.now in
     let L0 = c.args.scratch.now in
     let H0 = c.args.finds.now in

@@ -2,7 +2,8 @@
 use Rattle.grammar.specs.Util as util
 use Rattle.grammar.specs.Ty as types
 use Rattle.grammar.specs.SyntaxKind as SK
-use Rattle.parser.specs.View.{mem}
+use Rattle.ty_prec.specs.Prec.{place_of}
+use Rattle.parser.specs.View.{mem_of}
 use Rattle.parser.specs.Runs.{Loops, turns}
 use Prim.Native.Nat.{◌*◌}
 use Prim.Native.Nat.{◌+◌}
@@ -28,10 +29,10 @@ abbrev pub decreases-star_tail : goal.decreases-star_tail
 decreases-star_tail l = 32 * l.left + 6
 
 abbrev pub invariant-star_tail-loop-s2 : goal.invariant-star_tail-loop-s2
-invariant-star_tail-loop-s2 l = Loops l.left l.b types.star_turn (mem l.initial.text l.initial.toks l.initial.env l.initial.table l.initial.scratch l.initial.finds l.initial.s1) (mem l.text l.toks l.env l.table l.scratch l.finds l.s1)
+invariant-star_tail-loop-s2 l = Loops l.left l.b types.star_turn (mem_of l.initial.lent l.initial.table l.initial.scratch l.initial.finds l.initial.s1) (mem_of l.lent l.table l.scratch l.finds l.s1)
 
 abbrev pub decreases-star_tail-loop-s2 : goal.decreases-star_tail-loop-s2
-decreases-star_tail-loop-s2 l = turns (mem l.text l.toks l.env l.table l.scratch l.finds l.s1)
+decreases-star_tail-loop-s2 l = turns (mem_of l.lent l.table l.scratch l.finds l.s1)
 
 abbrev pub decreases-star_turn : goal.decreases-star_turn
 decreases-star_turn l = 32 * l.left + 5
@@ -43,10 +44,10 @@ abbrev pub decreases-ty_args : goal.decreases-ty_args
 decreases-ty_args l = 32 * l.left + 7
 
 abbrev pub invariant-ty_args-loop-s2 : goal.invariant-ty_args-loop-s2
-invariant-ty_args-loop-s2 l = Loops l.left l.b (util.end_turn {g = true} SK.TyArg SK.Comma SK.RRound (types.ty_must 0)) (mem l.initial.text l.initial.toks l.initial.env l.initial.table l.initial.scratch l.initial.finds l.initial.s1) (mem l.text l.toks l.env l.table l.scratch l.finds l.s1)
+invariant-ty_args-loop-s2 l = Loops l.left l.b (util.end_turn {g = true} SK.TyArg SK.Comma SK.RRound (types.ty_must 0)) (mem_of l.initial.lent l.initial.table l.initial.scratch l.initial.finds l.initial.s1) (mem_of l.lent l.table l.scratch l.finds l.s1)
 
 abbrev pub decreases-ty_args-loop-s2 : goal.decreases-ty_args-loop-s2
-decreases-ty_args-loop-s2 l = turns (mem l.text l.toks l.env l.table l.scratch l.finds l.s1)
+decreases-ty_args-loop-s2 l = turns (mem_of l.lent l.table l.scratch l.finds l.s1)
 
 abbrev pub decreases-ty_arrow : goal.decreases-ty_arrow
 decreases-ty_arrow l = 32 * l.left
@@ -73,10 +74,10 @@ abbrev pub decreases-ty_rows : goal.decreases-ty_rows
 decreases-ty_rows l = 32 * l.left + 7
 
 abbrev pub invariant-ty_rows-loop-s2 : goal.invariant-ty_rows-loop-s2
-invariant-ty_rows-loop-s2 l = Loops l.left l.b (util.end_turn {g = true} SK.TyRow SK.Comma SK.RCurly types.ty_row) (mem l.initial.text l.initial.toks l.initial.env l.initial.table l.initial.scratch l.initial.finds l.initial.s1) (mem l.text l.toks l.env l.table l.scratch l.finds l.s1)
+invariant-ty_rows-loop-s2 l = Loops l.left l.b (util.end_turn {g = true} SK.TyRow SK.Comma SK.RCurly types.ty_row) (mem_of l.initial.lent l.initial.table l.initial.scratch l.initial.finds l.initial.s1) (mem_of l.lent l.table l.scratch l.finds l.s1)
 
 abbrev pub decreases-ty_rows-loop-s2 : goal.decreases-ty_rows-loop-s2
-decreases-ty_rows-loop-s2 l = turns (mem l.text l.toks l.env l.table l.scratch l.finds l.s1)
+decreases-ty_rows-loop-s2 l = turns (mem_of l.lent l.table l.scratch l.finds l.s1)
 
 abbrev pub decreases-ty_seq : goal.decreases-ty_seq
 decreases-ty_seq l = 32 * l.left + 9
@@ -88,10 +89,10 @@ abbrev pub decreases-ty_tail : goal.decreases-ty_tail
 decreases-ty_tail l = 32 * l.left + 2
 
 abbrev pub invariant-ty_tail-loop-s2 : goal.invariant-ty_tail-loop-s2
-invariant-ty_tail-loop-s2 l = Loops l.left l.b (types.ty_step l.min) (mem l.initial.text l.initial.toks l.initial.env l.initial.table l.initial.scratch l.initial.finds l.initial.s1) (mem l.text l.toks l.env l.table l.scratch l.finds l.s1)
+invariant-ty_tail-loop-s2 l = Loops l.left l.b (types.ty_step (place_of l.min)) (mem_of l.initial.lent l.initial.table l.initial.scratch l.initial.finds l.initial.s1) (mem_of l.lent l.table l.scratch l.finds l.s1)
 
 abbrev pub decreases-ty_tail-loop-s2 : goal.decreases-ty_tail-loop-s2
-decreases-ty_tail-loop-s2 l = turns (mem l.text l.toks l.env l.table l.scratch l.finds l.s1)
+decreases-ty_tail-loop-s2 l = turns (mem_of l.lent l.table l.scratch l.finds l.s1)
 
 abbrev pub decreases-ty_tuple : goal.decreases-ty_tuple
 decreases-ty_tuple l = 32 * l.left

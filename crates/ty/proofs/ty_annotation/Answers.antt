@@ -29,7 +29,7 @@ pub returns-then-left-eq0 : goal.returns-then-left-eq0
 unfolding types.ty_annotation plan choose chosen hushed
 returns-then-left-eq0 c =
     let pre0 = c.requires in
-    let peek = c.in-Kind.ensures in
+    let peek = c.in-Some.ensures in
     let ascription = c.ascription.ensures in
     let if1 = c.if-ascription.true in
     let if2 = c.if-left-eq0.true in
@@ -69,7 +69,7 @@ pub returns-then-ascription : goal.returns-then-ascription
 unfolding types.ty_annotation plan choose chosen
 returns-then-ascription c =
     let pre0 = c.requires in
-    let peek = c.in-Kind.ensures in
+    let peek = c.in-Some.ensures in
     let ascription = c.ascription.ensures in
     let if1 = c.if-ascription.true in
     let if2 = c.if-left-eq0.false in
@@ -83,7 +83,7 @@ pub returns : goal.returns
 unfolding types.ty_annotation plan choose chosen
 returns c =
     let pre0 = c.requires in
-    let peek = c.in-Kind.ensures in
+    let peek = c.in-Some.ensures in
     let ascription = c.ascription.ensures in
     let if1 = c.if-ascription.false in
     by_steps pre0 (λ b. s_look peek (s_false _ _ (test_false ascription if1) s_end))

@@ -28,8 +28,8 @@ path_must-got-requires c =
     let mark_ok = ok_marks mark pre0 in
     mark_ok
 
-pub state-s1-requires : goal.state-s1-requires
-state-s1-requires c =
+pub either-s1-requires : goal.either-s1-requires
+either-s1-requires c =
     tt
 
 pub close-requires : goal.close-requires
@@ -37,9 +37,9 @@ close-requires c =
     let pre1 = c.requires.1 in
     let path_must = c.path_must-got.ensures in
     let path_must_ok = path_must.ok in
-    let state = c.state-s1.ensures in
-    let state_ok = ok_state state path_must_ok in
-    (state_ok.logs, pre1)
+    let either = c.either-s1.ensures in
+    let either_ok = ok_state either path_must_ok in
+    (either_ok.logs, pre1)
 
 pub returns : goal.returns
 unfolding types.ty_con plan choose chosen
@@ -48,6 +48,6 @@ returns c =
     let if1 = c.if-left-eq0.false in
     let mark = c.mark.ensures in
     let path_must = c.path_must-got.ensures in
-    let state = c.state-s1.ensures in
+    let either = c.either-s1.ensures in
     let close = c.close.ensures in
-    in_steps pre0 (s_mark if1 mark (s_by _ (settled state (runs_in path_must)) (s_close close s_end)))
+    in_steps pre0 (s_mark if1 mark (s_by _ (settled either (runs_in path_must)) (s_close close s_end)))

@@ -26,7 +26,7 @@ pub returns-then-k-eq-TY_VAR : goal.returns-then-k-eq-TY_VAR
 unfolding types.ty_vars plan choose chosen
 returns-then-k-eq-TY_VAR c =
     let pre0 = c.requires.0 in
-    let peek = c.in-Kind.ensures in
+    let peek = c.in-Some.ensures in
     let if1 = c.if-k-eq-TY_VAR.true in
     let var_one = c.var_one.ensures in
     in_steps pre0 (s_look peek (s_true _ _ (kind_is if1) (s_by _ var_one s_end)))
@@ -41,7 +41,7 @@ pub returns-then-k-eq-LROUND : goal.returns-then-k-eq-LROUND
 unfolding types.ty_vars plan choose chosen
 returns-then-k-eq-LROUND c =
     let pre0 = c.requires.0 in
-    let peek = c.in-Kind.ensures in
+    let peek = c.in-Some.ensures in
     let if1 = c.if-k-eq-TY_VAR.false in
     let if2 = c.if-k-eq-LROUND.true in
     let var_many = c.var_many.ensures in
@@ -51,7 +51,7 @@ pub returns : goal.returns
 unfolding types.ty_vars plan choose chosen
 returns c =
     let pre0 = c.requires.0 in
-    let peek = c.in-Kind.ensures in
+    let peek = c.in-Some.ensures in
     let if1 = c.if-k-eq-TY_VAR.false in
     let if2 = c.if-k-eq-LROUND.false in
     in_steps pre0 (s_look peek (s_false _ _ (kind_not if1) (s_false _ _ (kind_not if2) s_end)))

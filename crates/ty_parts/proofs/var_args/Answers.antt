@@ -17,17 +17,17 @@ var_turn-turn-requires c =
 
 pub loop-s2-smaller : goal.loop-s2-smaller
 loop-s2-smaller c =
-    let var_turn = c.in-At.ensures in
+    let var_turn = c.in-Ok.ensures in
     loop_falls (end_turn_advances true _ _ _ _ _ _) (runs_in {b = 0} var_turn)
 
 pub loop-s2-preserved : goal.loop-s2-preserved
 loop-s2-preserved c =
     let inv = c.loop-s2.invariant in
-    let var_turn = c.in-At.ensures in
+    let var_turn = c.in-Ok.ensures in
     loop_goes (end_turn_advances true _ _ _ _ _ _) inv (runs_in var_turn)
 
-pub returns-in-Missing : goal.returns-in-Missing
-returns-in-Missing c =
+pub returns-in-Err : goal.returns-in-Err
+returns-in-Err c =
     let inv = c.loop-s2.invariant in
-    let var_turn = c.in-Missing.ensures in
+    let var_turn = c.in-Err.ensures in
     loop_ends (end_turn_advances true _ _ _ _ _ _) inv (runs_in var_turn)

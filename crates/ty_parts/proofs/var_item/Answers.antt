@@ -29,8 +29,8 @@ eat-got-requires c =
     let mark_ok = ok_marks mark pre0 in
     (mark_ok.reads, mark_ok.logs, mark_ok.holds, omega arith)
 
-pub state-s2-requires : goal.state-s2-requires
-state-s2-requires c =
+pub either-s2-requires : goal.either-s2-requires
+either-s2-requires c =
     tt
 
 pub at-requires : goal.at-requires
@@ -40,9 +40,9 @@ at-requires c =
     let mark_ok = ok_marks mark pre0 in
     let eat = c.eat-got.ensures in
     let eat_ok = ok_eats eat mark_ok in
-    let state = c.state-s2.ensures in
-    let state_ok = ok_state state eat_ok in
-    state_ok.reads
+    let either = c.either-s2.ensures in
+    let either_ok = ok_state either eat_ok in
+    either_ok.reads
 
 pub bump-s3-requires : goal.bump-s3-requires
 bump-s3-requires c =
@@ -51,9 +51,9 @@ bump-s3-requires c =
     let mark_ok = ok_marks mark pre0 in
     let eat = c.eat-got.ensures in
     let eat_ok = ok_eats eat mark_ok in
-    let state = c.state-s2.ensures in
-    let state_ok = ok_state state eat_ok in
-    (state_ok.reads, state_ok.logs)
+    let either = c.either-s2.ensures in
+    let either_ok = ok_state either eat_ok in
+    (either_ok.reads, either_ok.logs)
 
 pub close-requires : goal.close-requires
 close-requires c =
@@ -62,10 +62,10 @@ close-requires c =
     let mark_ok = ok_marks mark pre0 in
     let eat = c.eat-got.ensures in
     let eat_ok = ok_eats eat mark_ok in
-    let state = c.state-s2.ensures in
-    let state_ok = ok_state state eat_ok in
+    let either = c.either-s2.ensures in
+    let either_ok = ok_state either eat_ok in
     let bump = c.bump-s3.ensures in
-    let bump_ok = ok_bumps bump state_ok in
+    let bump_ok = ok_bumps bump either_ok in
     (bump_ok.logs, small_len mark_ok)
 
 pub close-requires-else-at : goal.close-requires-else-at
@@ -75,9 +75,9 @@ close-requires-else-at c =
     let mark_ok = ok_marks mark pre0 in
     let eat = c.eat-got.ensures in
     let eat_ok = ok_eats eat mark_ok in
-    let state = c.state-s2.ensures in
-    let state_ok = ok_state state eat_ok in
-    (state_ok.logs, small_len mark_ok)
+    let either = c.either-s2.ensures in
+    let either_ok = ok_state either eat_ok in
+    (either_ok.logs, small_len mark_ok)
 
 pub returns-then-at : goal.returns-then-at
 unfolding util.end_item plan choose chosen
@@ -86,12 +86,12 @@ returns-then-at c =
     let if1 = c.if-left-eq0.false in
     let mark = c.mark-s1.ensures in
     let eat = c.eat-got.ensures in
-    let state = c.state-s2.ensures in
+    let either = c.either-s2.ensures in
     let at = c.at.ensures in
     let if2 = c.if-at.true in
     let bump = c.bump-s3.ensures in
     let close = c.close.ensures in
-    by_steps pre0 (λ b. s_mark if1 mark (s_eats _ _ _ (eats_settled state eat) (s_kind (s_true _ _ (kind_at _ _ _ _ at if2) (s_bump bump (s_close close s_end))))))
+    by_steps pre0 (λ b. s_mark if1 mark (s_eats _ _ _ (eats_settled either eat) (s_kind (s_true _ _ (kind_at _ _ _ _ at if2) (s_bump bump (s_close close s_end))))))
 
 pub returns-else-at : goal.returns-else-at
 unfolding util.end_item plan choose chosen
@@ -100,8 +100,8 @@ returns-else-at c =
     let if1 = c.if-left-eq0.false in
     let mark = c.mark-s1.ensures in
     let eat = c.eat-got.ensures in
-    let state = c.state-s2.ensures in
+    let either = c.either-s2.ensures in
     let at = c.at.ensures in
     let if2 = c.if-at.false in
     let close2 = c.close-else-at.ensures in
-    by_steps pre0 (λ b. s_mark if1 mark (s_eats _ _ _ (eats_settled state eat) (s_kind (s_false _ _ (kind_off _ _ _ _ at if2) (s_close close2 s_end)))))
+    by_steps pre0 (λ b. s_mark if1 mark (s_eats _ _ _ (eats_settled either eat) (s_kind (s_false _ _ (kind_off _ _ _ _ at if2) (s_close close2 s_end)))))

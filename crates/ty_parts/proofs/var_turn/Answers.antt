@@ -31,30 +31,30 @@ var_item-item-requires c =
 
 pub eat-got-requires : goal.eat-got-requires
 eat-got-requires c =
-    let var_item = c.in-Missing.ensures in
+    let var_item = c.in-Err.ensures in
     let var_item_ok = var_item.ok in
     (var_item_ok.reads, var_item_ok.logs, var_item_ok.holds, omega arith)
 
-pub state-s2-requires : goal.state-s2-requires
-state-s2-requires c =
+pub either-s2-requires : goal.either-s2-requires
+either-s2-requires c =
     tt
 
-pub returns-in-At : goal.returns-in-At
+pub returns-in-Ok : goal.returns-in-Ok
 unfolding util.end_turn plan choose chosen
-returns-in-At c =
+returns-in-Ok c =
     let pre0 = c.requires in
     let at = c.at.ensures in
     let if1 = c.if-at.false in
-    let var_item = c.in-At.ensures in
+    let var_item = c.in-Ok.ensures in
     by_steps pre0 (λ b. s_kind (s_false _ _ (kind_off _ _ _ _ at if1) (s_by _ (runs_in var_item) s_end)))
 
-pub returns-in-Missing : goal.returns-in-Missing
+pub returns-in-Err : goal.returns-in-Err
 unfolding util.end_turn plan choose chosen
-returns-in-Missing c =
+returns-in-Err c =
     let pre0 = c.requires in
     let at = c.at.ensures in
     let if1 = c.if-at.false in
-    let var_item = c.in-Missing.ensures in
+    let var_item = c.in-Err.ensures in
     let eat = c.eat-got.ensures in
-    let state = c.state-s2.ensures in
-    by_steps pre0 (λ b. s_kind (s_false _ _ (kind_off _ _ _ _ at if1) (s_by _ (runs_in var_item) (s_eats _ _ _ (eats_settled state eat) s_end))))
+    let either = c.either-s2.ensures in
+    by_steps pre0 (λ b. s_kind (s_false _ _ (kind_off _ _ _ _ at if1) (s_by _ (runs_in var_item) (s_eats _ _ _ (eats_settled either eat) s_end))))

@@ -28,7 +28,7 @@ bump-requires c =
 pub returns-then-ascription : goal.returns-then-ascription
 unfolding util.bump_ascription plan choose chosen
 returns-then-ascription c =
-    let peek = c.in-Kind.ensures in
+    let peek = c.in-Some.ensures in
     let ascription = c.ascription.ensures in
     let if1 = c.if-ascription.true in
     let bump = c.bump.ensures in
@@ -37,7 +37,7 @@ returns-then-ascription c =
 pub returns-else-ascription : goal.returns-else-ascription
 unfolding util.bump_ascription plan choose chosen
 returns-else-ascription c =
-    let peek = c.in-Kind.ensures in
+    let peek = c.in-Some.ensures in
     let ascription = c.ascription.ensures in
     let if1 = c.if-ascription.false in
     takes (λ x e j h n b. s_look peek (s_false _ _ (test_false ascription if1) s_end))

@@ -42,7 +42,7 @@ report-requires-else-name_star c =
 pub returns-then-name_star : goal.returns-then-name_star
 unfolding util.eat_name_star plan choose chosen
 returns-then-name_star c =
-    let peek = c.in-Kind.ensures in
+    let peek = c.in-Some.ensures in
     let name_star = c.name_star.ensures in
     let if1 = c.if-name_star.true in
     let bump = c.bump.ensures in
@@ -51,7 +51,7 @@ returns-then-name_star c =
 pub returns-else-name_star : goal.returns-else-name_star
 unfolding util.eat_name_star plan choose chosen
 returns-else-name_star c =
-    let peek = c.in-Kind.ensures in
+    let peek = c.in-Some.ensures in
     let name_star = c.name_star.ensures in
     let if1 = c.if-name_star.false in
     let report2 = c.report-else-name_star.ensures in

@@ -42,7 +42,7 @@ report-requires-else-label c =
 pub returns-then-label : goal.returns-then-label
 unfolding util.lab plan choose chosen
 returns-then-label c =
-    let peek = c.in-Kind.ensures in
+    let peek = c.in-Some.ensures in
     let label = c.label.ensures in
     let if1 = c.if-label.true in
     let bump = c.bump.ensures in
@@ -51,7 +51,7 @@ returns-then-label c =
 pub returns-else-label : goal.returns-else-label
 unfolding util.lab plan choose chosen
 returns-else-label c =
-    let peek = c.in-Kind.ensures in
+    let peek = c.in-Some.ensures in
     let label = c.label.ensures in
     let if1 = c.if-label.false in
     let report2 = c.report-else-label.ensures in

@@ -29,7 +29,7 @@ pub returns-then-name_star_eq : goal.returns-then-name_star_eq
 unfolding util.path plan choose chosen
 returns-then-name_star_eq c =
     let pre0 = c.requires in
-    let peek = c.in-Kind.ensures in
+    let peek = c.in-Some.ensures in
     let name_star_eq = c.name_star_eq.ensures in
     let if1 = c.if-name_star_eq.true in
     let path_here = c.path_here.ensures in
@@ -39,7 +39,7 @@ pub returns-else-name_star_eq : goal.returns-else-name_star_eq
 unfolding util.path plan choose chosen
 returns-else-name_star_eq c =
     let pre0 = c.requires in
-    let peek = c.in-Kind.ensures in
+    let peek = c.in-Some.ensures in
     let name_star_eq = c.name_star_eq.ensures in
     let if1 = c.if-name_star_eq.false in
     by_steps pre0 (λ b. s_look peek (s_false _ _ (test_false name_star_eq if1) s_end))

@@ -30,7 +30,7 @@ path_start-start-requires c =
 
 pub path_parts-s3-requires : goal.path_parts-s3-requires
 path_parts-s3-requires c =
-    let path_start = c.in-At.ensures in
+    let path_start = c.in-Ok.ensures in
     let path_start_ok = path_start.ok in
     path_start_ok
 
@@ -43,32 +43,32 @@ close-requires c =
     let path_parts_ok = path_parts.ok in
     (path_parts_ok.logs, small_len mark_ok)
 
-pub close-requires-in-Missing : goal.close-requires-in-Missing
-close-requires-in-Missing c =
+pub close-requires-in-Err : goal.close-requires-in-Err
+close-requires-in-Err c =
     let pre0 = c.requires in
     let mark = c.mark-s1.ensures in
     let mark_ok = ok_marks mark pre0 in
-    let path_start = c.in-Missing.ensures in
+    let path_start = c.in-Err.ensures in
     let path_start_ok = path_start.ok in
     (path_start_ok.logs, small_len mark_ok)
 
-pub returns-in-At : goal.returns-in-At
+pub returns-in-Ok : goal.returns-in-Ok
 unfolding util.path_here plan choose chosen
-returns-in-At c =
+returns-in-Ok c =
     let pre0 = c.requires in
     let if1 = c.if-left-eq0.false in
     let mark = c.mark-s1.ensures in
-    let path_start = c.in-At.ensures in
+    let path_start = c.in-Ok.ensures in
     let path_parts = c.path_parts-s3.ensures in
     let close = c.close.ensures in
     by_steps pre0 (λ b. s_mark if1 mark (s_by _ (runs_in path_start) (s_run path_parts (s_close close s_end))))
 
-pub returns-in-Missing : goal.returns-in-Missing
+pub returns-in-Err : goal.returns-in-Err
 unfolding util.path_here plan choose chosen
-returns-in-Missing c =
+returns-in-Err c =
     let pre0 = c.requires in
     let if1 = c.if-left-eq0.false in
     let mark = c.mark-s1.ensures in
-    let path_start = c.in-Missing.ensures in
-    let close2 = c.close-in-Missing.ensures in
+    let path_start = c.in-Err.ensures in
+    let close2 = c.close-in-Err.ensures in
     by_steps pre0 (λ b. s_mark if1 mark (s_by _ (runs_in path_start) (s_close close2 s_end)))

@@ -16,8 +16,8 @@ eat-got-requires c =
     let unnecessary_op_ok = unnecessary_op.ok in
     (unnecessary_op_ok.reads, unnecessary_op_ok.logs, unnecessary_op_ok.holds, omega arith)
 
-pub state-s2-requires : goal.state-s2-requires
-state-s2-requires c =
+pub either-s2-requires : goal.either-s2-requires
+either-s2-requires c =
     tt
 
 pub path_must-requires : goal.path_must-requires
@@ -26,9 +26,9 @@ path_must-requires c =
     let unnecessary_op_ok = unnecessary_op.ok in
     let eat = c.eat-got.ensures in
     let eat_ok = ok_eats eat unnecessary_op_ok in
-    let state = c.state-s2.ensures in
-    let state_ok = ok_state state eat_ok in
-    state_ok
+    let either = c.either-s2.ensures in
+    let either_ok = ok_state either eat_ok in
+    either_ok
 
 pub returns : goal.returns
 unfolding util.path_infix plan choose chosen
@@ -36,6 +36,6 @@ returns c =
     let pre0 = c.requires in
     let unnecessary_op = c.unnecessary_op-s1.ensures in
     let eat = c.eat-got.ensures in
-    let state = c.state-s2.ensures in
+    let either = c.either-s2.ensures in
     let path_must = c.path_must.ensures in
-    by_steps pre0 (λ b. s_by _ (runs_always unnecessary_op) (s_eats _ _ _ (eats_settled state eat) (s_by _ (runs_in path_must) s_end)))
+    by_steps pre0 (λ b. s_by _ (runs_always unnecessary_op) (s_eats _ _ _ (eats_settled either eat) (s_by _ (runs_in path_must) s_end)))

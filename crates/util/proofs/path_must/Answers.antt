@@ -12,21 +12,21 @@ path-got-requires c =
 
 pub report-requires : goal.report-requires
 report-requires c =
-    let path = c.in-Missing.ensures in
+    let path = c.in-Err.ensures in
     let path_ok = path.ok in
     (path_ok.holds, (let few = path_ok.reads.few in let inside = path_ok.reads.inside in omega arith), omega arith)
 
-pub returns-in-At : goal.returns-in-At
+pub returns-in-Ok : goal.returns-in-Ok
 unfolding util.path_must plan choose chosen
-returns-in-At c =
+returns-in-Ok c =
     let pre0 = c.requires in
-    let path = c.in-At.ensures in
+    let path = c.in-Ok.ensures in
     by_steps pre0 (λ b. s_by _ (runs_in path) s_end)
 
-pub returns-in-Missing : goal.returns-in-Missing
+pub returns-in-Err : goal.returns-in-Err
 unfolding util.path_must plan choose chosen
-returns-in-Missing c =
+returns-in-Err c =
     let pre0 = c.requires in
-    let path = c.in-Missing.ensures in
+    let path = c.in-Err.ensures in
     let report = c.report.ensures in
     by_steps pre0 (λ b. s_by _ (runs_in path) (s_report report s_end))

@@ -28,8 +28,8 @@ eat_name_star-got-requires c =
     let mark_ok = ok_marks mark pre0 in
     (mark_ok.reads, mark_ok.logs, mark_ok.holds)
 
-pub state-s2-requires : goal.state-s2-requires
-state-s2-requires c =
+pub either-s2-requires : goal.either-s2-requires
+either-s2-requires c =
     tt
 
 pub part_end-requires : goal.part_end-requires
@@ -39,9 +39,9 @@ part_end-requires c =
     let mark_ok = ok_marks mark pre0 in
     let eat_name_star = c.eat_name_star-got.ensures in
     let eat_name_star_ok = ok_eats eat_name_star mark_ok in
-    let state = c.state-s2.ensures in
-    let state_ok = ok_state state eat_name_star_ok in
-    (state_ok, small_len mark_ok)
+    let either = c.either-s2.ensures in
+    let either_ok = ok_state either eat_name_star_ok in
+    (either_ok, small_len mark_ok)
 
 pub returns : goal.returns
 unfolding util.path_part plan choose chosen
@@ -50,6 +50,6 @@ returns c =
     let if1 = c.if-left-eq0.false in
     let mark = c.mark-s1.ensures in
     let eat_name_star = c.eat_name_star-got.ensures in
-    let state = c.state-s2.ensures in
+    let either = c.either-s2.ensures in
     let part_end = c.part_end.ensures in
-    by_steps pre0 (λ b. s_mark if1 mark (s_eats _ _ _ (eats_settled state eat_name_star) (s_by _ part_end s_end)))
+    by_steps pre0 (λ b. s_mark if1 mark (s_eats _ _ _ (eats_settled either eat_name_star) (s_by _ part_end s_end)))

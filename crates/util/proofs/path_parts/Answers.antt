@@ -16,17 +16,17 @@ path_part-turn-requires c =
 
 pub loop-s2-smaller : goal.loop-s2-smaller
 loop-s2-smaller c =
-    let path_part = c.in-At.ensures in
+    let path_part = c.in-Ok.ensures in
     loop_falls (path_part_advances true _ _) (runs_in {b = 0} path_part)
 
 pub loop-s2-preserved : goal.loop-s2-preserved
 loop-s2-preserved c =
     let inv = c.loop-s2.invariant in
-    let path_part = c.in-At.ensures in
+    let path_part = c.in-Ok.ensures in
     loop_goes (path_part_advances true _ _) inv (runs_in path_part)
 
-pub returns-in-Missing : goal.returns-in-Missing
-returns-in-Missing c =
+pub returns-in-Err : goal.returns-in-Err
+returns-in-Err c =
     let inv = c.loop-s2.invariant in
-    let path_part = c.in-Missing.ensures in
+    let path_part = c.in-Err.ensures in
     loop_ends (path_part_advances true _ _) inv (runs_in path_part)

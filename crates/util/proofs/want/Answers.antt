@@ -11,13 +11,13 @@ eat-got-requires c =
     let pre2 = c.requires.2 in
     (pre0, pre1, pre2, omega arith)
 
-pub state-requires : goal.state-requires
-state-requires c =
+pub either-requires : goal.either-requires
+either-requires c =
     tt
 
 pub returns : goal.returns
 unfolding util.want plan choose chosen
 returns c =
     let eat = c.eat-got.ensures in
-    let state = c.state.ensures in
-    eats (λ x e j n b. s_eats _ _ _ (eats_settled state eat) s_end)
+    let either = c.either.ensures in
+    eats (λ x e j n b. s_eats _ _ _ (eats_settled either eat) s_end)

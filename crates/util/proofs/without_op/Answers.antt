@@ -52,28 +52,28 @@ report-requires c =
     let index_small = small_index index pre0 in
     (pre0.holds, (let few = pre0.reads.few in let inside = pre0.reads.inside in omega arith), omega arith)
 
-pub returns-in-Nonfix : goal.returns-in-Nonfix
+pub returns-in-None : goal.returns-in-None
 unfolding util.without_op plan choose chosen
-returns-in-Nonfix c =
+returns-in-None c =
     let pre0 = c.requires in
     let at_n = c.at_n.ensures in
     let if1 = c.if-at_n.false in
-    let peek = c.in-Kind.ensures in
+    let peek = c.in-Some.ensures in
     let name_star_eq = c.name_star_eq.ensures in
     let if2 = c.if-name_star_eq.true in
-    let fixity_at = c.in-Nonfix.ensures in
+    let fixity_at = c.in-None.ensures in
     always pre0 (λ n b. s_kind (s_false _ _ (kind_off _ _ _ _ at_n if1) (s_look peek (s_true _ _ (test_true name_star_eq if2) (s_fixed fixity_at s_end)))))
 
-pub returns-in-Is : goal.returns-in-Is
+pub returns-in-Some-fixity_at : goal.returns-in-Some-fixity_at
 unfolding util.without_op plan choose chosen
-returns-in-Is c =
+returns-in-Some-fixity_at c =
     let pre0 = c.requires in
     let at_n = c.at_n.ensures in
     let if1 = c.if-at_n.false in
-    let peek = c.in-Kind.ensures in
+    let peek = c.in-Some.ensures in
     let name_star_eq = c.name_star_eq.ensures in
     let if2 = c.if-name_star_eq.true in
-    let fixity_at = c.in-Is.ensures in
+    let fixity_at = c.in-Some-fixity_at.ensures in
     let index = c.index.ensures in
     let report = c.report.ensures in
     always pre0 (λ n b. s_kind (s_false _ _ (kind_off _ _ _ _ at_n if1) (s_look peek (s_true _ _ (test_true name_star_eq if2) (s_fixed fixity_at (s_index index (s_report report s_end)))))))
@@ -84,7 +84,7 @@ returns-else-name_star_eq c =
     let pre0 = c.requires in
     let at_n = c.at_n.ensures in
     let if1 = c.if-at_n.false in
-    let peek = c.in-Kind.ensures in
+    let peek = c.in-Some.ensures in
     let name_star_eq = c.name_star_eq.ensures in
     let if2 = c.if-name_star_eq.false in
     always pre0 (λ n b. s_kind (s_false _ _ (kind_off _ _ _ _ at_n if1) (s_look peek (s_false _ _ (test_false name_star_eq if2) s_end))))

@@ -22,38 +22,38 @@ ty_var_seq-vars-requires c =
     let bump_ok = ok_bumps bump pre0 in
     bump_ok
 
-pub state-s2-requires : goal.state-s2-requires
-state-s2-requires c =
+pub either-s2-requires : goal.either-s2-requires
+either-s2-requires c =
     tt
 
 pub path_must-name-requires : goal.path_must-name-requires
 path_must-name-requires c =
     let ty_var_seq = c.ty_var_seq-vars.ensures in
     let ty_var_seq_ok = ty_var_seq.ok in
-    let state = c.state-s2.ensures in
-    let state_ok = ok_state state ty_var_seq_ok in
-    state_ok
+    let either = c.either-s2.ensures in
+    let either_ok = ok_state either ty_var_seq_ok in
+    either_ok
 
-pub state-s3-requires : goal.state-s3-requires
-state-s3-requires c =
+pub either-s3-requires : goal.either-s3-requires
+either-s3-requires c =
     tt
 
 pub want-s4-requires : goal.want-s4-requires
 want-s4-requires c =
     let path_must = c.path_must-name.ensures in
     let path_must_ok = path_must.ok in
-    let state2 = c.state-s3.ensures in
-    let state2_ok = ok_state state2 path_must_ok in
-    (state2_ok.reads, state2_ok.logs, state2_ok.holds, omega arith)
+    let either2 = c.either-s3.ensures in
+    let either2_ok = ok_state either2 path_must_ok in
+    (either2_ok.reads, either2_ok.logs, either2_ok.holds, omega arith)
 
 pub ty_must-s5-requires : goal.ty_must-s5-requires
 ty_must-s5-requires c =
     let path_must = c.path_must-name.ensures in
     let path_must_ok = path_must.ok in
-    let state2 = c.state-s3.ensures in
-    let state2_ok = ok_state state2 path_must_ok in
+    let either2 = c.either-s3.ensures in
+    let either2_ok = ok_state either2 path_must_ok in
     let want = c.want-s4.ensures in
-    let want_ok = ok_eats want state2_ok in
+    let want_ok = ok_eats want either2_ok in
     want_ok
 
 pub close-requires : goal.close-requires
@@ -71,43 +71,43 @@ returns-then-at c =
     let if1 = c.if-at.true in
     let bump = c.bump-s1.ensures in
     let ty_var_seq = c.ty_var_seq-vars.ensures in
-    let state = c.state-s2.ensures in
+    let either = c.either-s2.ensures in
     let path_must = c.path_must-name.ensures in
-    let state2 = c.state-s3.ensures in
+    let either2 = c.either-s3.ensures in
     let want = c.want-s4.ensures in
     let ty_must = c.ty_must-s5.ensures in
     let close = c.close.ensures in
-    in_steps pre0 (s_kind (s_true _ _ (kind_at _ _ _ _ at if1) (s_bump bump (s_by _ (settled state (runs_in ty_var_seq)) (s_by _ (settled state2 (runs_in path_must)) (s_eats _ _ _ want (s_by _ (runs_in ty_must) (s_close close s_end))))))))
+    in_steps pre0 (s_kind (s_true _ _ (kind_at _ _ _ _ at if1) (s_bump bump (s_by _ (settled either (runs_in ty_var_seq)) (s_by _ (settled either2 (runs_in path_must)) (s_eats _ _ _ want (s_by _ (runs_in ty_must) (s_close close s_end))))))))
 
 pub path_must-name-requires-2 : goal.path_must-name-requires-2
 path_must-name-requires-2 c =
     let pre0 = c.requires.0 in
     pre0
 
-pub state-s1-requires : goal.state-s1-requires
-state-s1-requires c =
+pub either-s1-requires : goal.either-s1-requires
+either-s1-requires c =
     tt
 
 pub want-s2-requires : goal.want-s2-requires
 want-s2-requires c =
     let path_must2 = c.path_must-name-2.ensures in
     let path_must2_ok = path_must2.ok in
-    let state3 = c.state-s1.ensures in
-    let state3_ok = ok_state state3 path_must2_ok in
-    (state3_ok.reads, state3_ok.logs, state3_ok.holds, omega arith)
+    let either3 = c.either-s1.ensures in
+    let either3_ok = ok_state either3 path_must2_ok in
+    (either3_ok.reads, either3_ok.logs, either3_ok.holds, omega arith)
 
 pub path_must-same-requires : goal.path_must-same-requires
 path_must-same-requires c =
     let path_must2 = c.path_must-name-2.ensures in
     let path_must2_ok = path_must2.ok in
-    let state3 = c.state-s1.ensures in
-    let state3_ok = ok_state state3 path_must2_ok in
+    let either3 = c.either-s1.ensures in
+    let either3_ok = ok_state either3 path_must2_ok in
     let want2 = c.want-s2.ensures in
-    let want2_ok = ok_eats want2 state3_ok in
+    let want2_ok = ok_eats want2 either3_ok in
     want2_ok
 
-pub state-s3-requires-2 : goal.state-s3-requires-2
-state-s3-requires-2 c =
+pub either-s3-requires-2 : goal.either-s3-requires-2
+either-s3-requires-2 c =
     tt
 
 pub close-requires-2 : goal.close-requires-2
@@ -115,9 +115,9 @@ close-requires-2 c =
     let pre1 = c.requires.1 in
     let path_must3 = c.path_must-same.ensures in
     let path_must3_ok = path_must3.ok in
-    let state4 = c.state-s3-2.ensures in
-    let state4_ok = ok_state state4 path_must3_ok in
-    (state4_ok.logs, pre1)
+    let either4 = c.either-s3-2.ensures in
+    let either4_ok = ok_state either4 path_must3_ok in
+    (either4_ok.logs, pre1)
 
 pub returns : goal.returns
 unfolding decl.where_tail plan choose chosen
@@ -126,9 +126,9 @@ returns c =
     let at = c.at.ensures in
     let if1 = c.if-at.false in
     let path_must2 = c.path_must-name-2.ensures in
-    let state3 = c.state-s1.ensures in
+    let either3 = c.either-s1.ensures in
     let want2 = c.want-s2.ensures in
     let path_must3 = c.path_must-same.ensures in
-    let state4 = c.state-s3-2.ensures in
+    let either4 = c.either-s3-2.ensures in
     let close2 = c.close-2.ensures in
-    in_steps pre0 (s_kind (s_false _ _ (kind_off _ _ _ _ at if1) (s_by _ (settled state3 (runs_in path_must2)) (s_eats _ _ _ want2 (s_by _ (settled state4 (runs_in path_must3)) (s_close close2 s_end))))))
+    in_steps pre0 (s_kind (s_false _ _ (kind_off _ _ _ _ at if1) (s_by _ (settled either3 (runs_in path_must2)) (s_eats _ _ _ want2 (s_by _ (settled either4 (runs_in path_must3)) (s_close close2 s_end))))))

@@ -36,7 +36,7 @@ pub loop-k-smaller-then-left-eq0 : goal.loop-k-smaller-then-left-eq0
 unfolding decl.sig_step plan choose chosen hushed
 loop-k-smaller-then-left-eq0 c =
     let inv = c.loop-k.invariant in
-    let peek = c.in-Kind.ensures in
+    let peek = c.in-Some.ensures in
     let where_and = c.where_and.ensures in
     let if1 = c.if-where_and.true in
     let if2 = c.if-left-eq0.true in
@@ -47,7 +47,7 @@ pub loop-k-preserved-then-left-eq0 : goal.loop-k-preserved-then-left-eq0
 unfolding decl.sig_step plan choose chosen hushed
 loop-k-preserved-then-left-eq0 c =
     let inv = c.loop-k.invariant in
-    let peek = c.in-Kind.ensures in
+    let peek = c.in-Some.ensures in
     let where_and = c.where_and.ensures in
     let if1 = c.if-where_and.true in
     let if2 = c.if-left-eq0.true in
@@ -79,7 +79,7 @@ pub loop-k-smaller : goal.loop-k-smaller
 unfolding decl.sig_step plan choose chosen
 loop-k-smaller c =
     let inv = c.loop-k.invariant in
-    let peek = c.in-Kind.ensures in
+    let peek = c.in-Some.ensures in
     let where_and = c.where_and.ensures in
     let if1 = c.if-where_and.true in
     let if2 = c.if-left-eq0.false in
@@ -92,7 +92,7 @@ pub loop-k-preserved : goal.loop-k-preserved
 unfolding decl.sig_step plan choose chosen
 loop-k-preserved c =
     let inv = c.loop-k.invariant in
-    let peek = c.in-Kind.ensures in
+    let peek = c.in-Some.ensures in
     let where_and = c.where_and.ensures in
     let if1 = c.if-where_and.true in
     let if2 = c.if-left-eq0.false in
@@ -105,7 +105,7 @@ pub returns-in-loop-k : goal.returns-in-loop-k
 unfolding decl.sig_step plan choose chosen
 returns-in-loop-k c =
     let inv = c.loop-k.invariant in
-    let peek = c.in-Kind.ensures in
+    let peek = c.in-Some.ensures in
     let where_and = c.where_and.ensures in
     let if1 = c.if-where_and.false in
     loop_ends (sig_step_advances _ _) inv (in_steps inv.ok {n = c.args.left} {b = c.args.b} (s_look peek (s_false _ _ (test_false where_and if1) s_end)))

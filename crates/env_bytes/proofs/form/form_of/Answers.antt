@@ -1,22 +1,27 @@
 -- by hand: a loop over an environment's entries, whose invariant is its own.
 use Prim.Native.Nat.{ℕ, zero, suc, ◌+◌, ◌-◌, ◌≤◌, ◌<◌}
 use native.Mathlib.Nat.{add-zero, zero-add}
-use native.Mathlib.Numerals.{add-one}
 use native.Mathlib.Omega.{arith}
 use mathlib.Core.Path.{◌≡◌, refl, ap, sym, ◌∙◌}
-use mathlib.Core.Bool.{Bool, true, false, ◌&&◌, and-eq-true_iff}
+use mathlib.Core.Bool.{true, false, ◌&&◌, and-false}
 use mathlib.Core.Option.{Option, none, some}
 use mathlib.Core.List.{List, [], ◌∷◌}
-use borrow.Author.Tests.{leb-true}
-use lib.Dec.{leb}
-use lib.ListN.{length, get_or, take, drop, length-drop, drop_of_length-le}
-use lib.Seq.{take_all, drop-cons, drop-drop}
+use mathlib.Core.Logic.{⊎_elim}
+use lib.Dec.{eqb, leb}
+use lib.ListN.{length, get_or, take, drop}
+use Rattle.std.proofs.lemmas.List.{get_or-take, get_or-drop, nil_from_length}
+use Rattle.std.proofs.lemmas.Bool.{cases_lt}
+use Rattle.std.proofs.lemmas.Bool.Decides.{nat_tests}
 use Rattle.grammar.specs.Bytes.{before}
 use Rattle.grammar.specs.Env.{Entry, entry_fits, entry_in, entries_of, env_of, max_entries, max_name, Right}
-use Rattle.env_bytes.specs.Form.{count_of}
-use Rattle.env_bytes.proofs.form.form_of.Invariants.{behind, counted}
+use Rattle.std.specs.Prelude.{Some, None}
+use Rattle.std.specs.Borrow.{Bor}
+use borrow.Author.Tests.{eqb-true, le-leb, lt-leb}
+use Rattle.env_bytes.specs.Form.{count_of, Split, Splits}
+use Rattle.env_bytes.proofs.Empty.{empty_first}
+use Rattle.env_bytes.proofs.form.form_of.Goals.{then-count-eq256-via-then-count-eq256, then-count-eq256-via-else-count-eq256+then-not-before, then-count-eq256-via-else-count-eq256+else-not-before+then-fixity-gt1}
+use Rattle.env_bytes.proofs.form.form_of.Invariants.{behind}
 use Rattle.env_bytes.proofs.form.form_of.Goals as goal
-use Rattle.env_bytes.proofs.form.form_of.Goals.{After-entry_fits, Else-not-entry_fits}
 
 behind-none : (o : Option (List Entry)) → behind 0 o ≡ count_of o
 behind-none none = refl
@@ -33,98 +38,96 @@ module _ (last : List ℕ) where
   ends (suc k) = refl
 
   module _ (n : ℕ) (bytes : List ℕ) where
-    whole : entry_fits last n bytes ≡ true → n + 3 ≤ length bytes
+    cut : length bytes < n + 3 → entry_fits last n bytes ≡ false
     unfolding entry_fits
-    whole e =
-        let x = leb 1 n && leb n max_name in
-        let w = leb (n + 3) (length bytes) in
-        let y = before last (take n bytes) in
-        leb-true (n + 3) (length bytes) ((and-eq-true_iff x w).0 ((and-eq-true_iff (x && w) y).0 ((and-eq-true_iff (x && w && y) (leb (get_or bytes (n + 2) 0) Right)).0 e).0).0).1
+    cut h = grind (arith, nat_tests)
+
+    nameless : n ≡ 0 → entry_fits last n bytes ≡ (before last (take n bytes) && leb (get_or bytes (n + 2) 0) Right)
+    unfolding entry_fits
+    nameless e = rw (e, empty_first last)
+
+    named : 1 ≤ n → n ≤ max_name → n + 3 ≤ length bytes → entry_fits last n bytes ≡ (before last (take n bytes) && leb (get_or bytes (n + 2) 0) Right)
+    unfolding entry_fits
+    named o h l = rw (le-leb 1 n o, le-leb n max_name h, le-leb (n + 3) (length bytes) l)
+
+    whole : n ≤ max_name → n + 3 ≤ length bytes → entry_fits last n bytes ≡ (before last (take n bytes) && leb (get_or bytes (n + 2) 0) Right)
+    whole h l = ⊎_elim (λ o. named o h l) (λ z. nameless (omega arith)) (cases_lt 0 n)
+
+    refused : (k : ℕ) → entry_fits last n bytes ≡ false → entries_of k last (n ∷ bytes) ≡ none
+    unfolding entries_of
+    refused zero e = refl
+    refused (suc k) e = rw (e, entries_of)
 
     goes : (count k : ℕ) → entry_fits last n bytes ≡ true → behind count (entries_of (suc k) last (n ∷ bytes)) ≡ behind (count + 1) (entries_of k (take n bytes) (drop (n + 3) bytes))
     unfolding entries_of
     goes count k e = rw (e, entries_of) (behind-one count (entry_in n bytes) (entries_of k (take n bytes) (drop (n + 3) bytes)))
 
--- whether the entry that is next fits behind that name
-abbrev fits : List ℕ → ℕ → ℕ → ℕ → Bool
-fits env start end at = entry_fits (take (end - start) (drop start env)) (get_or env at 0) (drop (at + 1) env)
+-- the count of the environment's entries, where `count` were passed, the last one's name is `last`, and `left` is behind it
+abbrev counted : List ℕ → List ℕ → ℕ → Option ℕ
+counted last left count = behind count (entries_of (max_entries - count) last left)
 
-module _ (env : List ℕ) (at : ℕ) (h : at < length env) where
-  next : drop at env ≡ get_or env at 0 ∷ drop (at + 1) env
-  next = rw add-one (drop-cons env at 0 h)
+module _ (last : List ℕ) (count : ℕ) where
+  broken : (left : List ℕ) → eqb (length left) 0 ≡ false → Splits left None → counted last left count ≡ none
+  broken [] l h = cc
+  broken (n ∷ bytes) l h = rw (refused last n bytes (max_entries - count) (cut last n bytes h))
 
-  tail : take (length env - at) (drop at env) ≡ get_or env at 0 ∷ drop (at + 1) env
-  tail = take_all (length env - at) (drop at env) (rw length-drop (omega arith)) ∙ next
+  full : (left : List ℕ) → eqb (length left) 0 ≡ false → count ≡ max_entries → counted last left count ≡ none
+  unfolding entries_of
+  full [] l h = cc
+  full (n ∷ bytes) l h = let z : max_entries - count ≡ 0 = omega arith in rw z
 
-module _ (env : List ℕ) (count start end at : ℕ) where
-  done : length env ≤ at → counted env count start end at ≡ some count
-  done h = rw (drop_of_length-le env h, ends) (ap some (add-zero count))
+  module _ (name fixity rest : Bor (List ℕ)) where
+    fits : (n : ℕ) (bytes : List ℕ) → Split n bytes name.now fixity.now rest.now → entry_fits last n bytes ≡ (before last name.now && leb (get_or fixity.now 2 0) Right)
+    fits n bytes s =
+        let a : get_or (take 3 (drop n bytes)) 2 0 ≡ get_or bytes (n + 2) 0 = get_or-take 3 (drop n bytes) 2 0 (omega arith) ∙ get_or-drop n bytes 2 0 in
+        rw (s.name-is, s.fixity-is, a) (whole last n bytes s.sized s.room)
 
-  module _ (h : at < length env) where
-    full : count ≡ max_entries → counted env count start end at ≡ none
-    unfolding entries_of
-    full e = let z : max_entries - count ≡ 0 = omega arith in rw (z, next env at h)
+    bad : (left : List ℕ) → Splits left (Some (name, fixity, rest)) → (before last name.now && leb (get_or fixity.now 2 0) Right) ≡ false → counted last left count ≡ none
+    bad [] h e = cc
+    bad (n ∷ bytes) h e = rw (refused last n bytes (max_entries - count) (fits n bytes h ∙ e))
 
-    module _ (few : count < max_entries) where
-      z : max_entries - count ≡ suc (max_entries - (count + 1))
-      z = omega arith
+    good : (left : List ℕ) → Splits left (Some (name, fixity, rest)) → count < max_entries → (before last name.now && leb (get_or fixity.now 2 0) Right) ≡ true → counted last left count ≡ counted name.now rest.now (count + 1)
+    good [] h few e = cc
+    good (n ∷ bytes) h few e =
+        let z : max_entries - count ≡ suc (max_entries - (count + 1)) = omega arith in
+        rw (z, h.name-is, h.behind-is) (goes last n bytes count (max_entries - (count + 1)) (fits n bytes h ∙ e))
 
-      bad : fits env start end at ≡ false → counted env count start end at ≡ none
-      unfolding entries_of
-      bad e = rw (z, next env at h, e, entries_of)
-
-      good : fits env start end at ≡ true → counted env count start end at ≡ counted env (count + 1) (at + 1) (at + 1 + get_or env at 0) (at + 1 + get_or env at 0 + 3)
-      good e =
-          let n = get_or env at 0 in
-          let y : at + 1 + n - (at + 1) ≡ n = omega arith in
-          let x : at + 1 + n + 3 ≡ at + 1 + (n + 3) = omega arith in
-          rw (z, next env at h, y, x, ← drop-drop (n + 3) (at + 1) env) (goes (take (end - start) (drop start env)) n (drop (at + 1) env) count (max_entries - (count + 1)) e)
-
--- what `entry_fits` was asked, in the environment's terms
-asked : (c : After-entry_fits)
-    → c.entry_fits.result ≡ fits c.args.env.now c.loop-at.start c.loop-at.end c.loop-at.at
-asked c =
-    rw (tail c.args.env.now c.loop-at.at c.loop-at-test.true) at c.entry_fits.ensures
-
--- the entry's name and the three bytes behind it are within the environment
-room : (c : Else-not-entry_fits)
-    → c.loop-at.at + 1 + get_or c.args.env.now c.loop-at.at 0 + 3 ≤ length c.args.env.now
-room c =
-    let env = c.args.env.now in
-    let at = c.loop-at.at in
-    omega (arith, length-drop (at + 1) env, whole (take (c.loop-at.end - c.loop-at.start) (drop c.loop-at.start env)) (get_or env at 0) (drop (at + 1) env) (sym (asked (goal.at.Else-not-entry_fits c).After-entry_fits) ∙ c.if-not-entry_fits.false))
-
-pub loop-at-init : goal.loop-at-init
+pub loop-last-init : goal.loop-last-init
 unfolding env_of
-loop-at-init c = (omega arith, omega arith, omega arith, omega arith, behind-none (env_of c.args.env.now))
+loop-last-init c = (omega arith, behind-none (env_of c.args.env.now))
+
+pub returns-in_err-name : goal.returns-in_err-name
+returns-in_err-name c =
+    let l = c.loop-last in
+    rw c.from_residual.ensures (sym l.invariant.1 ∙ broken l.last.now l.count l.left.now (sym c.is_empty.ensures ∙ c.loop-last-test.true) c.in_err-name.ensures)
 
 pub returns-then-count-eq256 : goal.returns-then-count-eq256
 returns-then-count-eq256 c =
-    let v = c.loop-at in
-    sym v.invariant.4 ∙ full c.args.env.now v.count v.start v.end v.at c.loop-at-test.true (omega arith)
+    let l = c.loop-last in
+    let e = c.in_ok-name in
+    let p = before l.last.now e.name.now in
+    sym l.invariant.1
+    ∙ elim c.then-count-eq256.branch [
+      | then-count-eq256-via-then-count-eq256 w ↦ full l.last.now l.count l.left.now (sym c.is_empty.ensures ∙ c.loop-last-test.true) w.if-count-eq256.true
+      | then-count-eq256-via-else-count-eq256+then-not-before w ↦
+          let f : p ≡ false = sym w.before-else-count-eq256.ensures ∙ w.if-not-before.true in
+          bad l.last.now l.count e.name e.fixity e.behind l.left.now e.ensures (rw f)
+      | then-count-eq256-via-else-count-eq256+else-not-before+then-fixity-gt1 w ↦
+          let f = lt-leb (get_or e.fixity.now 2 0) Right w.if-fixity-gt1.true in
+          bad l.last.now l.count e.name e.fixity e.behind l.left.now e.ensures (rw f (and-false p))
+    ]
 
-pub returns-then-not-entry_fits : goal.returns-then-not-entry_fits
-returns-then-not-entry_fits c =
-    let v = c.loop-at in
-    sym v.invariant.4 ∙ bad c.args.env.now v.count v.start v.end v.at (omega arith) (omega arith) (sym (asked (goal.at.returns-then-not-entry_fits c).After-entry_fits) ∙ c.if-not-entry_fits.true)
-
-pub overflow_cast-end : goal.overflow_cast-end
-overflow_cast-end c = omega (arith, c.shared_slice_known-in-loop-at-1.given c.loop-at.at)
-
-pub overflow_add-end : goal.overflow_add-end
-overflow_add-end c = omega (arith, room (goal.at.overflow_add-end c).Else-not-entry_fits)
-
-pub overflow_add-at : goal.overflow_add-at
-overflow_add-at c = omega (arith, room (goal.at.overflow_add-at c).Else-not-entry_fits)
-
-pub loop-at-preserved : goal.loop-at-preserved
-loop-at-preserved c =
-    let r = room (goal.at.loop-at-preserved c).Else-not-entry_fits in
-    let v = c.loop-at in
-    let e = sym (asked (goal.at.loop-at-preserved c).After-entry_fits) ∙ c.if-not-entry_fits.false in
-    (omega arith, omega arith, omega arith, omega arith, sym (good c.args.env.now v.count v.start v.end v.at (omega arith) (omega arith) e) ∙ v.invariant.4)
+pub loop-last-preserved : goal.loop-last-preserved
+loop-last-preserved c =
+    let l = c.loop-last in
+    let e = c.in_ok-name in
+    let few : l.count < max_entries = omega arith in
+    let p : before l.last.now e.name.now ≡ true = sym c.before-else-count-eq256.ensures ∙ c.if-not-before.false in
+    let k = le-leb (get_or e.fixity.now 2 0) Right c.if-fixity-gt1.false in
+    (omega arith, sym (good l.last.now l.count e.name e.fixity e.behind l.left.now e.ensures few (rw (p, k))) ∙ l.invariant.1)
 
 pub returns : goal.returns
 returns c =
-    let v = c.loop-at in
-    sym v.invariant.4 ∙ done c.args.env.now v.count v.start v.end v.at c.loop-at-test.false
+    let l = c.loop-last in
+    let e = nil_from_length l.left.now (eqb-true (length l.left.now) 0 (sym c.is_empty.ensures ∙ c.loop-last-test.false)) in
+    sym l.invariant.1 ∙ rw (e, ends) (ap some (add-zero l.count))

@@ -4,7 +4,7 @@ use Prim.Native.Nat.{ℕ, ◌+◌, ◌-◌, ◌≤◌}
 use mathlib.Core.Path.{◌≡◌}
 use mathlib.Core.Option.{Option, none, some}
 use mathlib.Core.List.{List}
-use lib.ListN.{length, take, drop}
+use lib.ListN.{length}
 use Rattle.grammar.specs.Env.{Entry, entries_of, env_of, max_entries}
 use Rattle.env_bytes.specs.Form.{count_of}
 use Rattle.env_bytes.proofs.form.form_of.Given as goal
@@ -14,13 +14,9 @@ abbrev pub behind : ℕ → Option (List Entry) → Option ℕ
 behind k none = none
 behind k (some es) = some (k + length es)
 
--- the count of the environment's entries, where `count` were passed, the last one's name is from `start` to `end`, and the next is at `at`
-abbrev pub counted : List ℕ → ℕ → ℕ → ℕ → ℕ → Option ℕ
-counted env count start end at = behind count (entries_of (max_entries - count) (take (end - start) (drop start env)) (drop at env))
+abbrev pub invariant-loop-last : goal.invariant-loop-last
+invariant-loop-last l =
+    (l.count ≤ max_entries) × (behind l.count (entries_of (max_entries - l.count) l.last l.left) ≡ count_of (env_of l.env))
 
-abbrev pub invariant-loop-at : goal.invariant-loop-at
-invariant-loop-at l =
-    (l.start ≤ l.end) × (l.end ≤ length l.env) × (l.at ≤ length l.env) × (l.count ≤ max_entries) × (counted l.env l.count l.start l.end l.at ≡ count_of (env_of l.env))
-
-abbrev pub decreases-loop-at : goal.decreases-loop-at
-decreases-loop-at l = length l.env - l.at
+abbrev pub decreases-loop-last : goal.decreases-loop-last
+decreases-loop-last l = length l.left

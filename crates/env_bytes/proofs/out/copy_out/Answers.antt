@@ -1,101 +1,108 @@
 -- by hand: a loop over names in their order, whose invariant and measure are its own.
-use Prim.Native.Nat.{ℕ}
-use mathlib.Core.Path.{◌≡◌, sym, ◌∙◌, ap}
+use Prim.Native.Nat.{ℕ, ◌+◌, ◌<◌}
+use native.Mathlib.Omega.{arith}
+use mathlib.Core.Path.{◌≡◌, ap, ◌∙◌}
 use mathlib.Core.List.{List, ◌++◌}
 use mathlib.Core.Option.{none}
-use mathlib.Core.Bool.{true}
-use borrow.Author.Tests.{not-true, not-false}
-use Rattle.grammar.specs.Bytes.{before}
-use Rattle.grammar.specs.Env.{Entry, find, env_bytes}
+use mathlib.Core.Bool.{true, false}
+use lib.ListN.{length}
+use Rattle.std.specs.Prelude.{Option, Some, None, Result, Ok, Err}
+use Rattle.std.specs.Result.{IsErr}
+use Rattle.std.specs.Borrow.{Bor}
+use Rattle.std.specs.List.{All, filter}
+use Rattle.std.proofs.lemmas.List.Elements.{All-weaker}
+use Rattle.grammar.specs.Bytes.{same, before}
+use Rattle.grammar.specs.Env.{find, env_bytes}
+use Rattle.sml_fixity.specs.declared.table.Table.{Table}
+use Rattle.sml_fixity.specs.Names.{by_test, same_eq}
 use Rattle.sml_fixity.specs.Entries.{Sorted}
-use Rattle.sml_fixity.specs.EnvBytes.{sorted_env}
-use Rattle.sml_fixity.specs.Table.{entries_in, table_of}
-use Rattle.sml_fixity.proofs.Journals.{sorted_force}
-use Rattle.env_bytes.specs.Out.{nearer, closest_of, first_of, here}
+use Rattle.sml_fixity.specs.EnvBytes.{sorted_env, env_short}
+use Rattle.sml_fixity.specs.Table.{Short, entries_in, table_of, Stands}
+use Rattle.sml_fixity.proofs.Journals.{sorted_force, short_force}
+use Rattle.env_bytes.specs.Names.{names_in, changed_names, NextName}
+use Rattle.env_bytes.specs.declared.out.TooLong.{TooLong}
+use Rattle.env_bytes.specs.Out.{here, Over, Copies}
+use Rattle.env_bytes.proofs.names.Among.{not_among, fewer}
 use Rattle.env_bytes.proofs.out.Froms.{froms, afters, froms_all, froms_split, afters_next, afters_none}
-use Rattle.env_bytes.proofs.out.Merge.{first_behind, first_nearest, first_fewer}
-use Rattle.env_bytes.proofs.out.Nearest.{none_behind}
-use Rattle.env_bytes.proofs.out.Writes.{Left, begun, goes, over, finished, bytes_split}
+use Rattle.env_bytes.proofs.Writes.{begun, goes, over, finished, bytes_split}
+use Rattle.env_bytes.proofs.out.copy_out.Invariants.{from, still}
 use Rattle.env_bytes.proofs.out.copy_out.Goals as goal
-use Rattle.env_bytes.proofs.out.copy_out.Goals.{After-change_after-change, At-loop-end, Else-no_more}
 
-split : (es : List Entry) → Sorted es → (x : List ℕ) → env_bytes (froms x es) ≡ env_bytes (here x (find x es)) ++ env_bytes (afters x es)
-split es sorted x = ap env_bytes (froms_split x es sorted) ∙ bytes_split x (find x es) (afters x es)
+module _ (text env journal : List ℕ) (t : Table) (st : Stands text env journal t) where
+  sorted : Sorted (table_of text env journal t)
+  sorted = sorted_force text (entries_in env) journal (sorted_env env (entries_in env) st.form) t.len
 
--- the table, the name, the bytes of its entry, and those behind it
-abbrev table : At-loop-end → List Entry
-table l = let a = l.args in table_of a.text.now a.env.now a.journal.now a.t
+  short : (x : List ℕ) → Short x (find x (table_of text env journal t))
+  short = let es = entries_in env in short_force text es journal (sorted_env env es st.form) (env_short env es st.form) t.len st.records.named
 
-abbrev name : At-loop-end → List ℕ
-name l = first_of l.loop-end.e.now l.loop-end.c.now
+  split : (x : List ℕ) → env_bytes (froms x (table_of text env journal t)) ≡ env_bytes (here x (find x (table_of text env journal t))) ++ env_bytes (afters x (table_of text env journal t))
+  split x =
+      let es = table_of text env journal t in
+      ap env_bytes (froms_split x es sorted) ∙ bytes_split x (find x es) (afters x es)
 
-abbrev mine : At-loop-end → List ℕ
-mine l = env_bytes (here (name l) (find (name l) (table l)))
+  -- a name of which each entry's and change's name differs
+  absent : (z : List ℕ) (P : List ℕ → Type 0) → ((y : List ℕ) → P y → z ≡ y → ⊥) → All P (names_in env ++ changed_names text journal t.len) → find z (table_of text env journal t) ≡ none
+  absent z P f h =
+      let names = names_in env ++ changed_names text journal t.len in
+      not_among text env (entries_in env) journal t.len st.form (sorted_env env (entries_in env) st.form) z
+      (All-weaker P (λ y. same z y ≡ false) (λ y p. by_test (same z y) (λ s. absurd (f y p (same_eq z y s))) (λ s. s)) names h)
 
-abbrev rest : At-loop-end → List ℕ
-rest l = env_bytes (afters (name l) (table l))
+  module _ (x : List ℕ) where
+    next : (r : Option (Bor (List ℕ))) → NextName (names_in env ++ changed_names text journal t.len) x r → afters x (table_of text env journal t) ≡ from r (table_of text env journal t)
+    next None h = afters_none x (table_of text env journal t) (λ z p. absent z (λ y. before x y ≡ false) (λ y q e. let b = rw e at p in cc) h)
+    next (Some b) h =
+        afters_next x b.now h.1 (table_of text env journal t)
+        (λ z p q. absent z (λ y. before x y ≡ true → before y b.now ≡ false) (λ y g e. let u = g (rw e at p) in let v = rw e at q in cc) h.2)
 
-entries_sorted : (l : At-loop-end) → Sorted (entries_in l.args.env.now)
-entries_sorted l = sorted_env l.args.env.now (entries_in l.args.env.now) l.requires.form
+    smaller : (r : Option (Bor (List ℕ))) → NextName (names_in env ++ changed_names text journal t.len) x r → still r (names_in env ++ changed_names text journal t.len) < length (filter (before x) (names_in env ++ changed_names text journal t.len)) + 1
+    smaller None h = omega arith
+    smaller (Some b) h = omega (arith, fewer x b.now h.1 (names_in env ++ changed_names text journal t.len) h.0)
 
-left : (l : At-loop-end) → Left (env_bytes (table l)) l.args.out.now l.loop-end.out (mine l ++ rest l) l.loop-end.at
-left l =
-    let a = l.args in
-    rw (split (table l) (sorted_force a.text.now (entries_in a.env.now) a.journal.now (entries_sorted l) a.t.len) (name l)) at l.loop-end.invariant
-
-pub loop-end-init : goal.loop-end-init
-unfolding before nearer closest_of
-loop-end-init c =
+pub loop-name-init : goal.loop-name-init
+loop-name-init c =
     let a = c.args in
     let es = table_of a.text.now a.env.now a.journal.now a.t in
     rw (froms_all es) (begun (env_bytes es) a.out.now)
 
-pub shape_of-out-in_default : goal.shape_of-out-in_default
-shape_of-out-in_default c =
-    c.put_first.auto.out ∙ c.loop-end.invariant.kept
-
-pub returns-in_default : goal.returns-in_default
-returns-in_default c =
-    record {
-      long = over (env_bytes (table (goal.at.returns-in_default c).At-loop-end)) c.args.out.now c.loop-end.out (mine (goal.at.returns-in_default c).At-loop-end) (rest (goal.at.returns-in_default c).At-loop-end) c.loop-end.at (left (goal.at.returns-in_default c).At-loop-end) (rw c.in_default.is at c.put_first.ensures);
-      kept = c.put_first.auto.out ∙ c.loop-end.invariant.kept;
-    }
-
--- what is left behind the name's entry
-wrote : (c : After-change_after-change) → Left (env_bytes (table (goal.at.After-change_after-change c).At-loop-end)) c.args.out.now c.put_first.new.out (rest (goal.at.After-change_after-change c).At-loop-end) c.in-Fits.end
-wrote c =
-    goes (env_bytes (table (goal.at.After-change_after-change c).At-loop-end)) c.args.out.now c.loop-end.out (mine (goal.at.After-change_after-change c).At-loop-end) (rest (goal.at.After-change_after-change c).At-loop-end) c.loop-end.at (left (goal.at.After-change_after-change c).At-loop-end) c.put_first.new.out c.in-Fits.end c.in-Fits.ensures
-
-abbrev next : After-change_after-change → List ℕ
-next c = first_of c.entry_after-entry.result.now c.change_after-change.result.now
-
-nearest : (c : After-change_after-change) → (x : List ℕ) → nearer (name (goal.at.After-change_after-change c).At-loop-end) (next c) x ≡ true → find x (table (goal.at.After-change_after-change c).At-loop-end) ≡ none
-nearest c =
+pub put-requires : goal.put-requires
+put-requires c =
     let a = c.args in
-    first_nearest a.text.now (entries_in a.env.now) a.journal.now a.t.len (name (goal.at.After-change_after-change c).At-loop-end) c.entry_after-entry.result.now c.change_after-change.result.now c.entry_after-entry.ensures c.change_after-change.ensures (entries_sorted (goal.at.After-change_after-change c).At-loop-end)
+    (c.loop-name.invariant.room, rw c.find_name-f.ensures (short a.text.now a.env.now a.journal.now a.t c.requires c.in-Some.x.now))
 
-pub shape_of-out-then-no_more : goal.shape_of-out-then-no_more
-shape_of-out-then-no_more c =
-    c.put_first.auto.out ∙ c.loop-end.invariant.kept
+refused : (bytes out out' : List ℕ) (r : Result ℕ TooLong) → IsErr r → Over bytes out out' → Copies bytes out out' r
+refused bytes out out' (Ok n) h o = cc
+refused bytes out out' (Err e) h o = o
 
-pub returns-then-no_more : goal.returns-then-no_more
+pub returns-in_err-at : goal.returns-in_err-at
+returns-in_err-at c =
+    let a = c.args in
+    let l = c.loop-name in
+    let x = c.in-Some.x.now in
+    let es = table_of a.text.now a.env.now a.journal.now a.t in
+    let left = rw (c.in-Some.is, split a.text.now a.env.now a.journal.now a.t c.requires x) at l.invariant in
+    refused (env_bytes es) a.out.now c.put.new.out c.from_residual.result c.from_residual.ensures.0
+    (record {
+      long = over (env_bytes es) a.out.now l.out (env_bytes (here x (find x es))) (env_bytes (afters x es)) l.at left (rw c.find_name-f.ensures at c.in_err-at.ensures);
+      kept = c.put.auto.out ∙ l.invariant.kept;
+    })
+
+pub loop-name-smaller : goal.loop-name-smaller
+loop-name-smaller c =
+    let a = c.args in
+    rw c.in-Some.is (smaller a.text.now a.env.now a.journal.now a.t c.requires c.in-Some.x.now c.next_name-name.result c.next_name-name.ensures)
+
+pub loop-name-preserved : goal.loop-name-preserved
+loop-name-preserved c =
+    let a = c.args in
+    let l = c.loop-name in
+    let x = c.in-Some.x.now in
+    let es = table_of a.text.now a.env.now a.journal.now a.t in
+    let left = rw (c.in-Some.is, split a.text.now a.env.now a.journal.now a.t c.requires x) at l.invariant in
+    rw (← next a.text.now a.env.now a.journal.now a.t c.requires x c.next_name-name.result c.next_name-name.ensures)
+    (goes (env_bytes es) a.out.now l.out (env_bytes (here x (find x es))) (env_bytes (afters x es)) l.at left c.put.new.out c.in_ok-at.at (rw c.find_name-f.ensures at c.in_ok-at.ensures))
+
+pub returns : goal.returns
 unfolding env_bytes
-returns-then-no_more c =
-    let f = none_behind (name (goal.at.returns-then-no_more c).At-loop-end) (next (goal.at.returns-then-no_more c).After-change_after-change) (not-true _ (sym c.no_more.ensures ∙ c.if-no_more.true)) in
-    finished (env_bytes (table (goal.at.returns-then-no_more c).At-loop-end)) c.args.out.now _ c.in-Fits.end (rw (afters_none (name (goal.at.returns-then-no_more c).At-loop-end) (next (goal.at.returns-then-no_more c).After-change_after-change) f (table (goal.at.returns-then-no_more c).At-loop-end) (nearest (goal.at.returns-then-no_more c).After-change_after-change), env_bytes) at (wrote (goal.at.returns-then-no_more c).After-change_after-change))
-
--- the first of the two comes after the name
-behind : (c : Else-no_more) → before (name (goal.at.Else-no_more c).At-loop-end) (next (goal.at.Else-no_more c).After-change_after-change) ≡ true
-behind c =
+returns c =
     let a = c.args in
-    first_behind a.text.now (entries_in a.env.now) a.journal.now a.t.len (name (goal.at.Else-no_more c).At-loop-end) c.entry_after-entry.result.now c.change_after-change.result.now c.entry_after-entry.ensures c.change_after-change.ensures
-    (not-false _ (sym c.no_more.ensures ∙ c.if-no_more.false))
-
-pub loop-end-smaller : goal.loop-end-smaller
-loop-end-smaller c =
-    let a = c.args in
-    first_fewer a.text.now (entries_in a.env.now) a.journal.now a.t.len (name (goal.at.loop-end-smaller c).At-loop-end) c.entry_after-entry.result.now c.change_after-change.result.now c.entry_after-entry.ensures c.change_after-change.ensures (behind (goal.at.loop-end-smaller c).Else-no_more)
-
-pub loop-end-preserved : goal.loop-end-preserved
-loop-end-preserved c =
-    rw (afters_next (name (goal.at.loop-end-preserved c).At-loop-end) (next (goal.at.loop-end-preserved c).After-change_after-change) (behind (goal.at.loop-end-preserved c).Else-no_more) (table (goal.at.loop-end-preserved c).At-loop-end) (nearest (goal.at.loop-end-preserved c).After-change_after-change)) at (wrote (goal.at.loop-end-preserved c).After-change_after-change)
+    finished (env_bytes (table_of a.text.now a.env.now a.journal.now a.t)) a.out.now c.loop-name.out c.loop-name.at (rw c.in_default.is at c.loop-name.invariant)

@@ -1,9 +1,9 @@
--- by hand: the loop is over entries, of which only the bounds matter.
-use Rattle.std.proofs.Common.{length, ◌-◌, ◌+◌, ◌≤◌}
+-- by hand: an entry takes a byte at least, so that their number is that of the bytes at most.
+use Rattle.std.proofs.Common.{◌+◌, ◌≤◌, length}
 use Rattle.listing_parts.proofs.lines.entry_count.Given as goal
 
-abbrev pub invariant-loop-at : goal.invariant-loop-at
-invariant-loop-at l = (l.n ≤ l.at) × (l.at ≤ length l.env + 258)
+abbrev pub invariant-loop-rest : goal.invariant-loop-rest
+invariant-loop-rest l = l.n + length l.rest ≤ length l.env
 
-abbrev pub decreases-loop-at : goal.decreases-loop-at
-decreases-loop-at l = length l.env - l.at
+abbrev pub decreases-loop-rest : goal.decreases-loop-rest
+decreases-loop-rest l = length l.rest

@@ -3,11 +3,11 @@
 use Rattle.parser.proofs.Laws.{since_off, since_same, since_other}
 use Rattle.parser.proofs.State.ok_since.Goals as goal
 
-pub returns-then-now-ne0 : goal.returns-then-now-ne0
-returns-then-now-ne0 c = since_off _ _ c.if-now-ne0.true
+pub returns-then-is_refused : goal.returns-then-is_refused
+returns-then-is_refused c = since_off _ _ c.if-is_refused.ensures
 
 pub returns-then-now-self : goal.returns-then-now-self
-returns-then-now-self c = since_same _ _ c.if-now-ne0.false c.if-now-self.true
+returns-then-now-self c = since_same _ _ c.if-is_refused.ensures c.if-now-self.true
 
 pub returns : goal.returns
-returns c = since_other _ _ c.if-now-ne0.false c.if-now-self.false
+returns c = since_other _ _ c.if-is_refused.ensures c.if-now-self.false

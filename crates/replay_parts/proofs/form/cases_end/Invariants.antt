@@ -1,12 +1,7 @@
--- by hand: a loop over cases, whose invariant is its own.
-use Prim.Native.Nat.{◌≤◌}
-use mathlib.Core.Path.{◌≡◌}
-use lib.ListN.{length}
+-- by hand: as many cases as are left stand in front of the rest.
+use Rattle.std.proofs.Common.{◌≡◌, ◌-◌}
 use Rattle.replay_parts.specs.Form.{ends_at}
 use Rattle.replay_parts.proofs.form.cases_end.Given as goal
 
-abbrev pub invariant-loop-left : goal.invariant-loop-left
-invariant-loop-left l = (l.at ≤ length l.list) × (ends_at l.left l.list l.at ≡ ends_at l.count l.list l.from)
-
-abbrev pub decreases-loop-left : goal.decreases-loop-left
-decreases-loop-left l = l.left
+abbrev pub invariant-loop : goal.invariant-loop
+invariant-loop l = ends_at (l.count - l.counter) l.rest 0 ≡ ends_at l.count l.list 0

@@ -5,17 +5,11 @@ use mathlib.Core.Path.{◌≡◌, sym, ◌∙◌}
 use native.Mathlib.Omega.{arith}
 use lib.ListN.{length}
 use Rattle.grammar.specs.World.{changed}
-use Rattle.sml_fixity.specs.Entries.{count_small}
 use Rattle.sml_fixity.specs.Fix.{fixity_of}
 use Rattle.sml_fixity.specs.Table.{part, table_of}
-use Rattle.sml_fixity.proofs.Changes.{balance, many, large, made}
+use Rattle.sml_fixity.proofs.Changes.{balance, large, made}
 use Rattle.sml_fixity.proofs.table.change.Goals as goal
 use Rattle.sml_fixity.proofs.table.change.Goals.{After-holds-2}
-
-pub returns-then-t-ge1024 : goal.returns-then-t-ge1024
-returns-then-t-ge1024 c =
-    let a = c.args in
-    many a.text.now a.env.now a.journal.now a.t a.start a.len a.f c.requires.0 c.requires.1 c.if-t-ge1024.true
 
 -- the entries there will be
 entries : (c : After-holds-2) → let a = c.args in length (changed (fixity_of a.f) (part a.text.now a.start a.len) (table_of a.text.now a.env.now a.journal.now a.t)) + c.holds-2.result ≡ a.t.entries + c.holds.result
@@ -23,10 +17,6 @@ entries c =
     let a = c.args in
     balance a.text.now a.env.now a.journal.now a.t a.start a.len a.f c.requires.0 c.requires.1
     c.holds.result c.holds-2.result (fixity_of c.find-was.result) c.holds.ensures c.holds-2.ensures c.find-was.ensures
-
-pub overflow_add-entries : goal.overflow_add-entries
-overflow_add-entries c =
-    omega (arith, c.requires.0.few, c.holds.ensures, count_small (fixity_of c.args.f))
 
 pub overflow_sub-entries : goal.overflow_sub-entries
 overflow_sub-entries c = let e = entries c in omega (arith, e)

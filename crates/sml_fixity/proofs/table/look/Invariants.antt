@@ -3,12 +3,11 @@
 use Prim.Native.Nat.{◌-◌}
 use mathlib.Core.Path.{◌≡◌}
 use lib.ListN.{length}
-use Rattle.sml_fixity.specs.Table.{part}
 use Rattle.sml_fixity.proofs.Scan.{Rest}
 use Rattle.sml_fixity.proofs.table.look.Given as goal
 
 abbrev pub invariant-loop-at : goal.invariant-loop-at
-invariant-loop-at l = Rest (λ x. x ≡ part l.text l.start l.len) l.env l.at
+invariant-loop-at l = Rest (λ x. x ≡ l.name) l.env l.at
 
 abbrev pub decreases-loop-at : goal.decreases-loop-at
 decreases-loop-at l = length l.env - l.at

@@ -28,13 +28,13 @@ is_closer-requires c =
 
 pub report-s2-requires : goal.report-s2-requires
 report-s2-requires c =
-    let dec = c.in-Missing.ensures in
+    let dec = c.in-Err.ensures in
     let dec_ok = dec.ok in
     (dec_ok.holds, (let few = dec_ok.reads.few in let inside = dec_ok.reads.inside in omega arith), omega arith)
 
 pub bump-requires : goal.bump-requires
 bump-requires c =
-    let dec = c.in-Missing.ensures in
+    let dec = c.in-Err.ensures in
     let dec_ok = dec.ok in
     let report = c.report-s2.ensures in
     let report_ok = ok_tells report dec_ok in
@@ -44,44 +44,44 @@ pub returns-then-is_closer : goal.returns-then-is_closer
 unfolding root_def.root_turn plan choose chosen
 returns-then-is_closer c =
     let pre0 = c.requires in
-    let peek = c.in-Kind.ensures in
-    let dec = c.in-Missing.ensures in
+    let peek = c.in-Some.ensures in
+    let dec = c.in-Err.ensures in
     let is_closer = c.is_closer.ensures in
     let if1 = c.if-is_closer.true in
     let report = c.report-s2.ensures in
     let bump = c.bump.ensures in
     by_steps pre0 (λ b. s_look peek (s_run (runs_in dec) (s_true _ _ (test_true is_closer if1) (s_report report (s_bump bump s_end)))))
 
-pub report-s2-requires-in-Missing : goal.report-s2-requires-in-Missing
-report-s2-requires-in-Missing c =
-    let dec = c.in-Missing.ensures in
+pub report-s2-requires-in-Err : goal.report-s2-requires-in-Err
+report-s2-requires-in-Err c =
+    let dec = c.in-Err.ensures in
     let dec_ok = dec.ok in
     (dec_ok.holds, (let few = dec_ok.reads.few in let inside = dec_ok.reads.inside in omega arith), omega arith)
 
-pub bump-requires-in-Missing : goal.bump-requires-in-Missing
-bump-requires-in-Missing c =
-    let dec = c.in-Missing.ensures in
+pub bump-requires-in-Err : goal.bump-requires-in-Err
+bump-requires-in-Err c =
+    let dec = c.in-Err.ensures in
     let dec_ok = dec.ok in
-    let report2 = c.report-s2-in-Missing.ensures in
+    let report2 = c.report-s2-in-Err.ensures in
     let report2_ok = ok_tells report2 dec_ok in
     (report2_ok.reads, report2_ok.logs)
 
-pub returns-in-At : goal.returns-in-At
+pub returns-in-Ok : goal.returns-in-Ok
 unfolding root_def.root_turn plan choose chosen
-returns-in-At c =
+returns-in-Ok c =
     let pre0 = c.requires in
-    let peek = c.in-Kind.ensures in
-    let dec = c.in-At.ensures in
+    let peek = c.in-Some.ensures in
+    let dec = c.in-Ok.ensures in
     by_steps pre0 (λ b. s_look peek (s_run (runs_in dec) s_end))
 
 pub returns-else-is_closer : goal.returns-else-is_closer
 unfolding root_def.root_turn plan choose chosen
 returns-else-is_closer c =
     let pre0 = c.requires in
-    let peek = c.in-Kind.ensures in
-    let dec = c.in-Missing.ensures in
+    let peek = c.in-Some.ensures in
+    let dec = c.in-Err.ensures in
     let is_closer = c.is_closer.ensures in
     let if1 = c.if-is_closer.false in
-    let report2 = c.report-s2-in-Missing.ensures in
-    let bump2 = c.bump-in-Missing.ensures in
+    let report2 = c.report-s2-in-Err.ensures in
+    let bump2 = c.bump-in-Err.ensures in
     by_steps pre0 (λ b. s_look peek (s_run (runs_in dec) (s_false _ _ (test_false is_closer if1) (s_report report2 (s_bump bump2 s_end)))))

@@ -15,17 +15,17 @@ root_turn-turn-requires c =
 
 pub loop-s2-smaller : goal.loop-s2-smaller
 loop-s2-smaller c =
-    let root_turn = c.in-At.ensures in
+    let root_turn = c.in-Ok.ensures in
     loop_falls (root_turn_advances _ _) (runs_in {b = 0} root_turn)
 
 pub loop-s2-preserved : goal.loop-s2-preserved
 loop-s2-preserved c =
     let inv = c.loop-s2.invariant in
-    let root_turn = c.in-At.ensures in
+    let root_turn = c.in-Ok.ensures in
     loop_goes (root_turn_advances _ _) inv (runs_in root_turn)
 
-pub returns-in-Missing : goal.returns-in-Missing
-returns-in-Missing c =
+pub returns-in-Err : goal.returns-in-Err
+returns-in-Err c =
     let inv = c.loop-s2.invariant in
-    let root_turn = c.in-Missing.ensures in
+    let root_turn = c.in-Err.ensures in
     loop_ends (root_turn_advances _ _) inv (runs_in root_turn)

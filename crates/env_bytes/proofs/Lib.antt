@@ -1,0 +1,3 @@
+pub mod Empty
+pub mod Stores
+pub mod Writes

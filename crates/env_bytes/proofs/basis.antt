@@ -1,3 +1,0 @@
--- Laws behind the proofs of `basis`.
-pub mod Stores
-pub mod Tests

@@ -1,0 +1,4 @@
+-- Laws behind the proofs of `names`.
+pub mod Listed
+pub mod Picked
+pub mod Among

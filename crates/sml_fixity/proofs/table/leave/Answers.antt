@@ -1,7 +1,0 @@
--- by hand: one law of tables, for every journal.
--- `table::leave` meets its contract.
-use Rattle.sml_fixity.proofs.Scopes.{leaves}
-use Rattle.sml_fixity.proofs.table.leave.Goals as goal
-
-pub returns : goal.returns
-returns c = leaves c.args.old c.args.now
