@@ -53,7 +53,7 @@ start_state toks scratch finds entries mode at = record {
   kept = length finds / 8;
   fixes = record { len = 0; entries = entries; changes = 0 };
   mode = mode;
-  stop = None;
+  stop = 0;
 }
 
 module _ (text toks env table scratch finds : List ℕ) (entries mode at : ℕ) (t : Tested text toks env entries)

@@ -36,6 +36,6 @@ pub fn start_state(
             changes: 0,
         },
         mode,
-        stop: None,
+        stop: 0,
     }
 }

@@ -3,13 +3,12 @@
 
 ghost use Rattle.std.specs.Prelude.{◌<◌};
 ghost use Rattle.grammar.specs.Dec as decl;
-ghost use Rattle.parser.specs.Nodes.{node_number};
 ghost use Rattle.parser.specs.View.{Sound, mem_of, err_of, out_state, out_val};
 ghost use Rattle.parser.specs.Runs.{Runs, RunsIn};
 
 use parser::finding::{ErrorKind, Expected};
 use parser::node::Node;
-use parser::{Found, InfixErr, Lent, State, at, bump, close, either, kind, report};
+use parser::{Found, InfixErr, Lent, State, at, bump, close, close_kind, either, kind, report};
 use pat::{pat_must, pat_prec};
 use pat_prec::PatPrec;
 use ty_parts::ty_var_seq;
@@ -51,11 +50,11 @@ pub fn app_start(
     want(lent.toks, scratch, finds, kind::LROUND, s1)
 }
 
-// Where something ends: the kinds of the token and of the node.
+// Where something ends: the numbers of the token's kind and of the node's.
 #[derive(Clone, Copy)]
 pub struct Ending {
     pub end: u8,
-    pub node: Node,
+    pub node: u8,
 }
 
 // The end of what ends at a token, and its node.
@@ -70,10 +69,10 @@ pub fn end_node(
     s: State,
 ) -> State
     requires { Sound (mem_of lent table.now scratch.old finds.old s) × (b < 4294967296) × (q.end < 128) }
-    ensures { RunsIn left b (decl.ended q.end (node_number q.node)) (mem_of lent.entry table.now scratch.old finds.old s) (mem_of lent.entry table.now scratch.new finds.new result) 1 }
+    ensures { RunsIn left b (decl.ended q.end q.node) (mem_of lent.entry table.now scratch.old finds.old s) (mem_of lent.entry table.now scratch.new finds.new result) 1 }
 {
     let s1 = want(lent.toks, scratch, finds, q.end, s);
-    close(scratch, q.node, b, s1)
+    close_kind(scratch, q.node, b, s1)
 }
 
 // A structure that is a path.

@@ -4,7 +4,8 @@ ghost use Rattle.grammar.specs.Bytes.{before};
 ghost use Rattle.grammar.specs.Env.{env_of};
 ghost use Rattle.env_bytes.specs.Form.{count_of, form_of, Splits};
 
-// Whether a name comes before another, by bytes; a prefix comes first. It is no `a < b`, with which a copy of a full table took 1.3 to 1.6 times the instructions.
+// Whether a name comes before another, by bytes; a prefix comes first.
+// It is no `a < b`, with which a copy of a full table took 1.3 to 1.6 times the instructions.
 pub(crate) fn before(a: &[u8], b: &[u8]) -> bool
     ensures { result ≡ before a.now b.now }
 {
@@ -27,6 +28,7 @@ pub(crate) fn split_entry(bytes: &[u8]) -> Option<(&[u8], &[u8; 3], &[u8])>
 }
 
 // Answer 3's test: how many entries the bytes are, if they have the form. The bytes `left` are to have theirs after `last`.
+// It goes by no index: each entry's length stands in it.
 pub fn form_of(env: &[u8]) -> Option<usize>
     ensures { count_of (env_of env.now) ≡ form_of result }
 {

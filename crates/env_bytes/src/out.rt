@@ -1,5 +1,5 @@
 // Copying the table out: the entries in force, in the order of their names, as an environment's bytes.
-ghost use Rattle.std.specs.Prelude.{◌≡◌, ◌≤◌, length};
+ghost use Rattle.std.specs.Prelude.{◌≤◌, length};
 ghost use Rattle.grammar.specs.Env.{env_bytes};
 ghost use Rattle.sml_fixity.specs.Fix.{fixity_of};
 ghost use Rattle.sml_fixity.specs.Table.{Short, table_of, Stands};
@@ -29,7 +29,10 @@ fn put(out: &mut [u8], at: usize, x: &[u8], f: Option<Infix>) -> Result<usize, T
     Ok(at + x.len() + 4)
 }
 
-// Writes the table's bytes. The names of entries and changes are taken in their order, from the empty one on, which comes before all others, and each is looked for once. An entry that does not fit ends it, since those before it are the first of all; what `out` then holds is left open, as the public entry clears it.
+// Writes the table's bytes.
+// The names of entries and changes are taken in their order, from the empty one on, which comes before all others, and each is looked for once.
+// It goes by no index: each name is found from the last.
+// An entry that does not fit ends it, since those before it are the first of all; what `out` then holds is left open, as the public entry clears it.
 pub fn copy_out(
     text: &[u8],
     env: &[u8],

@@ -158,32 +158,32 @@ const FCTS: ManySep = ManySep {
 // Where structures, signatures and declarations end.
 const STRUCT: Ending = Ending {
     end: kind::END_KW,
-    node: Node::StructStrExp,
+    node: Node::StructStrExp as u8,
 };
 
 const STR_LET: Ending = Ending {
     end: kind::END_KW,
-    node: Node::LetStrExp,
+    node: Node::LetStrExp as u8,
 };
 
 const APPLIED: Ending = Ending {
     end: kind::RROUND,
-    node: Node::AppStrExp,
+    node: Node::AppStrExp as u8,
 };
 
 const SIG: Ending = Ending {
     end: kind::END_KW,
-    node: Node::SigSigExp,
+    node: Node::SigSigExp as u8,
 };
 
 const ABSTYPE: Ending = Ending {
     end: kind::END_KW,
-    node: Node::AbstypeDec,
+    node: Node::AbstypeDec as u8,
 };
 
 const LOCAL: Ending = Ending {
     end: kind::END_KW,
-    node: Node::LocalDec,
+    node: Node::LocalDec as u8,
 };
 
 // The tokens before an expression.

@@ -2,9 +2,7 @@
 #![tactic(auto)]
 
 ghost use Rattle.std.specs.Prelude.{◌≡◌, false};
-ghost use Rattle.grammar.specs.Rule as rules;
 ghost use Rattle.grammar.specs.Exp as expr;
-ghost use Rattle.sml_fixity.specs.Fix.{infix_of};
 ghost use Rattle.parser.specs.Nodes.{node_number};
 ghost use Rattle.parser.specs.View.{Sound, mem_of, out_state, out_val};
 ghost use Rattle.parser.specs.Runs.{Always};
@@ -36,14 +34,14 @@ pub enum Verdict {
     Infixes(Infix, Infix),
 }
 
-// Whether it is `handle`.
+// Whether it is `handle`: one test, under grammar's name for it.
 pub fn is_handle(op: ExpPrec) -> bool
     ensures { result ≡ expr.is_handle (prec_of op) }
 {
     matches!(op, ExpPrec::Handle)
 }
 
-// Whether it is `:` or `:>`.
+// Whether it is `:` or `:>`: one test, under grammar's name for it.
 pub fn is_ascribed(op: ExpPrec) -> bool
     ensures { result ≡ expr.is_ascribed (prec_of op) }
 {
@@ -61,7 +59,7 @@ pub fn node_of(op: ExpPrec) -> Node
     }
 }
 
-// Whether it is an infix name.
+// Whether it is an infix name: one test, under grammar's name for it.
 pub fn is_infix(op: ExpPrec) -> bool
     ensures { result ≡ expr.is_infix (prec_of op) }
 {

@@ -1,4 +1,5 @@
-// Changes, looks and a scope's end on a full table of 256 entries and 1,024 changes. What it finds is held to `stdout`; what it costs is measured from outside, by tools/measure.
+// Changes, looks and a scope's end on a full table of 256 entries and 1,024 changes.
+// What it finds is held to `stdout`; what it costs is measured from outside, by tools/measure.
 #![tactic(auto)]
 
 ghost use Rattle.std.specs.Prelude.{◌≡◌, ◌≤◌, length};

@@ -11,7 +11,7 @@ const TOKEN: u8 = 2;
 // A finding's code is its number and this.
 const CODES: u16 = 3000;
 
-// The name index of a finding that has none.
+// The name index of a finding that has none: document 01's number for none.
 const NO_NAME: u16 = 65535;
 
 // Writes a node record: what happens, a kind, and a token's index.
@@ -68,6 +68,7 @@ pub fn list_finds(rt: &impl Print, finds: &[u8]) -> io::Result<()> {
 }
 
 // How many entries the bytes of an environment have: each is a length, a name so long, and three bytes.
+// It goes by no index: each entry's length stands in it.
 fn entry_count(env: &[u8]) -> usize {
     let mut n = 0;
     let mut rest = env;

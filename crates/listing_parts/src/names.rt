@@ -206,12 +206,12 @@ const NODES: [&str; 129] = [
 ];
 
 // The name of a token kind; that of a byte which is no kind is empty.
-pub fn token_name(kind: u8) -> &'static str {
+pub(crate) fn token_name(kind: u8) -> &'static str {
     TOKENS.get(usize::from(kind)).copied().unwrap_or("")
 }
 
 // The name of a node kind; that of a byte which is no kind is empty.
-pub fn node_name(kind: u8) -> &'static str {
+pub(crate) fn node_name(kind: u8) -> &'static str {
     // a byte from 144 on counts as the one of 128 to 143 with the same last digit in hexadecimal
     let at = kind.min(128 + kind % 16);
     NODES.get(usize::from(at)).copied().unwrap_or("")

@@ -1,13 +1,13 @@
 -- How many nodes the records of a log come to, and how many bytes they take.
 use Rattle.std.specs.Prelude.{ℕ, suc, ◌+◌, ◌*◌, ◌≡◌, refl, List, [], ◌∷◌, ◌++◌, leb, length, get_or}
-use Rattle.std.proofs.Common.{arith, ap, ◌∙◌, ne_eqb, length-append}
+use Rattle.std.proofs.Common.{add-one, arith, ap, ◌∙◌, ne_eqb, length-append}
 use Rattle.std.proofs.lemmas.List.{length-map}
 use Rattle.grammar.specs.World.{Rec}
 use Rattle.grammar.specs.World.Rec.{took, ended}
 use Rattle.grammar.specs.Nodes.{Node, Placed, insert, place, nodes_of, nodes_bytes}
 use Rattle.grammar.specs.Nodes.Node.{opens, token, closes}
 use Rattle.laws.specs.Choice.{if_both}
-use Rattle.parser.specs.View.{chunk_at, chunk_size, rec_of, took_tag}
+use Rattle.parser.specs.View.{chunks, chunk_at, chunk_size, rec_of, took_tag}
 use Rattle.node_count.specs.Log.{node_size, kind_at, number_at, log_in, nodes_in}
 
 -- the nodes of records
@@ -15,6 +15,12 @@ unfoldable pub weight : List Rec → ℕ
 weight [] = 0
 weight (took k x ∷ l) = suc (weight l)
 weight (ended k b ∷ l) = suc (suc (weight l))
+
+pub weight_append : (a b : List Rec) → weight (a ++ b) ≡ weight a + weight b
+unfolding weight
+weight_append [] b = omega arith
+weight_append (took k x ∷ a) b = omega (arith, weight_append a b)
+weight_append (ended k x ∷ a) b = omega (arith, weight_append a b)
 
 insert_length : (b : ℕ) (x : Node) (ys : List Placed) → length (insert b x ys) ≡ suc (length ys)
 unfolding insert
@@ -50,3 +56,11 @@ module _ (scratch : List ℕ) (i : ℕ) where
 
   pub rec_ended : (get_or scratch (chunk_size * i) 0 ≡ took_tag → ⊥) → chunk_at rec_of scratch i ≡ ended (kind_at scratch i) (number_at scratch i)
   rec_ended h = rw (ne_eqb (get_or scratch (chunk_size * i) 0) took_tag h, rec_of)
+
+  pub weight_took : get_or scratch (chunk_size * i) 0 ≡ took_tag → weight (log_in scratch (i + 1)) ≡ weight (log_in scratch i) + 1
+  unfolding chunks weight
+  weight_took e = rw (add-one i, chunks, weight_append) (ap (λ (r : Rec). weight (log_in scratch i) + weight (r ∷ [])) (rec_took e))
+
+  pub weight_ended : (get_or scratch (chunk_size * i) 0 ≡ took_tag → ⊥) → weight (log_in scratch (i + 1)) ≡ weight (log_in scratch i) + 2
+  unfolding chunks weight
+  weight_ended h = rw (add-one i, chunks, weight_append) (ap (λ (r : Rec). weight (log_in scratch i) + weight (r ∷ [])) (rec_ended h))

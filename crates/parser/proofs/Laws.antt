@@ -12,7 +12,7 @@ use borrow.Author.Tests.{eq-eqb, ne_eqb, lt-ltb, le-ltb, eqb-true, eqb-false}
 use lib.Dec.{eqb}
 use Rattle.grammar.specs.Tokens.{Token, live, kind_at}
 use Rattle.grammar.specs.SyntaxKind as SK
-use Rattle.grammar.specs.World.{World, Rec, token_in, token_ahead, ahead, index_ahead, mode_of, no_name, refuse, with_record, place_in, take_in, mark, take1, end, report}
+use Rattle.grammar.specs.World.{World, Rec, token_in, token_ahead, ahead, index_ahead, mode_of, no_name, refuse, with_record, place_in, take_in, mark, take1, end, report, no_scratch, no_findings}
 use Rattle.grammar.specs.World.Rec.{took}
 use Rattle.grammar.specs.World.World.{refused, on}
 use Rattle.grammar.specs.Prog.{seen}
@@ -20,10 +20,7 @@ use Rattle.grammar.specs.Prog.Look.{kind, mode}
 use Rattle.parser.specs.declared.State.{State}
 use Rattle.std.specs.Prelude.{Option, Some, None, Ok, Err, nat_eq}
 use Rattle.std.specs.Option.{option_eq}
-use Rattle.parser.specs.Refusals.{refusal_number}
-use Rattle.parser.specs.declared.refusal.Refusal.{Refusal}
-use Rattle.parser.specs.declared.refusal.Refusal.TheVariants.{NoScratch, NoFindings}
-use Rattle.parser.specs.View.{Mem, mem, NoneAhead, Stood, kind_of, Reads, Logs, Sound, Next, Did, Kept, Saw, Is, Spells, Marks, Bumps, Adds, Tells, chunks, rec_of, find_of, put_at, rest_of, now_of, seen_in, stop_of, is_off, refused_by, since_of, took_tag, ended_tag}
+use Rattle.parser.specs.View.{Mem, mem, NoneAhead, Stood, kind_of, Reads, Logs, Sound, Next, Did, Kept, Saw, Is, Spells, Marks, Bumps, Adds, Tells, chunks, rec_of, find_of, put_at, rest_of, now_of, seen_in, is_off, refused_by, since_of, took_tag, ended_tag}
 use Rattle.parser.specs.Runs.{on_at, off_at, kept_same, length_chunks, refused_same, ok_refused}
 use Rattle.parser.specs.View.{token_at}
 use Rattle.parser.proofs.Buffers.{live_none, live_token, chunks_put, length_put}
@@ -35,7 +32,7 @@ module _ (m : Mem) where
   unfolding seen_in
   seen_on e = rw (on_at e, seen_in)
 
-  seen_off : true ≡ is_off m.state → seen_in m ≡ refused (stop_of m.state) m.state.len
+  seen_off : true ≡ is_off m.state → seen_in m ≡ refused m.state.stop m.state.len
   unfolding seen_in
   seen_off h = rw (off_at h, seen_in)
 
@@ -169,8 +166,8 @@ module _ {f : World → World} (m : Mem) (ok : Sound m) where
   stays strict h = record { ok = ok; same = rw (seen_off m h) (sym (strict _ _)); kept = kept_same refl }
 
   -- a reading that goes on is refused
-  refuses : (why : Refusal) {r : State} → r ≡ refused_by why m.state → f (seen_in m) ≡ refuse (refusal_number why) (seen_in m) → Did f m (mem m.text m.toks m.env m.table m.scratch m.finds r)
-  refuses why e q = rw e record { ok = ok_refused why refl ok; same = refused_same why m ∙ sym q; kept = kept_same refl }
+  refuses : (n : ℕ) {r : State} → r ≡ refused_by n m.state → (n ≡ 0 → ⊥) → f (seen_in m) ≡ refuse n (seen_in m) → Did f m (mem m.text m.toks m.env m.table m.scratch m.finds r)
+  refuses n e z q = rw e record { ok = ok_refused n refl ok; same = refused_same n m z ∙ sym q; kept = kept_same refl }
 
   -- a reading that goes on goes on
   goes : (m' : Mem) → Sound m' → false ≡ is_off m.state → false ≡ is_off m'.state → Kept m m' → f (on (now_of m)) ≡ on (now_of m') → Did f m m'
@@ -179,10 +176,10 @@ module _ {f : World → World} (m : Mem) (ok : Sound m) where
 -- one record more of the scratch
 module _ {f : World → World} (m : Mem) (ok : Sound m) (on' : false ≡ is_off m.state) (ts : List Token) (l : List Rec) (is : f (on (now_of m)) ≡ with_record (now_of m) ts l) where
   -- where the room is full
-  full : {r : State} → r ≡ refused_by NoScratch m.state → m.state.room ≤ m.state.used → Did f m (mem m.text m.toks m.env m.table m.scratch m.finds r)
+  full : {r : State} → r ≡ refused_by no_scratch m.state → m.state.room ≤ m.state.used → Did f m (mem m.text m.toks m.env m.table m.scratch m.finds r)
   unfolding with_record now_of refuse
   full e h =
-      refuses m ok NoScratch e
+      refuses m ok no_scratch e (λ z. omega arith)
       (rw (seen_on m on') (is ∙ rw (le-ltb m.state.used m.state.room h, with_record)))
 
   -- where it is not
@@ -202,7 +199,7 @@ module _ {s : State} where
   unfolding mark
   marks_off h = record { does = λ x t e j l f o. stays (mem x t e j l f s) o (λ n k. refl) h }
 
-  pub marks_full : {r : State} → r ≡ refused_by NoScratch s → false ≡ is_off s → s.room ≤ s.used → Marks s r
+  pub marks_full : {r : State} → r ≡ refused_by no_scratch s → false ≡ is_off s → s.room ≤ s.used → Marks s r
   unfolding mark
   marks_full q on' h = record { does = λ x t e j l f o. full (mem x t e j l f s) o on' _ _ refl q h }
 
@@ -225,7 +222,7 @@ module _ {l : List ℕ} {s : State} (k b : ℕ) where
   unfolding end
   adds_off h = record { does = λ x t e j g o. stays (mem x t e j l g s) o (λ n m. refl) h }
 
-  pub adds_full : {r : State} → r ≡ refused_by NoScratch s → false ≡ is_off s → s.room ≤ s.used → Adds (end k b) l s l r
+  pub adds_full : {r : State} → r ≡ refused_by no_scratch s → false ≡ is_off s → s.room ≤ s.used → Adds (end k b) l s l r
   unfolding end
   adds_full q on' h = record { does = λ x t e j g o. full (mem x t e j l g s) o on' _ _ refl q h }
 
@@ -259,7 +256,7 @@ module _ {t l : List ℕ} {s : State} where
         goes m o m o on' on' (kept_same refl) (rw (rest_none m h));
   }
 
-  pub bumps_full : {r : State} → r ≡ refused_by NoScratch s → false ≡ is_off s → s.at < s.count → s.room ≤ s.used → Bumps t l s l r
+  pub bumps_full : {r : State} → r ≡ refused_by no_scratch s → false ≡ is_off s → s.at < s.count → s.room ≤ s.used → Bumps t l s l r
   bumps_full q on' p h = record { does = λ x e j g o. full (mem x t e j l g s) o on' _ _ (takes (mem x t e j l g s) o p) q h }
 
   pub bumps_goes : {l' : List ℕ} {n : ℕ} → Next t s.count (s.at + 1) n → false ≡ is_off s → s.at < s.count → s.used < s.room → l' ≡ put_at l s.len took_tag (kind_at t s.at) s.at
@@ -293,12 +290,12 @@ module _ {g : List ℕ} {s : State} (n d name : ℕ) where
   unfolding report
   tells_off h = record { does = λ x t e j l o. stays (mem x t e j l g s) o (λ n m. refl) h }
 
-  pub tells_full : {r : State} → r ≡ refused_by NoFindings s → false ≡ is_off s → s.kept ≤ s.found → Tells (report n d name) g s g r
+  pub tells_full : {r : State} → r ≡ refused_by no_findings s → false ≡ is_off s → s.kept ≤ s.found → Tells (report n d name) g s g r
   unfolding report now_of refuse
   tells_full q on' h = record {
     does = λ x t e j l o.
         let m = mem x t e j l g s in
-        refuses m o NoFindings q
+        refuses m o no_findings q (λ z. omega arith)
         (rw (seen_on m on', length_chunks find_of g s.found, le-ltb s.found s.kept h, report));
   }
 

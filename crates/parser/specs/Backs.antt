@@ -16,7 +16,7 @@ use Rattle.laws.specs.Grows.{Grew, Longer, eval_grows, rule_grows}
 use Rattle.sml_fixity.specs.Table.{Stands, entries_in, in_force}
 use Rattle.sml_fixity.specs.Names.{by_test}
 use Rattle.sml_fixity.proofs.Journals.{force_kept, journal_kept}
-use Rattle.parser.specs.View.{Mem, mem, Sound, seen_in, now_of, chunks, rec_of, find_of, Kept, Found, stop_of, out_state, out_val, since_of, back_of, table_in, rest_of}
+use Rattle.parser.specs.View.{Mem, mem, Sound, seen_in, now_of, chunks, rec_of, find_of, Kept, Found, out_state, out_val, since_of, back_of, table_in, rest_of}
 use Rattle.parser.specs.Runs.{RunsIn, shut, length_chunks}
 use Rattle.parser.specs.Plans.{Plan, Steps, s_run}
 use Rattle.parser.specs.Plans.Plan.{runs}
@@ -50,20 +50,20 @@ module _ {g : Bool} {n b u : ℕ} {p : Prog Rule g} {a c : Mem} (r : RunsIn n b 
   grown = rw world_is (eval_grows (rule body) (rule_grows body) n b p (seen_in a))
 
 -- a reading that goes on
-pub opened : (m : Mem) → eqb (stop_of m.state) 0 ≡ true → seen_in m ≡ on (now_of m)
+pub opened : (m : Mem) → eqb m.state.stop 0 ≡ true → seen_in m ≡ on (now_of m)
 unfolding seen_in
 opened m e = rw (e, seen_in)
 
 -- two that go on: the second got longer
-longer : (a c : Mem) → Grew (seen_in a) (seen_in c) → eqb (stop_of a.state) 0 ≡ true → eqb (stop_of c.state) 0 ≡ true → Longer (now_of a) (now_of c)
+longer : (a c : Mem) → Grew (seen_in a) (seen_in c) → eqb a.state.stop 0 ≡ true → eqb c.state.stop 0 ≡ true → Longer (now_of a) (now_of c)
 longer a c h p q = rw (opened a p, opened c q) at h
 
 -- a refused reading stays so
-stays : (a c : Mem) → Grew (seen_in a) (seen_in c) → eqb (stop_of a.state) 0 ≡ false → eqb (stop_of c.state) 0 ≡ false
+stays : (a c : Mem) → Grew (seen_in a) (seen_in c) → eqb a.state.stop 0 ≡ false → eqb c.state.stop 0 ≡ false
 stays a c h p =
-    by_test (eqb (stop_of c.state) 0)
+    by_test (eqb c.state.stop 0)
     (λ q.
-    let w : on (now_of c) ≡ refused (stop_of a.state) a.state.len = rw (shut a p, opened c q) at h in
+    let w : on (now_of c) ≡ refused a.state.stop a.state.len = rw (shut a p, opened c q) at h in
     let z : ◌≡◌ {A = ℕ} 0 1 = cc in absurd (omega arith))
     (λ q. q)
 
@@ -109,19 +109,19 @@ module _ {x t e j l f j' l' f' : List ℕ} {s s' : State} (k : Kept (mem x t e j
       let a = mem x t e j l f s in
       let c = mem x t e j' l' f' s' in
       let r = mem x t e j' l' f' (back_of s s') in
-      by_test (eqb (stop_of s') 0)
+      by_test (eqb s'.stop 0)
       (λ q.
-      by_test (eqb (stop_of s) 0)
+      by_test (eqb s.stop 0)
       (λ p. rw (opened a p, opened c q, opened r q) (cc same_force))
       (λ p. let z = stays a c h p in cc))
       (λ q.
-      by_test (eqb (stop_of s) 0)
+      by_test (eqb s.stop 0)
       (λ p. rw (opened a p, shut c q, shut r q) refl)
       (λ p. rw (shut a p, shut c q, shut r q) refl))
 
 -- where both go on, the old state over the new buffers is as it was
 module _ {g : Bool} {n b u : ℕ} {p : Prog Rule g} {x t e j l f j' l' f' : List ℕ} {s s' : State}
-    (r : RunsIn n b p (mem x t e j l f s) (mem x t e j' l' f' s') u) (o : Sound (mem x t e j l f s)) (on : eqb (stop_of s) 0 ≡ true) (on' : eqb (stop_of s') 0 ≡ true) where
+    (r : RunsIn n b p (mem x t e j l f s) (mem x t e j' l' f' s') u) (o : Sound (mem x t e j l f s)) (on : eqb s.stop 0 ≡ true) (on' : eqb s'.stop 0 ≡ true) where
   grew : Longer (now_of (mem x t e j l f s)) (now_of (mem x t e j' l' f' s'))
   grew = longer (mem x t e j l f s) (mem x t e j' l' f' s') (grown r) on on'
 
@@ -166,31 +166,31 @@ module _ {g : Bool} {n b u : ℕ} {p : Prog Rule g} {x t e j l f j' l' f' : List
   ended_so o k q = record { ok = o; same = q ∙ ap (ok_since (seen_in (mem x t e j l f s))) (world_is r); kept = k }
 
   -- it was refused
-  since_shut : eqb (stop_of s') 0 ≡ false → out 0 (seen_in (mem x t e j' l' f' s')) ≡ ok_since (seen_in (mem x t e j l f s)) (seen_in (mem x t e j' l' f' s'))
+  since_shut : eqb s'.stop 0 ≡ false → out 0 (seen_in (mem x t e j' l' f' s')) ≡ ok_since (seen_in (mem x t e j l f s)) (seen_in (mem x t e j' l' f' s'))
   unfolding ok_since
   since_shut q =
-      by_test (eqb (stop_of s) 0) (λ on. rw (opened (mem x t e j l f s) on, shut (mem x t e j' l' f' s') q) refl) (λ off. rw (shut (mem x t e j l f s) off) refl)
+      by_test (eqb s.stop 0) (λ on. rw (opened (mem x t e j l f s) on, shut (mem x t e j' l' f' s') q) refl) (λ off. rw (shut (mem x t e j l f s) off) refl)
 
   -- it goes on, so it did before
-  was_on : eqb (stop_of s') 0 ≡ true → eqb (stop_of s) 0 ≡ true
+  was_on : eqb s'.stop 0 ≡ true → eqb s.stop 0 ≡ true
   was_on q =
-      by_test (eqb (stop_of s) 0) (λ on. on)
+      by_test (eqb s.stop 0) (λ on. on)
       (λ off. let z = stays (mem x t e j l f s) (mem x t e j' l' f' s') (grown r) off in let z : ◌≡◌ {A = ℕ} 0 1 = cc in absurd (omega arith))
 
   -- no finding came
-  since_none : eqb (stop_of s') 0 ≡ true → eqb s'.found s.found ≡ true → out 1 (seen_in (mem x t e j' l' f' s')) ≡ ok_since (seen_in (mem x t e j l f s)) (seen_in (mem x t e j' l' f' s'))
+  since_none : eqb s'.stop 0 ≡ true → eqb s'.found s.found ≡ true → out 1 (seen_in (mem x t e j' l' f' s')) ≡ ok_since (seen_in (mem x t e j l f s)) (seen_in (mem x t e j' l' f' s'))
   unfolding ok_since now_of
   since_none q h =
       rw (opened (mem x t e j l f s) (was_on q), opened (mem x t e j' l' f' s') q, length_chunks find_of f s.found, length_chunks find_of f' s'.found, h, ok_since) refl
 
   -- one came
-  since_some : eqb (stop_of s') 0 ≡ true → eqb s'.found s.found ≡ false → out 0 (seen_in (mem x t e j l f s)) ≡ ok_since (seen_in (mem x t e j l f s)) (seen_in (mem x t e j' l' f' s'))
+  since_some : eqb s'.stop 0 ≡ true → eqb s'.found s.found ≡ false → out 0 (seen_in (mem x t e j l f s)) ≡ ok_since (seen_in (mem x t e j l f s)) (seen_in (mem x t e j' l' f' s'))
   unfolding ok_since now_of
   since_some q h =
       rw (opened (mem x t e j l f s) (was_on q), opened (mem x t e j' l' f' s') q, length_chunks find_of f s.found, length_chunks find_of f' s'.found, h, ok_since) refl
 
   since : RunsIn n b (attempt p) (mem x t e j l f s) (mem x t e j' l' f' (out_state (since_of s s'))) (out_val (since_of s s'))
-  since = if_both (λ (w : Found). RunsIn n b (attempt p) (mem x t e j l f s) (mem x t e j' l' f' (out_state w)) (out_val w)) (eqb (stop_of s') 0)
+  since = if_both (λ (w : Found). RunsIn n b (attempt p) (mem x t e j l f s) (mem x t e j' l' f' (out_state w)) (out_val w)) (eqb s'.stop 0)
       (λ q. if_both (λ (w : Found). RunsIn n b (attempt p) (mem x t e j l f s) (mem x t e j' l' f' (out_state w)) (out_val w)) (eqb s'.found s.found)
       (λ m. ended_so r.ok r.kept (since_none q m))
       (λ m. ended_so (back_ok r o (was_on q) q) (record { grows = le_refl s.fixes.len; bytes = r.kept.bytes }) (ap (out 0) (back_same r o (was_on q) q) ∙ since_some q m)))

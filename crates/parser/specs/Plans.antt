@@ -2,14 +2,14 @@
 use Rattle.std.specs.Prelude.{ℕ, ◌-◌, ◌≡◌, List, Bool, eqb, length}
 use Rattle.std.specs.Prelude as std
 use Rattle.std.proofs.Math.Path.{refl, ap}
-use Rattle.std.proofs.Common.{◌∙◌, sym, eq-eqb, ne_eqb}
+use Rattle.std.proofs.Common.{◌∙◌, sym, arith, eq-eqb, ne_eqb}
 use Rattle.std.proofs.Math.Option.{Option, none, some}
 use Rattle.std.proofs.Math.Bool.{true, false}
 use Rattle.grammar.specs.Env as Env
 use Rattle.grammar.specs.World.{World, Out, out, ahead, fixity_ahead, refuse, length_of, too_deep, no_name, invalid}
 use Rattle.grammar.specs.World.World.{refused}
 use Rattle.grammar.specs.World as world
-use Rattle.grammar.specs.Prog.{Prog, Look as Ask, Act, Reason, seen, does, eval, rule}
+use Rattle.grammar.specs.Prog.{Prog, Look as Ask, Act, Reason, answer_of, seen, does, eval, rule}
 use Rattle.grammar.specs.Prog.Look.{kind, index, says, number, mode}
 use Rattle.grammar.specs.Prog.Act.{take, report, refuse as refuses}
 use Rattle.grammar.specs.Prog.Prog.{ret, bind, branch, look, lookup, act, from, close, marked, loop, scoped, attempt, call}
@@ -20,8 +20,6 @@ use Rattle.laws.specs.Laws.{unfold_rule}
 use Rattle.laws.specs.Grows.{rule_grows, eval_refused}
 use Rattle.sml_fixity.specs.Fix.{fixity_of}
 use Rattle.sml_fixity.specs.declared.Infix.{Infix}
-use Rattle.parser.specs.Refusals.{refusal_of, same_answer}
-use Rattle.parser.specs.declared.refusal.Refusal.TheVariants.{TooDeep}
 use Rattle.parser.specs.View.{Mem, mem, Sound, seen_in, Kept, Did, Saw, Says, Spells, Fixed, Marks, Adds, Bumps, Tells, refused_by}
 use Rattle.parser.specs.Runs.{RunsIn, Runs, Always, Eats, Takes, runs_always, kept_same, kept_next, len_is, refused_same, ok_refused}
 use Rattle.parser.specs.declared.State.{State}
@@ -259,12 +257,12 @@ module _ {f : ℕ → Plan} {e : Mem} {v : ℕ} where
     }
 
     -- one that may not
-    pub s_deep : {m : ℕ} {g : ℕ → Plan} → m ≡ 0 → s' ≡ refused_by TooDeep s → Steps (f s'.len) (mem x t n j l h s') e v → Steps (marks m f g) (mem x t n j l h s) e v
+    pub s_deep : {m : ℕ} {g : ℕ → Plan} → m ≡ 0 → s' ≡ refused_by too_deep s → Steps (f s'.len) (mem x t n j l h s') e v → Steps (marks m f g) (mem x t n j l h s) e v
     unfolding means
     s_deep {m} {g} z q r = record {
       go = λ o.
           let a = mem x t n j l h s in
-          next (ok_refused TooDeep q o) (kept_same (ap (λ (s : State). s.fixes.len) q)) (told f (mem x t n j l h s') (refuse too_deep (seen_in a)) (rw q (refused_same TooDeep a)) ∙ ap (λ (t : Bool).
+          next (ok_refused too_deep q o) (kept_same (ap (λ (s : State). s.fixes.len) q)) (told f (mem x t n j l h s') (refuse too_deep (seen_in a)) (rw q (refused_same too_deep a (λ z. omega arith))) ∙ ap (λ (t : Bool).
           elim t [ true ↦ means (f (length_of (refuse too_deep (seen_in a)))) (refuse too_deep (seen_in a)) | false ↦ means (g (length_of (world.mark (seen_in a)))) (world.mark (seen_in a)) ]) (sym (eq-eqb m 0 z))) r;
     }
 
@@ -311,13 +309,13 @@ hushed_means (runs n b p f) k l =
     ap (λ (w : World). means (f v (length_of w)) w) (eval_refused (rule body) (rule_grows body) n b p k l) ∙ hushed_means (f v l) k l
 
 -- a mark that may not be opened, behind which the code returns, whatever the program still has
-pub s_shut : {m : ℕ} {f g : ℕ → Plan} {x t n j l h : List ℕ} {s s' : State} {v : ℕ} → m ≡ 0 → s' ≡ refused_by TooDeep s → ((k l : ℕ) → hushed k l (f l) ≡ v)
+pub s_shut : {m : ℕ} {f g : ℕ → Plan} {x t n j l h : List ℕ} {s s' : State} {v : ℕ} → m ≡ 0 → s' ≡ refused_by too_deep s → ((k l : ℕ) → hushed k l (f l) ≡ v)
     → Steps (marks m f g) (mem x t n j l h s) (mem x t n j l h s') v
 unfolding means refuse length_of
 s_shut {m} {f} {g} {x} {t} {n} {j} {l} {h} {s} {s'} {v} z q r = record {
   go = λ o. record {
-    ok = ok_refused TooDeep q o;
-    same = ap (out v) (rw q (refused_same TooDeep a)) ∙ by (seen_in a) ∙ ap (λ (t : Bool).
+    ok = ok_refused too_deep q o;
+    same = ap (out v) (rw q (refused_same too_deep a (λ z. omega arith))) ∙ by (seen_in a) ∙ ap (λ (t : Bool).
         elim t [ true ↦ means (f (length_of (refuse too_deep (seen_in a)))) (refuse too_deep (seen_in a)) | false ↦ means (g (length_of (world.mark (seen_in a)))) (world.mark (seen_in a)) ]) (sym (eq-eqb m 0 z));
     kept = kept_same (ap (λ (s : State). s.fixes.len) q);
   };
@@ -331,12 +329,16 @@ s_shut {m} {f} {g} {x} {t} {n} {j} {l} {h} {s} {s'} {v} z q r = record {
     by (World.on s) = let k = length s.log in sym (hushed_means (f k) too_deep k ∙ ap (λ (u : ℕ). out u (refused too_deep k)) (r too_deep k))
 
 -- a refusal of a case that cannot happen
-pub s_refuse : {y : Reason} {f : ℕ → Plan} {x t n j l h : List ℕ} {s s' : State} {e : Mem} {v : ℕ} → s' ≡ refused_by (refusal_of y) s
+pub s_refuse : {y : Reason} {f : ℕ → Plan} {x t n j l h : List ℕ} {s s' : State} {e : Mem} {v : ℕ} → s' ≡ refused_by (answer_of y) s
     → Steps (f s'.len) (mem x t n j l h s') e v → Steps (acts (refuses y) f) (mem x t n j l h s) e v
 unfolding does
 s_refuse {y} {f} {x} {t} {n} {j} {l} {h} {s} {s'} q r = record {
-  go = λ o. did o (record { ok = ok_refused (refusal_of y) q o; same = rw q (refused_same (refusal_of y) (mem x t n j l h s)) ∙ ap (λ (k : ℕ). refuse k (seen_in (mem x t n j l h s))) (same_answer y); kept = kept_same (ap (λ (s : State). s.fixes.len) q) }) r;
+  go = λ o. did o (record { ok = ok_refused (answer_of y) q o; same = rw q (refused_same (answer_of y) (mem x t n j l h s) (not_zero y)); kept = kept_same (ap (λ (s : State). s.fixes.len) q) }) r;
 }
+  where
+    not_zero : (y : Reason) → answer_of y ≡ 0 → ⊥
+    not_zero Reason.deep z = omega arith
+    not_zero Reason.unreachable z = omega arith
 
 -- ---- calls
 

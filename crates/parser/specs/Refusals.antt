@@ -1,6 +1,6 @@
 -- The numbers of the answers that refuse a call: document 01's table.
-use Rattle.std.specs.Prelude.{ℕ, Option, Some, None, ◌≡◌, refl}
-use Rattle.grammar.specs.Prog.{Reason, answer_of}
+use Rattle.std.specs.Prelude.{ℕ, Option, Some, None, ◌≡◌}
+use Rattle.std.proofs.Common.{arith}
 use Rattle.parser.specs.declared.refusal.Refusal.{Refusal}
 use Rattle.parser.specs.declared.refusal.Refusal.TheVariants.{BadSettings, BadRecords, BadEnv, TooDeep, NoScratch, NoNodes, NoFindings, NoFixity, NoFinal, Impossible}
 
@@ -21,11 +21,15 @@ abbrev pub number_of : Option Refusal → ℕ
 number_of (Some r) = refusal_number r
 number_of None = 0
 
--- why a program refuses
-abbrev pub refusal_of : Reason → Refusal
-refusal_of Reason.deep = TooDeep
-refusal_of Reason.unreachable = Impossible
-
-pub same_answer : (y : Reason) → refusal_number (refusal_of y) ≡ answer_of y
-same_answer Reason.deep = refl
-same_answer Reason.unreachable = refl
+-- no refusal has the number 0
+pub not_zero : (r : Refusal) → refusal_number r ≡ 0 → ⊥
+not_zero BadSettings z = omega arith
+not_zero BadRecords z = omega arith
+not_zero BadEnv z = omega arith
+not_zero TooDeep z = omega arith
+not_zero NoScratch z = omega arith
+not_zero NoNodes z = omega arith
+not_zero NoFindings z = omega arith
+not_zero NoFixity z = omega arith
+not_zero NoFinal z = omega arith
+not_zero Impossible z = omega arith

@@ -11,10 +11,7 @@ use Rattle.laws.specs.Choice.{if_both}
 use Rattle.laws.specs.Grows.{after, rule_grows}
 use Rattle.laws.specs.Loops.{loop_law}
 use Rattle.laws.specs.Moves.{Advances, advancing}
-use Rattle.parser.specs.View.{Mem, mem, Sound, seen_in, now_of, chunks, rec_of, Kept, Is, Spells, Marks, Adds, Bumps, Tells, stop_of, or_refused, refused_by}
-use Rattle.parser.specs.Refusals.{refusal_number, number_of}
-use Rattle.parser.specs.declared.refusal.Refusal.{Refusal}
-use Rattle.parser.specs.declared.refusal.Refusal.TheVariants.{BadSettings, BadRecords, BadEnv, TooDeep, NoScratch, NoNodes, NoFindings, NoFixity, NoFinal, Impossible}
+use Rattle.parser.specs.View.{Mem, mem, Sound, seen_in, now_of, chunks, rec_of, Kept, Is, Spells, Marks, Adds, Bumps, Tells, refused_by}
 use Rattle.parser.specs.declared.State.{State}
 
 -- ---- the contracts
@@ -72,7 +69,7 @@ length_chunks f xs (suc n) = length-append (chunks f xs n) _ ∙ omega (arith, l
 -- the log's length is the state's
 pub len_is : (m : Mem) → m.state.len ≡ length_of (seen_in m)
 unfolding seen_in now_of length_of
-len_is m = sym (if_both (λ (w : World). length_of w ≡ m.state.len) (eqb (stop_of m.state) 0) (λ _. length_chunks rec_of m.scratch m.state.len) (λ _. refl))
+len_is m = sym (if_both (λ (w : World). length_of w ≡ m.state.len) (eqb m.state.stop 0) (λ _. length_chunks rec_of m.scratch m.state.len) (λ _. refl))
 
 -- what a test of `is_off` says
 pub on_at : {t : Bool} → false ≡ not t → t ≡ true
@@ -84,53 +81,33 @@ off_at {t = true} e = e
 off_at {t = false} e = refl
 
 -- a reading that was refused
-pub shut : (m : Mem) → eqb (stop_of m.state) 0 ≡ false → seen_in m ≡ refused (stop_of m.state) m.state.len
+pub shut : (m : Mem) → eqb m.state.stop 0 ≡ false → seen_in m ≡ refused m.state.stop m.state.len
 unfolding seen_in
 shut m e = rw (e, seen_in)
 
--- no refusal has the number 0
-pub not_zero : (r : Refusal) → refusal_number r ≡ 0 → ⊥
-not_zero BadSettings z = omega arith
-not_zero BadRecords z = omega arith
-not_zero BadEnv z = omega arith
-not_zero TooDeep z = omega arith
-not_zero NoScratch z = omega arith
-not_zero NoNodes z = omega arith
-not_zero NoFindings z = omega arith
-not_zero NoFixity z = omega arith
-not_zero NoFinal z = omega arith
-not_zero Impossible z = omega arith
-
 -- a state that was refused, over the same buffers
-pub refused_same : (why : Refusal) (m : Mem) → seen_in (mem m.text m.toks m.env m.table m.scratch m.finds (refused_by why m.state)) ≡ refuse (refusal_number why) (seen_in m)
+pub refused_same : (n : ℕ) (m : Mem) → (n ≡ 0 → ⊥) → seen_in (mem m.text m.toks m.env m.table m.scratch m.finds (refused_by n m.state)) ≡ refuse n (seen_in m)
 unfolding refuse seen_in now_of
-refused_same why m = go m.state.stop refl
+refused_same n m z = go (eqb m.state.stop 0) refl
   where
-    n : ℕ
-    n = refusal_number why
-
-    m' : Mem
-    m' = mem m.text m.toks m.env m.table m.scratch m.finds (refused_by why m.state)
-
-    go : (o : Option Refusal) → m.state.stop ≡ o → seen_in m' ≡ refuse n (seen_in m)
-    go None e =
-        let q : stop_of (refused_by why m.state) ≡ n = ap (λ (o : Option Refusal). number_of (or_refused o why)) e in
-        let on : eqb (stop_of m.state) 0 ≡ true = ap (λ (o : Option Refusal). eqb (number_of o) 0) e in
-        shut m' (ap (λ (k : ℕ). eqb k 0) q ∙ ne_eqb n 0 (not_zero why))
+    go : (t : Bool) → eqb m.state.stop 0 ≡ t → seen_in (mem m.text m.toks m.env m.table m.scratch m.finds (refused_by n m.state)) ≡ refuse n (seen_in m)
+    go true e =
+        let q : (refused_by n m.state).stop ≡ n = ap (λ (t : Bool). elim t [ true ↦ n | false ↦ m.state.stop ]) e in
+        shut (mem m.text m.toks m.env m.table m.scratch m.finds (refused_by n m.state)) (ap (λ (k : ℕ). eqb k 0) q ∙ ne_eqb n 0 z)
         ∙ ap (λ (k : ℕ). refused k m.state.len) q
         ∙ sym (ap (refused n) (length_chunks rec_of m.scratch m.state.len))
-        ∙ sym (rw (on, seen_in) refl)
-    go (Some r) e =
-        let q : stop_of (refused_by why m.state) ≡ stop_of m.state = ap (λ (o : Option Refusal). number_of (or_refused o why)) e ∙ sym (ap number_of e) in
-        let off : eqb (stop_of m.state) 0 ≡ false = ap (λ (o : Option Refusal). eqb (number_of o) 0) e ∙ ne_eqb (refusal_number r) 0 (not_zero r) in
-        shut m' (ap (λ (k : ℕ). eqb k 0) q ∙ off) ∙ ap (λ (k : ℕ). refused k m.state.len) q ∙ sym (ap (refuse n) (shut m off))
+        ∙ sym (rw (e, seen_in) refl)
+    go false e =
+        let q : (refused_by n m.state).stop ≡ m.state.stop = ap (λ (t : Bool). elim t [ true ↦ n | false ↦ m.state.stop ]) e in
+        shut (mem m.text m.toks m.env m.table m.scratch m.finds (refused_by n m.state)) (ap (λ (k : ℕ). eqb k 0) q ∙ e)
+        ∙ ap (λ (k : ℕ). refused k m.state.len) q ∙ sym (ap (refuse n) (shut m e))
 
 -- what a call requires, after a mark or a refusal
 pub ok_marks : {x t e j l f : List ℕ} {s r : State} → Marks s r → Sound (mem x t e j l f s) → Sound (mem x t e j l f r)
 ok_marks {x} {t} {e} {j} {l} {f} d o = (d.does x t e j l f o).ok
 
-pub ok_refused : {x t e j l f : List ℕ} {s r : State} (why : Refusal) → r ≡ refused_by why s → Sound (mem x t e j l f s) → Sound (mem x t e j l f r)
-ok_refused why q o = rw q record { reads = o.reads; names = o.names; logs = o.logs; holds = o.holds; stands = o.stands }
+pub ok_refused : {x t e j l f : List ℕ} {s r : State} (n : ℕ) → r ≡ refused_by n s → Sound (mem x t e j l f s) → Sound (mem x t e j l f r)
+ok_refused n q o = rw q record { reads = o.reads; names = o.names; logs = o.logs; holds = o.holds; stands = o.stands }
 
 -- whether a token is of a kind
 module _ (x want : ℕ) (a : Mem) (r : Bool) (i : Is x a.toks a.state want r) where

@@ -16,8 +16,6 @@ use Rattle.sml_fixity.specs.declared.table.Table.{Table}
 use Rattle.sml_fixity.specs.declared.Infix.{Infix}
 use Rattle.parser.specs.declared.Lent.{Lent}
 use Rattle.parser.specs.declared.State.{State}
-use Rattle.parser.specs.declared.refusal.Refusal.{Refusal}
-use Rattle.parser.specs.Refusals.{number_of}
 use Rattle.parser.specs.declared.InfixErr.{InfixErr}
 use Rattle.parser.specs.declared.InfixErr.TheVariants.{No, Yes}
 
@@ -101,17 +99,13 @@ now_of m = record {
   mode = m.state.mode;
 }
 
--- the number by which a reading was refused, or 0
-abbrev pub stop_of : State → ℕ
-stop_of s = number_of s.stop
-
 -- whether it was refused
 abbrev pub is_off : State → Bool
-is_off s = not (eqb (stop_of s) 0)
+is_off s = not (eqb s.stop 0)
 
 -- the reading
 unfoldable pub seen_in : Mem → World
-seen_in m = elim (eqb (stop_of m.state) 0) [ true ↦ on (now_of m) | false ↦ refused (stop_of m.state) m.state.len ]
+seen_in m = elim (eqb m.state.stop 0) [ true ↦ on (now_of m) | false ↦ refused m.state.stop m.state.len ]
 
 -- What every rule keeps. Of the tokens: their records are whole and few, and the next is no trivia.
 pub record Reads (toks : List ℕ) (at count : ℕ) : Type 0 where
@@ -183,13 +177,9 @@ pub record Did (f : World → World) (m m' : Mem) : Type 0 where
   pub same : seen_in m' ≡ f (seen_in m)
   pub kept : Kept m m'
 
--- the state refused, unless it was before
-abbrev pub or_refused : Option Refusal → Refusal → Option Refusal
-or_refused (Some r) why = Some r
-or_refused None why = Some why
-
-abbrev pub refused_by : Refusal → State → State
-refused_by why s = record {
+-- the state refused by number, unless it was before
+abbrev pub refused_by : ℕ → State → State
+refused_by n s = record {
   at = s.at;
   count = s.count;
   len = s.len;
@@ -199,13 +189,13 @@ refused_by why s = record {
   kept = s.kept;
   fixes = s.fixes;
   mode = s.mode;
-  stop = or_refused s.stop why;
+  stop = elim (eqb s.stop 0) [ true ↦ n | false ↦ s.stop ];
 }
 
 -- What `ok_since` leaves: the second state where no finding came since the first, or it was refused; otherwise the first.
 abbrev pub since_of : State → State → Found
 since_of s s' =
-    elim (eqb (stop_of s') 0) [
+    elim (eqb s'.stop 0) [
       | true ↦ elim (eqb s'.found s.found) [ true ↦ Ok s' | false ↦ Err s ]
       | false ↦ Err s'
     ]

@@ -6,6 +6,7 @@ ghost use Rattle.grammar.specs.World.{World, end, report as reports};
 ghost use Rattle.grammar.specs.Prog.{Look as Ask};
 ghost use Rattle.parser.specs.Findings.{code_of, detail_of, name_of, spelled};
 ghost use Rattle.parser.specs.Nodes.{node_number};
+ghost use Rattle.parser.specs.Refusals.{refusal_number, number_of};
 ghost use Rattle.parser.specs.View.{Reads, Logs, Holds, Next, NoneAhead, Stood, Saw, Is, Marks, Bumps, Adds, Tells, Spells, put_at, is_off, refused_by, kind_of, out_state, since_of, back_of};
 
 use finding::ErrorKind;
@@ -33,8 +34,9 @@ pub struct Lent<'a> {
 }
 
 // Where a reading stands: the next token that is no trivia and the count of records, the log's records, the scratch records used of the
-// room, the findings held of those that fit, the fixities in force, the mode, and why it was refused, if it was. A value beside the lent buffers
-// (document 01), so what holds of both, `Sound`, stands in each contract.
+// room, the findings held of those that fit, the fixities in force, the mode, and the number by which it was refused, or 0. A value beside the
+// lent buffers (document 01), so what holds of both, `Sound`, stands in each contract. All fields are of one width: with an `Option<Refusal>` here the whole
+// parser takes a third more instructions, since a copy of the state is no more made of whole words.
 #[derive(Clone, Copy)]
 pub struct State {
     pub at: usize,
@@ -46,7 +48,7 @@ pub struct State {
     pub kept: usize,
     pub fixes: Table,
     pub mode: usize,
-    pub stop: Option<Refusal>,
+    pub stop: usize,
 }
 
 // Whether to report infix names that stand without `op`.
@@ -73,17 +75,31 @@ impl State {
     pub fn is_refused(self) -> bool
         ensures { result ≡ is_off self }
     {
-        self.stop.is_some()
+        self.stop != 0
+    }
+
+    // Refused by number, unless it was before.
+    pub fn refuse_by(self, n: usize) -> State
+        ensures { result ≡ refused_by n self }
+    {
+        if self.is_refused() {
+            return self;
+        }
+        State { stop: n, ..self }
     }
 
     // Refused, unless it was before.
     pub fn refuse(self, why: Refusal) -> State
-        ensures { result ≡ refused_by why self }
+        ensures { result ≡ refused_by (refusal_number why) self }
     {
-        State {
-            stop: self.stop.or(Some(why)),
-            ..self
-        }
+        self.refuse_by(why.number())
+    }
+
+    // Why it was refused, if it was.
+    pub fn refusal(self) -> Option<Refusal>
+        ensures { self.stop ≤ 10 → number_of result ≡ self.stop }
+    {
+        Refusal::of(self.stop)
     }
 
     // A mark: one record of the room.

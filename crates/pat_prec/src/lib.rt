@@ -54,14 +54,14 @@ pub fn reports(e: InfixErr) -> bool
     matches!(e, InfixErr::Yes)
 }
 
-// Whether `|` may stand here.
+// Whether `|` may stand here: one test, under grammar's name for it.
 pub fn is_min(min: PatPrec) -> bool
     ensures { result ≡ pat.is_min (prec_of min) }
 {
     matches!(min, PatPrec::Min)
 }
 
-// Whether `:` and `as` end the climb.
+// Whether `:` and `as` end the climb: one test, under grammar's name for it.
 pub fn is_infix(min: PatPrec) -> bool
     ensures { result ≡ pat.is_infix (prec_of min) }
 {

@@ -5,14 +5,7 @@ ghost use Rattle.replay_parts.specs.Agree.{is_zero};
 ghost use Rattle.replay_parts.specs.Case.{padded, numbers_said, bytes_said, says};
 
 use crate::Case;
-use answers::{Answer, Used};
-
-// What is handed out with a refusal.
-const NOTHING: Used = Used {
-    nodes: 0,
-    finds: 0,
-    last: 0,
-};
+use answers::{Answer, numbers};
 
 // Whether every byte is 0.
 fn is_zero(bytes: &[u8]) -> bool
@@ -36,10 +29,7 @@ impl Case<'_> {
     fn says_numbers(&self, answer: Answer) -> bool
         ensures { result ≡ numbers_said self.now (answer_number answer) (used_of answer).nodes (used_of answer).finds (used_of answer).last }
     {
-        let (number, used) = match answer {
-            Ok(used) => (0, used),
-            Err(why) => (why.number(), NOTHING),
-        };
+        let (number, used) = numbers(answer);
         number == usize::from(self.answer)
             && used.nodes == self.nodes.len()
             && used.finds == self.finds.len()

@@ -1,7 +1,7 @@
 // The replay program but for the reading: the form of a list of answers, and a result held to it.
 #![tactic(auto)]
 
-ghost use Rattle.std.specs.Prelude.{◌≡◌, ◌≤◌, ◌&&◌, leb, length};
+ghost use Rattle.std.specs.Prelude.{◌≡◌, ◌&&◌, leb, length};
 
 pub mod compare;
 pub mod form;

@@ -1,5 +1,5 @@
 -- Lists of entries in the order of their names: what `put` and `remove` do to a look, to the order and to the length.
-use Rattle.std.specs.Prelude.{ℕ, ◌+◌, ◌≡◌, refl, List, [], ◌∷◌, true, false, length}
+use Rattle.std.specs.Prelude.{ℕ, ◌+◌, ◌≤◌, ◌≡◌, refl, List, [], ◌∷◌, true, false, length}
 use Rattle.std.proofs.Common.{arith}
 use Rattle.std.proofs.Math.Option.{Option, none, some}
 use Rattle.grammar.specs.Bytes.{same, before}
@@ -20,6 +20,10 @@ Sorted (e ∷ es) = Chain e.name es
 abbrev pub count : Option Infix → ℕ
 count none = 0
 count (some i) = 1
+
+pub count_small : (c : Option Infix) → count c ≤ 1
+count_small none = omega arith
+count_small (some i) = omega arith
 
 -- ---- the order
 

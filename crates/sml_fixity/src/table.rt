@@ -1,4 +1,5 @@
-// The table of fixities in force: a look for a name, and a change of one. It is the starting environment's bytes and a journal of the changes made since, so that leaving a scope only goes back to the old `len`.
+// The table of fixities in force: a look for a name, and a change of one.
+// It is the starting environment's bytes and a journal of the changes made since, so that leaving a scope only goes back to the old `len`.
 ghost use Rattle.std.specs.Prelude.{◌≡◌, ◌+◌, ◌*◌, ◌≤◌, ◌<◌, length, get_or};
 ghost use Rattle.std.proofs.Math.Option.{some};
 ghost use Rattle.grammar.specs.Bytes as bytes;
@@ -88,7 +89,10 @@ fn look(name: &[u8], env: &[u8]) -> Option<Infix>
     None
 }
 
-// What the table says of a name of any text. Its text, environment and journal are passed beside it and are no fields of a struct with it: `change` writes the journal that a look reads, and the callers hold each alone. From the last change back, since a later change of a name hides the earlier ones; then the starting environment.
+// What the table says of a name of any text.
+// Its text, environment and journal are passed beside it and are no fields of a struct with it: `change` writes the journal that a look reads,
+// and the callers hold each alone.
+// From the last change back, since a later change of a name hides the earlier ones; then the starting environment.
 pub fn find_name(text: &[u8], env: &[u8], journal: &[u8], t: Table, name: &[u8]) -> Option<Infix>
     requires { Stands text.now env.now journal.now t }
     ensures { fixity_of result ≡ env_laws.find name.now (table_of text.now env.now journal.now t) }
@@ -103,7 +107,7 @@ pub fn find_name(text: &[u8], env: &[u8], journal: &[u8], t: Table, name: &[u8])
     look(name, env)
 }
 
-// What the table says of a name of the text.
+// What the table says of a name of the text, given by its place as in `change`, whose journal keeps the place; `find_name` takes a slice.
 pub fn find(
     text: &[u8],
     env: &[u8],
@@ -157,7 +161,8 @@ fn put(journal: &mut [u8], i: usize, start: u16, len: u16, f: Option<Infix>)
     journal[8 * i..8 * i + 8].copy_from_slice(&[s0, s1, l0, l1, p0, p1, what(f), 0]);
 }
 
-// Changes a name's fixity by one record more, or says that there is no room for it. The entries are counted by what the name had and what it gets, so nothing is looked through twice.
+// Changes a name's fixity by one record more, or says that there is no room for it.
+// The entries are counted by what the name had and what it gets, so nothing is looked through twice.
 pub fn change(
     text: &[u8],
     env: &[u8],
@@ -181,7 +186,7 @@ pub fn change(
     put(journal, t.len, start as u16, len as u16, f);
     Ok(Table {
         len: t.len + 1,
-        entries: entries,
+        entries,
         changes: t.changes + 1,
     })
 }

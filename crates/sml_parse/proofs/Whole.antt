@@ -1,11 +1,13 @@
 -- A whole reading: what `root` leaves is the reading of the call, and what is handed out is its result.
-use Prim.Native.Nat.{ℕ}
+use Prim.Native.Nat.{ℕ, ◌≤◌}
 use mathlib.Core.Path.{◌≡◌, refl, ap, ◌∙◌, sym}
 use mathlib.Core.List.{List, []}
 use mathlib.Core.Bool.{Bool, true, false}
-use borrow.Author.Tests.{ne_eqb}
+use native.Mathlib.Omega.{arith}
+use borrow.Author.Tests.{eq-eqb, ne_eqb, eqb-true}
 use lib.Dec.{leb, eqb}
-use Rattle.std.specs.Prelude.{Option, Some, None}
+use Rattle.sml_fixity.specs.Names.{by_test}
+use Rattle.laws.specs.Refusals.{Refuses, eval_few}
 use lib.ListN.{length}
 use Rattle.grammar.specs.World.{World, Now, Out}
 use Rattle.grammar.specs.World.World.{refused, on}
@@ -15,11 +17,9 @@ use Rattle.grammar.specs.Prog.{eval, rule}
 use Rattle.grammar.specs.Root.{root, body}
 use Rattle.grammar.specs.Read.{Call, start, reading, finish, refusal, handed}
 use Rattle.sml_fixity.specs.Table.{entries_in}
-use Rattle.parser.specs.Refusals.{refusal_number, number_of}
-use Rattle.parser.specs.View.{Mem, seen_in, now_of, stop_of}
-use Rattle.parser.specs.Runs.{Runs, shut, not_zero}
+use Rattle.parser.specs.View.{Mem, seen_in, now_of}
+use Rattle.parser.specs.Runs.{Runs, shut}
 use Rattle.parser.specs.Backs.{opened}
-use Rattle.parser.specs.declared.refusal.Refusal.{Refusal}
 use Rattle.node_count.specs.Log.{log_in}
 use Rattle.nodes.specs.Grown.{Grown, reading_grown}
 use Rattle.answers.specs.Entry.{call_of, room_of}
@@ -55,21 +55,30 @@ module _ (text toks env : List ℕ) (depth mode : ℕ) (scratch nodes finds last
     unfolding reading start
     was_read_lem = ap (λ (o : Out). o.world) (r.same 0) ∙ ap (λ (w : World). (eval (rule body) depth 0 root w).world) began
 
-    goes_on_lem : m'.state.stop ≡ None → reading call (entries_in env) ≡ on (now_of m')
-    goes_on_lem e = sym was_read_lem ∙ opened m' (ap (λ (o : Option Refusal). eqb (number_of o) 0) e)
+    was_read_few : Refuses (λ (k : ℕ). k ≤ 10) (seen_in m')
+    unfolding reading start
+    was_read_few = rw was_read_lem (eval_few body depth 0 root (start call (entries_in env)))
+
+    goes_on_lem : m'.state.stop ≡ 0 → reading call (entries_in env) ≡ on (now_of m')
+    goes_on_lem e = sym was_read_lem ∙ opened m' (eq-eqb m'.state.stop 0 e)
+
+    -- document 01 has no answer over 10
+    pub few : m'.state.stop ≤ 10
+    unfolding seen_in
+    few =
+        by_test (eqb m'.state.stop 0)
+        (λ t. let z = eqb-true m'.state.stop 0 t in omega arith)
+        (λ f. let k = was_read_few in rw (f, seen_in) at k)
 
     -- how a caller meets what `hand_out` requires
-    pub was_grown : m'.state.stop ≡ None → Grown (log_in m'.scratch m'.state.len)
+    pub was_grown : m'.state.stop ≡ 0 → Grown (log_in m'.scratch m'.state.len)
     unfolding now_of
     was_grown e = reading_grown call (entries_in env) (now_of m') (goes_on_lem e)
 
     module _ (p : length m'.scratch ≡ length scratch) (q : length m'.finds ≡ length finds) where
-      pub was_refused : (why : Refusal) → m'.state.stop ≡ Some why → refusal (room_of m'.scratch nodes m'.finds last) (refusal_number why) ≡ finish call (reading call (entries_in env))
+      pub was_refused : (m'.state.stop ≡ 0 → ⊥) → refusal (room_of m'.scratch nodes m'.finds last) m'.state.stop ≡ finish call (reading call (entries_in env))
       unfolding finish
-      was_refused why z =
-          let off : eqb (stop_of m'.state) 0 ≡ false = ap (λ (o : Option Refusal). eqb (number_of o) 0) z ∙ ne_eqb (refusal_number why) 0 (not_zero why) in
-          room_refusal m'.scratch m'.finds p q (refusal_number why)
-          ∙ sym (ap (finish call) (sym was_read_lem ∙ shut m' off ∙ ap (λ (o : Option Refusal). refused (number_of o) m'.state.len) z))
+      was_refused z = room_refusal m'.scratch m'.finds p q m'.state.stop ∙ sym (ap (finish call) (sym was_read_lem ∙ shut m' (ne_eqb m'.state.stop 0 z)))
 
-      pub was_handed : m'.state.stop ≡ None → finish (room_of m'.scratch nodes m'.finds last) (on (now_of m')) ≡ finish call (reading call (entries_in env))
+      pub was_handed : m'.state.stop ≡ 0 → finish (room_of m'.scratch nodes m'.finds last) (on (now_of m')) ≡ finish call (reading call (entries_in env))
       was_handed e = room_finish m'.scratch m'.finds p q (on (now_of m')) ∙ sym (ap (finish call) (goes_on_lem e))

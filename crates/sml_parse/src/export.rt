@@ -3,14 +3,7 @@ ghost use Rattle.std.specs.Prelude.{◌≡◌, [], ◌∷◌, length};
 ghost use Rattle.answers.specs.Entry.{call_of, result_from, served};
 
 use crate::read;
-use answers::Used;
-
-// What a refused call used.
-const NONE: Used = Used {
-    nodes: 0,
-    finds: 0,
-    last: 0,
-};
+use answers::numbers;
 
 // `read`. The answer is document 01's number; the three used lengths, of the nodes, the findings and the final environment, are left in `used`,
 // in that order.
@@ -28,10 +21,8 @@ pub fn sml_parse_read(
 ) -> usize
     ensures { (result_from result used.new scratch.new nodes.new finds.new last.new ≡ served (call_of text.now toks.now env.now depth mode scratch.old nodes.old finds.old last.old)) × (length used.new ≡ 3) }
 {
-    let (number, u) = match read(text, toks, env, depth, mode, scratch, nodes, finds, last) {
-        Ok(u) => (0, u),
-        Err(why) => (why.number(), NONE),
-    };
+    let answer = read(text, toks, env, depth, mode, scratch, nodes, finds, last);
+    let (number, u) = numbers(answer);
     *used = [u.nodes as u64, u.finds as u64, u.last as u64];
     number
 }

@@ -39,10 +39,10 @@ fn read_into(
 {
     let s = start_state(lent, table, scratch, finds, entries, mode);
     let end = root::root(lent, table, scratch, finds, depth, s);
-    if let Some(why) = end.stop {
-        return refuse_all(scratch, nodes, finds, last, why);
+    match end.refusal() {
+        Some(why) => refuse_all(scratch, nodes, finds, last, why),
+        None => hand_out(lent, table, scratch, nodes, finds, last, end),
     }
-    hand_out(lent, table, scratch, nodes, finds, last, end)
 }
 
 // The same with an array for the 1,024 changes that one call may make.

@@ -13,7 +13,6 @@ use Rattle.grammar.specs.Prog.{does}
 use Rattle.grammar.specs.Prog.Act.{take_as}
 use Rattle.sml_fixity.specs.Table.{Made, Refused, allowed}
 use Rattle.sml_fixity.specs.declared.table.Table.{Table}
-use Rattle.parser.specs.declared.refusal.Refusal.TheVariants.{NoFixity}
 use Rattle.parser.specs.View.{is_off, Mem, mem, Sound, Did, seen_in, now_of, rest_of, table_in, refused_by}
 use Rattle.parser.specs.Runs.{on_at, off_at, shut, kept_next, kept_same, refused_same, ok_refused}
 use Rattle.parser.specs.Backs.{opened}
@@ -66,11 +65,11 @@ module _ {x t e j l l' f : List ℕ} {s r : State} (c : Option Infix) (o : Sound
     unfolding change change_in refuse now_of
     stops h = rw (opened (mem x t e j l' f r) (on_at on')) (rw (h, change_in) refl)
 
-    pub takes_refused : {r' : State} {j' : List ℕ} → Refused x e j (table_in r) (text_at x t s.at) c j' → r' ≡ refused_by NoFixity r → Did (does (take_as c)) (mem x t e j l f s) (mem x t e j' l' f r')
+    pub takes_refused : {r' : State} {j' : List ℕ} → Refused x e j (table_in r) (text_at x t s.at) c j' → r' ≡ refused_by no_fixity r → Did (does (take_as c)) (mem x t e j l f s) (mem x t e j' l' f r')
     unfolding does
     takes_refused h q = rw (q, h.kept) record {
-      ok = ok_refused NoFixity refl d.ok;
-      same = refused_same NoFixity (mem x t e j l' f r) ∙ sym (behind ∙ stops h.may);
+      ok = ok_refused no_fixity refl d.ok;
+      same = refused_same no_fixity (mem x t e j l' f r) (λ z. omega arith) ∙ sym (behind ∙ stops h.may);
       kept = kept_next d.kept (kept_same refl);
     }
 

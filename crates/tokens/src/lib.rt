@@ -25,6 +25,7 @@ pub fn settings_fit(text: &[u8], toks: &[u8], depth: u64, mode: u64) -> bool
 }
 
 // Where the record `i` ends in the text, in a type that its start and its length cannot wrap.
+// By index, here and below: the definitions and the public `record_fits` go by index.
 fn end_at(toks: &[u8], i: usize) -> usize
     requires { 5 * i + 5 ≤ length toks.now }
     ensures { result ≡ end_at toks.now i }

@@ -7,7 +7,7 @@ use Rattle.replay_parts.specs.Case.{Splits, call_in, says}
 use Rattle.replay_parts.specs.Form.{first_case, fits_at, ends_at}
 use Rattle.replay_parts.specs.Agree.{miss, differing}
 use Rattle.replay_parts.specs.Shift.{ends_shift, differing_shift}
-use Rattle.replay_parts.specs.Laws.{formed, ends_fits, ends_step, differing_step, differing_none}
+use Rattle.replay_parts.specs.Laws.{formed, ends_fits, ends_behind, differing_step, differing_none}
 use Rattle.replay.proofs.count_differing.Goals as goal
 use Rattle.replay.proofs.count_differing.Goals.{then-not-case_agrees, else-not-case_agrees}
 
@@ -36,7 +36,7 @@ loop-init c =
 
 pub unwrap-requires : goal.unwrap-requires
 unwrap-requires c =
-    let there : fits_at c.loop.rest.now 0 ≡ true = ends_fits c.loop.rest.now (c.number-count.result - c.loop.counter) (omega arith) c.loop.invariant.ends in
+    let there : fits_at c.loop.rest.now 0 ≡ true = ends_fits c.loop.rest.now 0 (c.number-count.result - c.loop.counter) (omega arith) c.loop.invariant.ends in
     grind (arith, there, c.split_case.ensures)
 
 pub loop-preserved : goal.loop-preserved
@@ -57,12 +57,12 @@ loop-preserved c =
     let moved = ap (λ k. differing k behind 0) fewer in
     record {
       few = omega (arith, few, c.loop.invariant.few);
-      ends = ap (λ k. ends_at k behind 0) fewer ∙ sym (ends_step rest case behind s left (omega arith)) ∙ c.loop.invariant.ends;
+      ends = ap (λ k. ends_at k behind 0) fewer ∙ sym (ends_behind rest case behind s left (omega arith)) ∙ c.loop.invariant.ends;
       counted = omega (arith, m, moved, step, c.loop.invariant.counted);
     }
 
 pub returns : goal.returns
 returns c =
     let list = c.args.list.now in
-    let none = differing_none c.loop.rest.now (c.number-count.result - c.loop.counter) (omega arith) in
+    let none = differing_none c.loop.rest.now 0 (c.number-count.result - c.loop.counter) (omega arith) in
     omega (arith, none, c.loop.invariant.counted, ap (λ k. differing k list first_case) c.number-count.ensures)
