@@ -13,7 +13,7 @@ ghost use Rattle.parser.specs.Runs.{Always, Runs, RunsIn};
 use parser::finding::ErrorKind;
 use parser::node::Node;
 use parser::refusal::Refusal;
-use parser::{Found, Lent, State, at, bump, close, either, kind, report};
+use parser::{Found, Lent, State, at, bump, close_node, either, kind, report_error};
 use ty::{of_ty, ty_must};
 use ty_parts::ty_var_seq;
 use ty_prec::TyPrec;
@@ -56,13 +56,13 @@ fn eq_ty(
 {
     if at(lent.toks, kind::EQ, s) {
         if left == 0 {
-            return s.refuse(Refusal::TooDeep);
+            return s.refuse_for(Refusal::TooDeep);
         }
         let s1 = s.mark();
         let b = s1.len;
         let s2 = bump(lent.toks, scratch, s1);
         let s3 = ty_must(lent, table, scratch, finds, left - 1, TyPrec::Arrow, s2);
-        return close(scratch, Node::EqTy, b, s3);
+        return close_node(scratch, Node::EqTy, b, s3);
     }
     s
 }
@@ -107,7 +107,7 @@ pub fn ty_binds(
     let mut s1 = s;
     loop {
         if left == 0 {
-            return s1.refuse(Refusal::TooDeep);
+            return s1.refuse_for(Refusal::TooDeep);
         }
         let s2 = s1.mark();
         let c = s2.len;
@@ -117,10 +117,10 @@ pub fn ty_binds(
             Ok(s3) => {
                 if at(lent.toks, kind::AND_KW, s3) {
                     let s4 = bump(lent.toks, scratch, s3);
-                    s1 = close(scratch, Node::TyBind, c, s4);
+                    s1 = close_node(scratch, Node::TyBind, c, s4);
                     continue;
                 }
-                return close(scratch, Node::TyBind, c, s3);
+                return close_node(scratch, Node::TyBind, c, s3);
             }
         }
     }
@@ -132,7 +132,7 @@ pub fn op_name(lent: Lent, table: &[u8], scratch: &mut [u8], finds: &mut [u8], s
     ensures { Always (decl.op_name {g = true}) (mem_of lent.entry table.now scratch.old finds.old s) (mem_of lent.entry table.now scratch.new finds.new (out_state result)) (out_val result) }
 {
     if at(lent.toks, kind::OP_KW, s) {
-        let s1 = report(finds, ErrorKind::UnnecessaryOp, s);
+        let s1 = report_error(finds, ErrorKind::UnnecessaryOp, s);
         let s2 = bump(lent.toks, scratch, s1);
         let got = eat_name_star(lent.toks, scratch, finds, s2);
         let s3 = either(got);
@@ -182,7 +182,7 @@ fn con_binds(
     let mut s1 = s;
     loop {
         if left == 0 {
-            return s1.refuse(Refusal::TooDeep);
+            return s1.refuse_for(Refusal::TooDeep);
         }
         let s2 = s1.mark();
         let c = s2.len;
@@ -192,10 +192,10 @@ fn con_binds(
             Ok(s3) => {
                 if at(lent.toks, kind::BAR, s3) {
                     let s4 = bump(lent.toks, scratch, s3);
-                    s1 = close(scratch, Node::ConBind, c, s4);
+                    s1 = close_node(scratch, Node::ConBind, c, s4);
                     continue;
                 }
-                return close(scratch, Node::ConBind, c, s3);
+                return close_node(scratch, Node::ConBind, c, s3);
             }
         }
     }
@@ -216,14 +216,14 @@ fn eq_con_binds(
 {
     if at(lent.toks, kind::EQ, s) {
         if left == 0 {
-            return s.refuse(Refusal::TooDeep);
+            return s.refuse_for(Refusal::TooDeep);
         }
         let s1 = s.mark();
         let b = s1.len;
         let s2 = bump(lent.toks, scratch, s1);
         let s3 = bump_if(lent.toks, scratch, kind::BAR, s2);
         let s4 = con_binds(lent, table, scratch, finds, left - 1, b, s3);
-        return close(scratch, Node::EqConBinds, b, s4);
+        return close_node(scratch, Node::EqConBinds, b, s4);
     }
     s
 }
@@ -268,7 +268,7 @@ fn dat_list(
     let mut s1 = s;
     loop {
         if left == 0 {
-            return s1.refuse(Refusal::TooDeep);
+            return s1.refuse_for(Refusal::TooDeep);
         }
         let s2 = s1.mark();
         let c = s2.len;
@@ -278,10 +278,10 @@ fn dat_list(
             Ok(s3) => {
                 if at(lent.toks, kind::AND_KW, s3) {
                     let s4 = bump(lent.toks, scratch, s3);
-                    s1 = close(scratch, Node::DatBind, c, s4);
+                    s1 = close_node(scratch, Node::DatBind, c, s4);
                     continue;
                 }
-                return close(scratch, Node::DatBind, c, s3);
+                return close_node(scratch, Node::DatBind, c, s3);
             }
         }
     }
@@ -302,13 +302,13 @@ fn with_type(
 {
     if at(lent.toks, kind::WITHTYPE_KW, s) {
         if left == 0 {
-            return s.refuse(Refusal::TooDeep);
+            return s.refuse_for(Refusal::TooDeep);
         }
         let s1 = s.mark();
         let b = s1.len;
         let s2 = bump(lent.toks, scratch, s1);
         let s3 = ty_binds(lent, table, scratch, finds, left - 1, b, s2);
-        return close(scratch, Node::WithType, b, s3);
+        return close_node(scratch, Node::WithType, b, s3);
     }
     s
 }

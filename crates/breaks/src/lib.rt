@@ -8,7 +8,7 @@ ghost use Rattle.parser.specs.View.{Sound, mem_of, out_state, out_val};
 ghost use Rattle.parser.specs.Runs.{Always};
 
 use parser::finding::ErrorKind;
-use parser::{Found, Lent, State, report};
+use parser::{Found, Lent, State, report_error};
 use sml_fixity::{Assoc, Infix};
 
 // Equal precedence with unlike association.
@@ -42,7 +42,7 @@ pub fn should_break(
     ensures { (g : Bool) → Always (util.should_break {g = g} (infix_of op) (infix_of min)) (mem_of lent.entry table.now scratch.old finds.old s) (mem_of lent.entry table.now scratch.new finds.new (out_state result)) (out_val result) }
 {
     if tie(op, min) {
-        return Err(report(finds, ErrorKind::SameFixityDiffAssoc, s));
+        return Err(report_error(finds, ErrorKind::SameFixityDiffAssoc, s));
     }
     if weaker(op, min) { Ok(s) } else { Err(s) }
 }

@@ -8,7 +8,7 @@ ghost use Rattle.parser.specs.Runs.{RunsIn};
 
 use bind_parts::dat_binds;
 use parser::node::Node;
-use parser::{Found, Lent, State, at_n, bump, close, either, kind};
+use parser::{Found, Lent, State, at_n, bump, close_node, either, kind};
 use util::{path_must, want};
 
 // `abstype`, up to its declarations.
@@ -49,8 +49,8 @@ pub fn datatype(
         let s4 = want(lent.toks, scratch, finds, kind::DATATYPE_KW, s3);
         let got = path_must(lent, table, scratch, finds, left, s4);
         let s5 = either(got);
-        return Ok(close(scratch, Node::DatCopyDec, b, s5));
+        return Ok(close_node(scratch, Node::DatCopyDec, b, s5));
     }
     let s2 = dat_binds(lent, table, scratch, finds, left, b, s1);
-    Ok(close(scratch, Node::DatDec, b, s2))
+    Ok(close_node(scratch, Node::DatDec, b, s2))
 }

@@ -8,7 +8,9 @@ ghost use Rattle.parser.specs.Runs.{Runs, RunsIn};
 
 use parser::finding::{ErrorKind, Expected};
 use parser::node::Node;
-use parser::{Found, InfixErr, Lent, State, at, bump, close, close_kind, either, kind, report};
+use parser::{
+    Found, InfixErr, Lent, State, at, bump, close, close_node, either, kind, report_error,
+};
 use pat::{pat_must, pat_prec};
 use pat_prec::PatPrec;
 use ty_parts::ty_var_seq;
@@ -72,7 +74,7 @@ pub fn end_node(
     ensures { RunsIn left b (decl.ended q.end q.node) (mem_of lent.entry table.now scratch.old finds.old s) (mem_of lent.entry table.now scratch.new finds.new result) 1 }
 {
     let s1 = want(lent.toks, scratch, finds, q.end, s);
-    close_kind(scratch, q.node, b, s1)
+    close(scratch, q.node, b, s1)
 }
 
 // A structure that is a path.
@@ -90,7 +92,7 @@ pub fn str_path(
 {
     let got = path_must(lent, table, scratch, finds, left, s);
     let s1 = either(got);
-    Ok(close(scratch, Node::PathStrExp, b, s1))
+    Ok(close_node(scratch, Node::PathStrExp, b, s1))
 }
 
 // Behind `val`: a pattern, or `rec` and a pattern.
@@ -114,6 +116,6 @@ pub fn rec_pat(
     let got = pat_prec(lent, table, scratch, finds, left, ANY, e, s);
     match got {
         Ok(s1) => Ok(s1),
-        Err(s1) => Err(report(finds, ErrorKind::Expected(Expected::Pat), s1)),
+        Err(s1) => Err(report_error(finds, ErrorKind::Expected(Expected::Pat), s1)),
     }
 }

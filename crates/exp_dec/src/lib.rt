@@ -23,10 +23,12 @@ use leaf_parts::leaf_dec;
 use parser::finding::{ErrorKind, Expected};
 use parser::node::Node;
 use parser::refusal::Refusal;
-use parser::{Found, InfixErr, Lent, State, at, at_n, bump, close, either, kind, peek, report};
+use parser::{
+    Found, InfixErr, Lent, State, at, at_n, bump, close_node, either, kind, peek, report_error,
+};
 use pat::pat_prec;
 use pat_prec::PatPrec;
-use scopes::leave;
+use scopes::leave_node;
 use sharing_parts::{bare_tail, full_tail};
 use texts::fixity_at;
 use ty::{of_ty, ty_annotation, ty_must};
@@ -218,7 +220,7 @@ fn exp(
     let got = pre(lent, table, scratch, finds, left, min, s);
     match got {
         Ok(s1) => s1,
-        Err(s1) => report(finds, ErrorKind::Expected(Expected::Exp), s1),
+        Err(s1) => report_error(finds, ErrorKind::Expected(Expected::Exp), s1),
     }
 }
 
@@ -243,7 +245,7 @@ fn pre(
         return Err(s);
     };
     if left == 0 {
-        return Err(s.refuse(Refusal::TooDeep));
+        return Err(s.refuse_for(Refusal::TooDeep));
     }
     let b = s.len;
     let s1 = s.mark();
@@ -273,24 +275,24 @@ fn kw(
 {
     if k == kind::FN_KW {
         let s1 = mat(lent, table, scratch, finds, left, s);
-        return close(scratch, Node::FnExp, b, s1);
+        return close_node(scratch, Node::FnExp, b, s1);
     }
     let s1 = exp(lent, table, scratch, finds, left, MIN, s);
     if k == kind::RAISE_KW {
-        return close(scratch, Node::RaiseExp, b, s1);
+        return close_node(scratch, Node::RaiseExp, b, s1);
     }
     if k == kind::IF_KW {
         let s2 = we(lent, table, scratch, finds, left, THEN, s1);
         let s3 = we(lent, table, scratch, finds, left, ELSE, s2);
-        return close(scratch, Node::IfExp, b, s3);
+        return close_node(scratch, Node::IfExp, b, s3);
     }
     if k == kind::WHILE_KW {
         let s2 = we(lent, table, scratch, finds, left, DO, s1);
-        return close(scratch, Node::WhileExp, b, s2);
+        return close_node(scratch, Node::WhileExp, b, s2);
     }
     let s2 = want(lent.toks, scratch, finds, kind::OF_KW, s1);
     let s3 = mat(lent, table, scratch, finds, left, s2);
-    close(scratch, Node::CaseExp, b, s3)
+    close_node(scratch, Node::CaseExp, b, s3)
 }
 
 // A token of the kind `k`, and an expression.
@@ -333,7 +335,7 @@ fn rst(
         return Err(s);
     };
     if left == 0 {
-        return Err(s.refuse(Refusal::TooDeep));
+        return Err(s.refuse_for(Refusal::TooDeep));
     }
     let s1 = s.mark();
     let c = s1.len;
@@ -465,7 +467,7 @@ fn opr(
         Ok(s1) => Err(s1),
         Err(s1) => {
             if left == 0 {
-                return Ok(s1.refuse(Refusal::TooDeep));
+                return Ok(s1.refuse_for(Refusal::TooDeep));
             }
             let s2 = s1.mark();
             let s3 = bump(lent.toks, scratch, s2);
@@ -494,15 +496,15 @@ fn rhs(
 {
     if is_ascribed(op) {
         let s1 = ty_must(lent, table, scratch, finds, left, TyPrec::Arrow, s);
-        return close(scratch, Node::TypedExp, b, s1);
+        return close_node(scratch, Node::TypedExp, b, s1);
     }
     if is_handle(op) {
         let s1 = mat(lent, table, scratch, finds, left, s);
-        return close(scratch, Node::HandleExp, b, s1);
+        return close_node(scratch, Node::HandleExp, b, s1);
     }
     let s1 = exp(lent, table, scratch, finds, left, op, s);
     let node = node_of(op);
-    close(scratch, node, b, s1)
+    close_node(scratch, node, b, s1)
 }
 
 // `app_exp`: an argument of the expression that started at `b`.
@@ -521,11 +523,11 @@ fn app(
     ensures { RunsIn left b (expr.app_exp {g = false}) (mem_of lent.entry table.old scratch.old finds.old s) (mem_of lent.entry table.new scratch.new finds.new result) 0 }
 {
     if left == 0 {
-        return s.refuse(Refusal::TooDeep);
+        return s.refuse_for(Refusal::TooDeep);
     }
     let s1 = s.mark();
     let s2 = arg(lent, table, scratch, finds, left - 1, s1);
-    close(scratch, Node::AppExp, b, s2)
+    close_node(scratch, Node::AppExp, b, s2)
 }
 
 // `at_exp`, or the finding that there is no expression.
@@ -544,17 +546,17 @@ fn arg(
     ensures { Runs left expr.at_exp_must (mem_of lent.entry table.old scratch.old finds.old s) (mem_of lent.entry table.new scratch.new finds.new result) 0 }
 {
     let Some(k) = peek(lent.toks, s) else {
-        return report(finds, ErrorKind::Expected(Expected::Exp), s);
+        return report_error(finds, ErrorKind::Expected(Expected::Exp), s);
     };
     if left == 0 {
-        return s.refuse(Refusal::TooDeep);
+        return s.refuse_for(Refusal::TooDeep);
     }
     let s1 = s.mark();
     let b = s1.len;
     let got = atm(lent, table, scratch, finds, left - 1, k, b, s1);
     match got {
         Ok(s2) => s2,
-        Err(s2) => report(finds, ErrorKind::Expected(Expected::Exp), s2),
+        Err(s2) => report_error(finds, ErrorKind::Expected(Expected::Exp), s2),
     }
 }
 
@@ -617,16 +619,16 @@ fn hs(
     let s1 = bump(lent.toks, scratch, s);
     if at(lent.toks, kind::LSQUARE, s1) {
         if left == 0 {
-            return Ok(s1.refuse(Refusal::TooDeep));
+            return Ok(s1.refuse_for(Refusal::TooDeep));
         }
         let s2 = s1.mark();
         let c = s2.len;
         let s3 = bump(lent.toks, scratch, s2);
         let s4 = cl(lent, table, scratch, finds, left - 1, LST, c, s3);
-        return Ok(close(scratch, Node::VectorExp, b, s4));
+        return Ok(close_node(scratch, Node::VectorExp, b, s4));
     }
     let s2 = lab(lent.toks, scratch, finds, s1);
-    Ok(close(scratch, Node::SelectorExp, b, s2))
+    Ok(close_node(scratch, Node::SelectorExp, b, s2))
 }
 
 // `at_exp_l_round`: what is behind `(`.
@@ -648,10 +650,10 @@ fn rnd(
 {
     if at(lent.toks, kind::RROUND, s) {
         let s1 = bump(lent.toks, scratch, s);
-        return Ok(close(scratch, Node::TupleExp, b, s1));
+        return Ok(close_node(scratch, Node::TupleExp, b, s1));
     }
     if left == 0 {
-        return Ok(s.refuse(Refusal::TooDeep));
+        return Ok(s.refuse_for(Refusal::TooDeep));
     }
     let s1 = s.mark();
     let c = s1.len;
@@ -661,13 +663,13 @@ fn rnd(
     };
     if k == kind::SEMICOLON {
         let s3 = bump(lent.toks, scratch, s2);
-        let s4 = close(scratch, Node::ExpInSeq, c, s3);
+        let s4 = close_node(scratch, Node::ExpInSeq, c, s3);
         let s5 = cl(lent, table, scratch, finds, left, SEQS, b, s4);
         return Ok(s5);
     }
     if k == kind::COMMA {
         let s3 = bump(lent.toks, scratch, s2);
-        let s4 = close(scratch, Node::ExpArg, c, s3);
+        let s4 = close_node(scratch, Node::ExpArg, c, s3);
         let s5 = cl(lent, table, scratch, finds, left, TUPS, b, s4);
         return Ok(s5);
     }
@@ -691,7 +693,7 @@ fn lex(
 {
     let s1 = bump(lent.toks, scratch, s);
     let s2 = bdy(lent, table, scratch, finds, left, b, s1);
-    Ok(leave(scratch, Node::LetExp, b, s1, s2))
+    Ok(leave_node(scratch, Node::LetExp, b, s1, s2))
 }
 
 // What stands between `let` and `end`.
@@ -734,7 +736,7 @@ fn cl(
     ensures { RunsIn left b (util.end_sep_node {g = true} (node_number q.wrap) q.sep q.end (node_number q.node) (expr.end_closure (node_number q.wrap))) (mem_of lent.entry table.old scratch.old finds.old s) (mem_of lent.entry table.new scratch.new finds.new result) 0 }
 {
     let s1 = sep(lent, table, scratch, finds, left, q, b, s);
-    close(scratch, q.node, b, s1)
+    close_node(scratch, q.node, b, s1)
 }
 
 // `end_sep`: items up to the token that ends them.
@@ -761,7 +763,7 @@ fn sep(
             return bump(lent.toks, scratch, s1);
         }
         if left == 0 {
-            let s2 = s1.refuse(Refusal::TooDeep);
+            let s2 = s1.refuse_for(Refusal::TooDeep);
             let got = eat(lent.toks, scratch, finds, q.end, s2);
             return either(got);
         }
@@ -770,10 +772,10 @@ fn sep(
         let s3 = cel(lent, table, scratch, finds, left - 1, q, s2);
         if at(lent.toks, q.sep, s3) {
             let s4 = bump(lent.toks, scratch, s3);
-            s1 = close(scratch, q.wrap, c, s4);
+            s1 = close_node(scratch, q.wrap, c, s4);
             continue;
         }
-        let s4 = close(scratch, q.wrap, c, s3);
+        let s4 = close_node(scratch, q.wrap, c, s3);
         let got = eat(lent.toks, scratch, finds, q.end, s4);
         return either(got);
     }
@@ -821,13 +823,13 @@ fn eq(
 {
     if at(lent.toks, kind::EQ, s) {
         if left == 0 {
-            return s.refuse(Refusal::TooDeep);
+            return s.refuse_for(Refusal::TooDeep);
         }
         let s1 = s.mark();
         let b = s1.len;
         let s2 = bump(lent.toks, scratch, s1);
         let s3 = exp(lent, table, scratch, finds, left - 1, MIN, s2);
-        return close(scratch, Node::EqExp, b, s3);
+        return close_node(scratch, Node::EqExp, b, s3);
     }
     s
 }
@@ -848,7 +850,7 @@ fn mat(
     ensures { Runs left (expr.matcher {g = true}) (mem_of lent.entry table.old scratch.old finds.old s) (mem_of lent.entry table.new scratch.new finds.new result) 0 }
 {
     if left == 0 {
-        return s.refuse(Refusal::TooDeep);
+        return s.refuse_for(Refusal::TooDeep);
     }
     let s1 = s.mark();
     let b = s1.len;
@@ -875,7 +877,7 @@ fn bd(
     ensures { RunsIn left b (util.many_sep_node {g = true} q.sep (node_number q.wrap) (node_number q.node) (decl.many_closure (node_number q.wrap) (err_of e))) (mem_of lent.entry table.old scratch.old finds.old s) (mem_of lent.entry table.new scratch.new finds.new result) 0 }
 {
     let s1 = mny(lent, table, scratch, finds, left, q, e, b, s);
-    close(scratch, q.node, b, s1)
+    close_node(scratch, q.node, b, s1)
 }
 
 // `many_sep`: items between separators.
@@ -899,7 +901,7 @@ fn mny(
     let mut s1 = s;
     loop {
         if left == 0 {
-            return s1.refuse(Refusal::TooDeep);
+            return s1.refuse_for(Refusal::TooDeep);
         }
         let s2 = s1.mark();
         let c = s2.len;
@@ -909,10 +911,10 @@ fn mny(
             Ok(s3) => {
                 if at(lent.toks, q.sep, s3) {
                     let s4 = bump(lent.toks, scratch, s3);
-                    s1 = close(scratch, q.wrap, c, s4);
+                    s1 = close_node(scratch, q.wrap, c, s4);
                     continue;
                 }
-                return close(scratch, q.wrap, c, s3);
+                return close_node(scratch, q.wrap, c, s3);
             }
         }
     }
@@ -964,7 +966,7 @@ fn arm(
     let got = pat_prec(lent, table, scratch, finds, left, ANY, YES, s);
     match got {
         Err(s1) => {
-            let s2 = report(finds, ErrorKind::Expected(Expected::Pat), s1);
+            let s2 = report_error(finds, ErrorKind::Expected(Expected::Pat), s1);
             Err(s2)
         }
         Ok(s1) => {
@@ -1094,13 +1096,13 @@ fn stb(
             let s2 = aso(lent, table, scratch, finds, left, s1);
             if at(lent.toks, kind::EQ, s2) {
                 if left == 0 {
-                    return Ok(s2.refuse(Refusal::TooDeep));
+                    return Ok(s2.refuse_for(Refusal::TooDeep));
                 }
                 let s3 = s2.mark();
                 let b = s3.len;
                 let s4 = bump(lent.toks, scratch, s3);
                 let s5 = stm(lent, table, scratch, finds, left - 1, s4);
-                return Ok(close(scratch, Node::EqStrExp, b, s5));
+                return Ok(close_node(scratch, Node::EqStrExp, b, s5));
             }
             Ok(s2)
         }
@@ -1177,14 +1179,14 @@ fn pa(
 {
     if at(lent.toks, kind::NAME, s) {
         if left == 0 {
-            return s.refuse(Refusal::TooDeep);
+            return s.refuse_for(Refusal::TooDeep);
         }
         let s1 = s.mark();
         let b = s1.len;
         let s2 = bump(lent.toks, scratch, s1);
         let s3 = bump_ascription(lent.toks, scratch, s2);
         let s4 = sgm(lent, table, scratch, finds, left - 1, s3);
-        return close(scratch, Node::FunctorArgNameSigExp, b, s4);
+        return close_node(scratch, Node::FunctorArgNameSigExp, b, s4);
     }
     let got = dec(lent, table, scratch, finds, left, NO, s);
     either(got)
@@ -1262,7 +1264,7 @@ fn sem(
     ensures { (g : Bool) → Runs left (util.semi_turn {g = g} (node_number w) (decl.semi_closure (node_number w) (err_of e))) (mem_of lent.entry table.old scratch.old finds.old s) (mem_of lent.entry table.new scratch.new finds.new (out_state result)) (out_val result) }
 {
     if left == 0 {
-        return Err(s.refuse(Refusal::TooDeep));
+        return Err(s.refuse_for(Refusal::TooDeep));
     }
     let s1 = s.mark();
     let b = s1.len;
@@ -1271,7 +1273,7 @@ fn sem(
         Err(s2) => Err(s2),
         Ok(s2) => {
             let s3 = bump_if(lent.toks, scratch, kind::SEMICOLON, s2);
-            Ok(close(scratch, w, b, s3))
+            Ok(close_node(scratch, w, b, s3))
         }
     }
 }
@@ -1316,7 +1318,7 @@ fn tl(
     ensures { Runs left (decl.dec_with_tail {g = true} (err_of e)) (mem_of lent.entry table.old scratch.old finds.old s) (mem_of lent.entry table.new scratch.new finds.new (out_state result)) (out_val result) }
 {
     if left == 0 {
-        return Err(s.refuse(Refusal::TooDeep));
+        return Err(s.refuse_for(Refusal::TooDeep));
     }
     let n = left - 1;
     let s1 = s.mark();
@@ -1352,7 +1354,7 @@ fn one(
         return Err(s);
     };
     if left == 0 {
-        return Err(s.refuse(Refusal::TooDeep));
+        return Err(s.refuse_for(Refusal::TooDeep));
     }
     let n = left - 1;
     let s1 = s.mark();
@@ -1400,7 +1402,7 @@ fn cor(
     if k == kind::DO_KW {
         let s1 = bump(lent.toks, scratch, s);
         let s2 = exp(lent, table, scratch, finds, left, MIN, s1);
-        return Ok(close(scratch, Node::DoDec, b, s2));
+        return Ok(close_node(scratch, Node::DoDec, b, s2));
     }
     mds(lent, table, scratch, finds, left, k, e, b, s)
 }
@@ -1441,7 +1443,7 @@ fn mds(
     if k == kind::INCLUDE_KW {
         let s1 = bump(lent.toks, scratch, s);
         let s2 = ic(lent, table, scratch, finds, left, b, s1);
-        return Ok(close(scratch, Node::IncludeDec, b, s2));
+        return Ok(close_node(scratch, Node::IncludeDec, b, s2));
     }
     oth(lent, table, scratch, finds, left, k, e, b, s)
 }
@@ -1476,7 +1478,7 @@ fn oth(
     let got = pre(lent, table, scratch, finds, left, MIN, s);
     match got {
         Err(s1) => Err(s1),
-        Ok(s1) => Ok(close(scratch, Node::ExpDec, b, s1)),
+        Ok(s1) => Ok(close_node(scratch, Node::ExpDec, b, s1)),
     }
 }
 
@@ -1497,7 +1499,7 @@ fn lo(
     ensures { RunsIn left b (decl.local_dec (err_of e)) (mem_of lent.entry table.old scratch.old finds.old s) (mem_of lent.entry table.new scratch.new finds.new (out_state result)) (out_val result) }
 {
     if left == 0 {
-        let s1 = s.refuse(Refusal::TooDeep);
+        let s1 = s.refuse_for(Refusal::TooDeep);
         return end(lent, table, scratch, finds, left, e, b, s1);
     }
     let s1 = s.mark();
@@ -1505,7 +1507,7 @@ fn lo(
     let s2 = bump(lent.toks, scratch, s1);
     let got = dec(lent, table, scratch, finds, left - 1, e, s2);
     let s3 = either(got);
-    let s4 = leave(scratch, Node::LocalDecHd, c, s2, s3);
+    let s4 = leave_node(scratch, Node::LocalDecHd, c, s2, s3);
     end(lent, table, scratch, finds, left, e, b, s4)
 }
 
@@ -1527,14 +1529,14 @@ fn end(
     ensures { RunsIn left b (decl.local_tail (err_of e)) (mem_of lent.entry table.old scratch.old finds.old s) (mem_of lent.entry table.new scratch.new finds.new (out_state result)) (out_val result) }
 {
     if left == 0 {
-        return Ok(s.refuse(Refusal::TooDeep));
+        return Ok(s.refuse_for(Refusal::TooDeep));
     }
     let s1 = s.mark();
     let c = s1.len;
     let s2 = want(lent.toks, scratch, finds, kind::IN_KW, s1);
     let got = dec(lent, table, scratch, finds, left - 1, e, s2);
     let s3 = either(got);
-    let s4 = close(scratch, Node::LocalDecTl, c, s3);
+    let s4 = close_node(scratch, Node::LocalDecTl, c, s3);
     let end = end_node(lent, table, scratch, finds, left, LOCAL, b, s4);
     Ok(end)
 }
@@ -1556,7 +1558,7 @@ fn stm(
     let got = stx(lent, table, scratch, finds, left, s);
     match got {
         Ok(s1) => s1,
-        Err(s1) => report(finds, ErrorKind::Expected(Expected::StrExp), s1),
+        Err(s1) => report_error(finds, ErrorKind::Expected(Expected::StrExp), s1),
     }
 }
 
@@ -1577,7 +1579,7 @@ fn sgm(
     let got = sgx(lent, table, scratch, finds, left, s);
     match got {
         Ok(s1) => s1,
-        Err(s1) => report(finds, ErrorKind::Expected(Expected::SigExp), s1),
+        Err(s1) => report_error(finds, ErrorKind::Expected(Expected::SigExp), s1),
     }
 }
 
@@ -1596,13 +1598,13 @@ fn asc(
     ensures { Runs left (decl.ascription_tail {g = true}) (mem_of lent.entry table.old scratch.old finds.old s) (mem_of lent.entry table.new scratch.new finds.new result) 0 }
 {
     if left == 0 {
-        return s.refuse(Refusal::TooDeep);
+        return s.refuse_for(Refusal::TooDeep);
     }
     let s1 = s.mark();
     let b = s1.len;
     let s2 = bump(lent.toks, scratch, s1);
     let s3 = sgm(lent, table, scratch, finds, left - 1, s2);
-    close(scratch, Node::AscriptionTail, b, s3)
+    close_node(scratch, Node::AscriptionTail, b, s3)
 }
 
 // The same, where an ascription is next.
@@ -1647,7 +1649,7 @@ fn stx(
         return Err(s);
     };
     if left == 0 {
-        return Err(s.refuse(Refusal::TooDeep));
+        return Err(s.refuse_for(Refusal::TooDeep));
     }
     let b = s.len;
     let s1 = s.mark();
@@ -1719,14 +1721,14 @@ fn fap(
 {
     let s1 = app_start(lent, table, scratch, finds, left, s);
     if left == 0 {
-        return Ok(s1.refuse(Refusal::TooDeep));
+        return Ok(s1.refuse_for(Refusal::TooDeep));
     }
     let s2 = s1.mark();
     let c = s2.len;
     let found = stx(lent, table, scratch, finds, left - 1, s2);
     match found {
         Ok(s3) => {
-            let s4 = close(scratch, Node::AppStrExpArgStrExp, c, s3);
+            let s4 = close_node(scratch, Node::AppStrExpArgStrExp, c, s3);
             let end = end_node(lent, table, scratch, finds, left, APPLIED, b, s4);
             Ok(end)
         }
@@ -1783,12 +1785,12 @@ fn stt(
         };
         if ascription(k) {
             if left == 0 {
-                s1 = s1.refuse(Refusal::TooDeep);
+                s1 = s1.refuse_for(Refusal::TooDeep);
                 continue;
             }
             let s2 = s1.mark();
             let s3 = asc(lent, table, scratch, finds, left - 1, s2);
-            s1 = close(scratch, Node::AscriptionStrExp, b, s3);
+            s1 = close_node(scratch, Node::AscriptionStrExp, b, s3);
             continue;
         }
         return s1;
@@ -1814,7 +1816,7 @@ fn sgx(
         return Err(s);
     };
     if left == 0 {
-        return Err(s.refuse(Refusal::TooDeep));
+        return Err(s.refuse_for(Refusal::TooDeep));
     }
     let n = left - 1;
     let b = s.len;
@@ -1829,7 +1831,7 @@ fn sgx(
     }
     if k == kind::NAME {
         let s2 = bump(lent.toks, scratch, s1);
-        let s3 = close(scratch, Node::NameSigExp, b, s2);
+        let s3 = close_node(scratch, Node::NameSigExp, b, s2);
         return Ok(wheres(lent, table, scratch, finds, left, b, s3));
     }
     Err(s1)

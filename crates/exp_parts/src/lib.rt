@@ -11,7 +11,7 @@ use exp_prec::{ExpPrec, is_infix};
 use parser::finding::{ErrorKind, Expected, ParensExpFlavor};
 use parser::node::Node;
 use parser::refusal::Refusal;
-use parser::{Found, Lent, State, at, at_n, bump, close, either, kind, peek_n, report};
+use parser::{Found, Lent, State, at, at_n, bump, close_node, either, kind, peek_n, report_error};
 use pat_prec::s_con;
 use util::{name_star_eq, path_infix, path_no_infix};
 
@@ -56,34 +56,34 @@ fn need_parens(
     ensures { Always (expr.need_parens (suc k)) (mem_of lent.entry table.now scratch.old finds.old s) (mem_of lent.entry table.now scratch.new finds.new result) 0 }
 {
     if k == kind::RAISE_KW {
-        return report(
+        return report_error(
             finds,
             ErrorKind::NeedParensAroundExpHere(ParensExpFlavor::Raise),
             s,
         );
     }
     if k == kind::IF_KW {
-        return report(
+        return report_error(
             finds,
             ErrorKind::NeedParensAroundExpHere(ParensExpFlavor::If),
             s,
         );
     }
     if k == kind::WHILE_KW {
-        return report(
+        return report_error(
             finds,
             ErrorKind::NeedParensAroundExpHere(ParensExpFlavor::While),
             s,
         );
     }
     if k == kind::CASE_KW {
-        return report(
+        return report_error(
             finds,
             ErrorKind::NeedParensAroundExpHere(ParensExpFlavor::Case),
             s,
         );
     }
-    report(
+    report_error(
         finds,
         ErrorKind::NeedParensAroundExpHere(ParensExpFlavor::Fn),
         s,
@@ -125,10 +125,10 @@ pub fn paren_end(
 {
     if at(lent.toks, kind::RROUND, s) {
         let s1 = bump(lent.toks, scratch, s);
-        return Ok(close(scratch, Node::ParenExp, b, s1));
+        return Ok(close_node(scratch, Node::ParenExp, b, s1));
     }
-    let s1 = report(finds, ErrorKind::Expected(Expected::LRoundExpTail), s);
-    Ok(close(scratch, Node::ParenExp, b, s1))
+    let s1 = report_error(finds, ErrorKind::Expected(Expected::LRoundExpTail), s);
+    Ok(close_node(scratch, Node::ParenExp, b, s1))
 }
 
 // The name in a record update.
@@ -144,13 +144,13 @@ fn update_path(
     ensures { Runs left expr.update_path (mem_of lent.entry table.now scratch.old finds.old s) (mem_of lent.entry table.now scratch.new finds.new result) 0 }
 {
     if left == 0 {
-        return s.refuse(Refusal::TooDeep);
+        return s.refuse_for(Refusal::TooDeep);
     }
     let s1 = s.mark();
     let b = s1.len;
     let got = path_no_infix(lent, table, scratch, finds, left - 1, s1);
     let s2 = either(got);
-    close(scratch, Node::PathExp, b, s2)
+    close_node(scratch, Node::PathExp, b, s2)
 }
 
 // The start of a record update, where one is next.
@@ -168,13 +168,13 @@ fn record_update(
     if at(lent.toks, kind::NAME, s) {
         if at_n(lent.toks, 1, kind::WHERE_KW, s) {
             if left == 0 {
-                return s.refuse(Refusal::TooDeep);
+                return s.refuse_for(Refusal::TooDeep);
             }
             let s1 = s.mark();
             let b = s1.len;
             let s2 = update_path(lent, table, scratch, finds, left - 1, s1);
             let s3 = bump(lent.toks, scratch, s2);
-            return close(scratch, Node::RecordUpdate, b, s3);
+            return close_node(scratch, Node::RecordUpdate, b, s3);
         }
         return s;
     }
@@ -213,21 +213,21 @@ fn op_exp(
     let Some(k) = peek_n(lent.toks, 1, s) else {
         let got = path_infix(lent, table, scratch, finds, left, s);
         let s1 = either(got);
-        return Ok(close(scratch, Node::PathExp, b, s1));
+        return Ok(close_node(scratch, Node::PathExp, b, s1));
     };
     if k == kind::ANDALSO_KW {
         let s1 = bump(lent.toks, scratch, s);
         let s2 = bump(lent.toks, scratch, s1);
-        return Ok(close(scratch, Node::OpAndalsoExp, b, s2));
+        return Ok(close_node(scratch, Node::OpAndalsoExp, b, s2));
     }
     if k == kind::ORELSE_KW {
         let s1 = bump(lent.toks, scratch, s);
         let s2 = bump(lent.toks, scratch, s1);
-        return Ok(close(scratch, Node::OpOrelseExp, b, s2));
+        return Ok(close_node(scratch, Node::OpOrelseExp, b, s2));
     }
     let got = path_infix(lent, table, scratch, finds, left, s);
     let s1 = either(got);
-    Ok(close(scratch, Node::PathExp, b, s1))
+    Ok(close_node(scratch, Node::PathExp, b, s1))
 }
 
 // The atomic expressions that hold no others, the kind k being next.
@@ -246,15 +246,15 @@ pub fn leaf(
 {
     if k == kind::DOT_DOT_DOT {
         let s1 = bump(lent.toks, scratch, s);
-        return Ok(close(scratch, Node::HoleExp, b, s1));
+        return Ok(close_node(scratch, Node::HoleExp, b, s1));
     }
     if k == kind::UNDERSCORE {
         let s1 = bump(lent.toks, scratch, s);
-        return Ok(close(scratch, Node::WildcardExp, b, s1));
+        return Ok(close_node(scratch, Node::WildcardExp, b, s1));
     }
     if s_con(k) {
         let s1 = bump(lent.toks, scratch, s);
-        return Ok(close(scratch, Node::SConExp, b, s1));
+        return Ok(close_node(scratch, Node::SConExp, b, s1));
     }
     if k == kind::OP_KW {
         return op_exp(lent, table, scratch, finds, left, b, s);
@@ -262,7 +262,7 @@ pub fn leaf(
     if name_star_eq(k) {
         let got = path_no_infix(lent, table, scratch, finds, left, s);
         let s1 = either(got);
-        return Ok(close(scratch, Node::PathExp, b, s1));
+        return Ok(close_node(scratch, Node::PathExp, b, s1));
     }
     Err(s)
 }

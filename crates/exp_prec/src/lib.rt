@@ -99,7 +99,7 @@ pub fn should_break_exp(
 {
     let what = judge(op, min);
     match what {
-        Verdict::Unreachable => Err(s.refuse(Refusal::Impossible)),
+        Verdict::Unreachable => Err(s.refuse_for(Refusal::Impossible)),
         Verdict::GoesOn => Err(s),
         Verdict::Ends => Ok(s),
         Verdict::Infixes(i, j) => should_break(lent, table, scratch, finds, i, j, s),

@@ -11,7 +11,7 @@ ghost use Rattle.parser.specs.Runs.{Always, RunsIn};
 
 use parser::finding::{ErrorKind, Expected};
 use parser::node::Node;
-use parser::{Found, Lent, State, bump, close, kind, mode, peek, report};
+use parser::{Found, Lent, State, bump, close_node, kind, mode, peek, report_error};
 use sml_fixity::Infix;
 use texts::{NumberErr, number_at, take_as};
 use util::name_star_eq;
@@ -49,7 +49,7 @@ fn large_fixity(
 {
     let m = mode(lent.toks, s);
     if is_large(m, n) {
-        return report(finds, ErrorKind::LargeFixity, s);
+        return report_error(finds, ErrorKind::LargeFixity, s);
     }
     s
 }
@@ -67,12 +67,12 @@ fn fixity_number(
 {
     match number_at(lent.text, lent.toks, s) {
         Err(NumberErr::Negative) => {
-            let s1 = report(finds, ErrorKind::NegativeFixity, s);
+            let s1 = report_error(finds, ErrorKind::NegativeFixity, s);
             let s2 = bump(lent.toks, scratch, s1);
             Numbered { num: 0, state: s2 }
         }
         Err(NumberErr::Invalid) => {
-            let s1 = report(finds, ErrorKind::InvalidFixity, s);
+            let s1 = report_error(finds, ErrorKind::InvalidFixity, s);
             let s2 = bump(lent.toks, scratch, s1);
             Numbered { num: 0, state: s2 }
         }
@@ -90,7 +90,7 @@ fn fixity(lent: Lent, table: &[u8], scratch: &mut [u8], finds: &mut [u8], s: Sta
     ensures { Always decl.fixity (mem_of lent.entry table.now scratch.old finds.old s) (mem_of lent.entry table.now scratch.new finds.new result.state) result.num }
 {
     let Some(k) = peek(lent.toks, s) else {
-        let s1 = report(finds, ErrorKind::Expected(Expected::NameOrInt), s);
+        let s1 = report_error(finds, ErrorKind::Expected(Expected::NameOrInt), s);
         return Numbered { num: 0, state: s1 };
     };
     if k == kind::INT_LIT {
@@ -99,7 +99,7 @@ fn fixity(lent: Lent, table: &[u8], scratch: &mut [u8], finds: &mut [u8], s: Sta
     if name_star_eq(k) {
         return Numbered { num: 0, state: s };
     }
-    let s1 = report(finds, ErrorKind::Expected(Expected::NameOrInt), s);
+    let s1 = report_error(finds, ErrorKind::Expected(Expected::NameOrInt), s);
     Numbered { num: 0, state: s1 }
 }
 
@@ -151,7 +151,7 @@ pub fn infix_dec(
     let s2 = got.state;
     let f = Some(Infix::left(got.num));
     let s3 = names(lent, table, scratch, finds, left, f, b, s2);
-    Ok(close(scratch, Node::InfixDec, b, s3))
+    Ok(close_node(scratch, Node::InfixDec, b, s3))
 }
 
 // `infixr`, its number and its names.
@@ -173,7 +173,7 @@ pub fn infixr_dec(
     let s2 = got.state;
     let f = Some(Infix::right(got.num));
     let s3 = names(lent, table, scratch, finds, left, f, b, s2);
-    Ok(close(scratch, Node::InfixrDec, b, s3))
+    Ok(close_node(scratch, Node::InfixrDec, b, s3))
 }
 
 // `nonfix` and its names.
@@ -192,5 +192,5 @@ pub fn nonfix_dec(
     let s1 = bump(lent.toks, scratch, s);
     let f = None;
     let s2 = names(lent, table, scratch, finds, left, f, b, s1);
-    Ok(close(scratch, Node::NonfixDec, b, s2))
+    Ok(close_node(scratch, Node::NonfixDec, b, s2))
 }

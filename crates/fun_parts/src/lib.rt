@@ -12,7 +12,7 @@ ghost use Rattle.parser.specs.Runs.{Runs, RunsIn};
 use head_parts::{infix_name, prefix_name, prefix_op};
 use parser::node::Node;
 use parser::refusal::Refusal;
-use parser::{Found, InfixErr, Lent, State, bump, close, kind, peek};
+use parser::{Found, InfixErr, Lent, State, bump, close_node, kind, peek};
 use pat::{at_must, at_pat};
 use util::want;
 
@@ -50,20 +50,20 @@ fn other_head(
 {
     let Some(k) = peek(lent.toks, s) else {
         let s1 = prefix_name(lent, table, scratch, finds, s);
-        return close(scratch, Node::PrefixFunBindCaseHead, b, s1);
+        return close_node(scratch, Node::PrefixFunBindCaseHead, b, s1);
     };
     if k == kind::LROUND {
         let s1 = bump(lent.toks, scratch, s);
         let s2 = infix_head(lent, table, scratch, finds, left, e, s1);
         let s3 = want(lent.toks, scratch, finds, kind::RROUND, s2);
-        return close(scratch, Node::InfixFunBindCaseHead, b, s3);
+        return close_node(scratch, Node::InfixFunBindCaseHead, b, s3);
     }
     if k == kind::OP_KW {
         let s1 = prefix_op(lent, table, scratch, finds, s);
-        return close(scratch, Node::PrefixFunBindCaseHead, b, s1);
+        return close_node(scratch, Node::PrefixFunBindCaseHead, b, s1);
     }
     let s1 = prefix_name(lent, table, scratch, finds, s);
-    close(scratch, Node::PrefixFunBindCaseHead, b, s1)
+    close_node(scratch, Node::PrefixFunBindCaseHead, b, s1)
 }
 
 // The head of a case of a function: infix, unless that gave a finding and is taken back.
@@ -87,7 +87,7 @@ fn fun_head(
             let s3 = other_head(lent, table, scratch, finds, left, e, b, s2);
             Err(s3)
         }
-        Ok(s2) => Ok(close(scratch, Node::InfixFunBindCaseHead, b, s2)),
+        Ok(s2) => Ok(close_node(scratch, Node::InfixFunBindCaseHead, b, s2)),
     }
 }
 
@@ -131,7 +131,7 @@ pub fn fun_left(
 {
     let b = s.len;
     if left == 0 {
-        let s1 = s.refuse(Refusal::TooDeep);
+        let s1 = s.refuse_for(Refusal::TooDeep);
         return at_pats(lent, table, scratch, finds, left, e, b, s1);
     }
     let s1 = s.mark();

@@ -13,7 +13,7 @@ ghost use Rattle.parser.specs.Runs.{Always, Runs, RunsIn};
 use parser::finding::{ErrorKind, Expected};
 use parser::node::Node;
 use parser::refusal::Refusal;
-use parser::{InfixErr, Lent, State, at, at_n, bump, close, either, kind, peek, report};
+use parser::{InfixErr, Lent, State, at, at_n, bump, close_node, either, kind, peek, report_error};
 use pat::as_pat_tl;
 use texts::says;
 use ty::ty_annotation;
@@ -32,12 +32,12 @@ fn es_name(lent: Lent, table: &[u8], scratch: &mut [u8], finds: &mut [u8], s: St
     ensures { Always decl.es_import_name (mem_of lent.entry table.now scratch.old finds.old s) (mem_of lent.entry table.now scratch.new finds.new result) 0 }
 {
     let Some(k) = peek(lent.toks, s) else {
-        return report(finds, ErrorKind::Expected(Expected::NameOrString), s);
+        return report_error(finds, ErrorKind::Expected(Expected::NameOrString), s);
     };
     if name_or_string(k) {
         return bump(lent.toks, scratch, s);
     }
-    report(finds, ErrorKind::Expected(Expected::NameOrString), s)
+    report_error(finds, ErrorKind::Expected(Expected::NameOrString), s)
 }
 
 // `es_import_spec`.
@@ -53,7 +53,7 @@ fn es_spec(
     ensures { Runs left decl.es_import_spec (mem_of lent.entry table.now scratch.old finds.old s) (mem_of lent.entry table.now scratch.new finds.new result) 0 }
 {
     if left == 0 {
-        return s.refuse(Refusal::TooDeep);
+        return s.refuse_for(Refusal::TooDeep);
     }
     let s1 = s.mark();
     let b = s1.len;
@@ -63,7 +63,7 @@ fn es_spec(
     let s3 = either(got);
     let typed = ty_annotation(lent, table, scratch, finds, left - 1, s3);
     let s4 = either(typed);
-    close(scratch, Node::EsImportSpec, b, s4)
+    close_node(scratch, Node::EsImportSpec, b, s4)
 }
 
 // Named imports, up to `}`.
@@ -87,7 +87,7 @@ fn es_list(
             return bump(lent.toks, scratch, s1);
         }
         if left == 0 {
-            let s2 = s1.refuse(Refusal::TooDeep);
+            let s2 = s1.refuse_for(Refusal::TooDeep);
             let got = eat(lent.toks, scratch, finds, kind::RCURLY, s2);
             return either(got);
         }
@@ -96,10 +96,10 @@ fn es_list(
         let s3 = es_spec(lent, table, scratch, finds, left - 1, s2);
         if at(lent.toks, kind::COMMA, s3) {
             let s4 = bump(lent.toks, scratch, s3);
-            s1 = close(scratch, Node::EsImportSpecArg, c, s4);
+            s1 = close_node(scratch, Node::EsImportSpecArg, c, s4);
             continue;
         }
-        let s4 = close(scratch, Node::EsImportSpecArg, c, s3);
+        let s4 = close_node(scratch, Node::EsImportSpecArg, c, s3);
         let got = eat(lent.toks, scratch, finds, kind::RCURLY, s4);
         return either(got);
     }
@@ -120,13 +120,13 @@ fn es_specs(
 {
     if at(lent.toks, kind::LCURLY, s) {
         if left == 0 {
-            return s.refuse(Refusal::TooDeep);
+            return s.refuse_for(Refusal::TooDeep);
         }
         let s1 = s.mark();
         let b = s1.len;
         let s2 = bump(lent.toks, scratch, s1);
         let s3 = es_list(lent, table, scratch, finds, left - 1, b, s2);
-        return close(scratch, Node::EsImportSpecs, b, s3);
+        return close_node(scratch, Node::EsImportSpecs, b, s3);
     }
     s
 }
@@ -170,14 +170,14 @@ fn es_attrs(
 {
     if at(lent.toks, kind::LSQUARE, s) {
         if left == 0 {
-            return s.refuse(Refusal::TooDeep);
+            return s.refuse_for(Refusal::TooDeep);
         }
         let s1 = s.mark();
         let b = s1.len;
         let s2 = bump(lent.toks, scratch, s1);
         let s3 = attrs(lent, table, scratch, finds, left - 1, b, s2);
         let s4 = want(lent.toks, scratch, finds, kind::RSQUARE, s3);
-        return close(scratch, Node::EsImportAttrs, b, s4);
+        return close_node(scratch, Node::EsImportAttrs, b, s4);
     }
     s
 }
@@ -211,9 +211,9 @@ fn es_from(lent: Lent, table: &[u8], scratch: &mut [u8], finds: &mut [u8], s: St
             return bump(lent.toks, scratch, s);
         }
         let s1 = bump(lent.toks, scratch, s);
-        return report(finds, ErrorKind::Expected(Expected::From), s1);
+        return report_error(finds, ErrorKind::Expected(Expected::From), s1);
     }
-    report(finds, ErrorKind::Expected(Expected::Kind(kind::NAME)), s)
+    report_error(finds, ErrorKind::Expected(Expected::Kind(kind::NAME)), s)
 }
 
 // `es_import`, at its keyword.

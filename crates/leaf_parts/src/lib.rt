@@ -14,7 +14,7 @@ use dat_parts::datatype;
 use fix_parts::{infix_dec, infixr_dec, nonfix_dec};
 use import_parts::es_import;
 use parser::node::Node;
-use parser::{Found, Lent, State, bump, close, kind};
+use parser::{Found, Lent, State, bump, close_node, kind};
 use util::path;
 
 // The paths behind `open`.
@@ -73,7 +73,7 @@ fn fix_dec(
     }
     if k == kind::ESIMPORT_KW {
         let s1 = es_import(lent, table, scratch, finds, left, s);
-        return Ok(close(scratch, Node::EsImportDec, b, s1));
+        return Ok(close_node(scratch, Node::EsImportDec, b, s1));
     }
     Err(s)
 }
@@ -95,12 +95,12 @@ pub fn leaf_dec(
 {
     if k == kind::DOT_DOT_DOT {
         let s1 = bump(lent.toks, scratch, s);
-        return Ok(close(scratch, Node::HoleDec, b, s1));
+        return Ok(close_node(scratch, Node::HoleDec, b, s1));
     }
     if type_kw(k) {
         let s1 = bump(lent.toks, scratch, s);
         let s2 = ty_binds(lent, table, scratch, finds, left, b, s1);
-        return Ok(close(scratch, Node::TyDec, b, s2));
+        return Ok(close_node(scratch, Node::TyDec, b, s2));
     }
     if k == kind::DATATYPE_KW {
         return datatype(lent, table, scratch, finds, left, b, s);
@@ -108,7 +108,7 @@ pub fn leaf_dec(
     if k == kind::OPEN_KW {
         let s1 = bump(lent.toks, scratch, s);
         let s2 = opens(lent, table, scratch, finds, left, b, s1);
-        return Ok(close(scratch, Node::OpenDec, b, s2));
+        return Ok(close_node(scratch, Node::OpenDec, b, s2));
     }
     fix_dec(lent, table, scratch, finds, left, k, b, s)
 }

@@ -79,7 +79,7 @@ impl State {
     }
 
     // Refused by number, unless it was before.
-    pub fn refuse_by(self, n: usize) -> State
+    pub fn refuse(self, n: usize) -> State
         ensures { result ≡ refused_by n self }
     {
         if self.is_refused() {
@@ -88,11 +88,11 @@ impl State {
         State { stop: n, ..self }
     }
 
-    // Refused, unless it was before.
-    pub fn refuse(self, why: Refusal) -> State
+    // Refused for a reason, unless it was before.
+    pub fn refuse_for(self, why: Refusal) -> State
         ensures { result ≡ refused_by (refusal_number why) self }
     {
-        self.refuse_by(why.number())
+        self.refuse(why.number())
     }
 
     // Why it was refused, if it was.
@@ -110,7 +110,7 @@ impl State {
             return self;
         }
         if self.room <= self.used {
-            return self.refuse(Refusal::NoScratch);
+            return self.refuse_for(Refusal::NoScratch);
         }
         State {
             used: self.used + 1,
@@ -231,7 +231,7 @@ pub fn bump(toks: &[u8], scratch: &mut [u8], s: State) -> State
         return s;
     }
     if s.room <= s.used {
-        return s.refuse(Refusal::NoScratch);
+        return s.refuse_for(Refusal::NoScratch);
     }
     put(scratch, s.len, TOOK, toks[5 * at], at);
     State {
@@ -242,8 +242,8 @@ pub fn bump(toks: &[u8], scratch: &mut [u8], s: State) -> State
     }
 }
 
-// Ends a node of the kind of this number, which started at `b` in the log.
-pub fn close_kind(scratch: &mut [u8], kind: u8, b: usize, s: State) -> State
+// Ends a node of a kind, which started at `b` in the log.
+pub fn close(scratch: &mut [u8], kind: u8, b: usize, s: State) -> State
     requires { Logs scratch.old s.len s.used s.room × (b < 4294967296) }
     ensures { Adds (end kind b) scratch.old s scratch.new result }
 {
@@ -251,7 +251,7 @@ pub fn close_kind(scratch: &mut [u8], kind: u8, b: usize, s: State) -> State
         return s;
     }
     if s.room <= s.used {
-        return s.refuse(Refusal::NoScratch);
+        return s.refuse_for(Refusal::NoScratch);
     }
     put(scratch, s.len, ENDED, kind, b);
     State {
@@ -261,16 +261,16 @@ pub fn close_kind(scratch: &mut [u8], kind: u8, b: usize, s: State) -> State
     }
 }
 
-// Ends a node of a kind.
-pub fn close(scratch: &mut [u8], kind: Node, b: usize, s: State) -> State
+// The same of a `Node`.
+pub fn close_node(scratch: &mut [u8], kind: Node, b: usize, s: State) -> State
     requires { Logs scratch.old s.len s.used s.room × (b < 4294967296) }
     ensures { Adds (end (node_number kind) b) scratch.old s scratch.new result }
 {
-    close_kind(scratch, kind.number(), b, s)
+    close(scratch, kind.number(), b, s)
 }
 
-// Holds a finding of these numbers at the next token, with the name of the token of that index.
-pub fn hold(finds: &mut [u8], number: u8, detail: u8, name: usize, s: State) -> State
+// Holds a finding at the next token, with the name of the token of that index.
+pub fn report(finds: &mut [u8], number: u8, detail: u8, name: usize, s: State) -> State
     requires { Holds finds.old s.found s.kept × (s.at ≤ 65535) × (name ≤ 65535) }
     ensures { Tells (reports number detail name) finds.old s finds.new result }
 {
@@ -278,7 +278,7 @@ pub fn hold(finds: &mut [u8], number: u8, detail: u8, name: usize, s: State) -> 
         return s;
     }
     if s.kept <= s.found {
-        return s.refuse(Refusal::NoFindings);
+        return s.refuse_for(Refusal::NoFindings);
     }
     put(finds, s.found, number, detail, s.at + 65536 * name);
     State {
@@ -287,12 +287,12 @@ pub fn hold(finds: &mut [u8], number: u8, detail: u8, name: usize, s: State) -> 
     }
 }
 
-// Holds a finding at the next token.
-pub fn report(finds: &mut [u8], what: ErrorKind, s: State) -> State
+// The same of an `ErrorKind`, which carries its name.
+pub fn report_error(finds: &mut [u8], what: ErrorKind, s: State) -> State
     requires { Holds finds.old s.found s.kept × (s.at ≤ 65535) × (name_of what ≤ 65535) }
     ensures { Tells (reports (code_of what) (detail_of what) (name_of what)) finds.old s finds.new result }
 {
-    hold(finds, what.code(), what.detail(), what.name(), s)
+    report(finds, what.code(), what.detail(), what.name(), s)
 }
 
 // The index of the next token, by which a finding spells its name, if there is one.

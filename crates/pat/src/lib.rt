@@ -18,7 +18,8 @@ use parser::finding::{ErrorKind, Expected};
 use parser::node::Node;
 use parser::refusal::Refusal;
 use parser::{
-    Found, InfixErr, Lent, State, at, at_n, bump, close, either, index, kind, peek, peek_n, report,
+    Found, InfixErr, Lent, State, at, at_n, bump, close_node, either, index, kind, peek, peek_n,
+    report_error,
 };
 use pat_parts::{Head, con_name, con_op, con_path, typed_step};
 use pat_prec::{PatPrec, arg, is_infix, is_min, s_con, should_break_pat};
@@ -46,7 +47,7 @@ pub fn pat_must(
     let got = pat_prec(lent, table, scratch, finds, left, min, e, s);
     match got {
         Ok(s1) => s1,
-        Err(s1) => report(finds, ErrorKind::Expected(Expected::Pat), s1),
+        Err(s1) => report_error(finds, ErrorKind::Expected(Expected::Pat), s1),
     }
 }
 
@@ -138,7 +139,7 @@ fn con_head(
     ensures { RunsIn left b (pat.con_head {g = false} (prec_of min) (err_of e)) (mem_of lent.entry table.now scratch.old finds.old s) (mem_of lent.entry table.now scratch.new finds.new (head_state result)) (head_val result) }
 {
     if left == 0 {
-        return Head::Missing(s.refuse(Refusal::TooDeep));
+        return Head::Missing(s.refuse_for(Refusal::TooDeep));
     }
     let s1 = s.mark();
     let got = con_name(lent, table, scratch, finds, left - 1, e, s1);
@@ -164,14 +165,14 @@ fn con_turn(
     ensures { RunsIn left b (pat.con_turn (prec_of min) (err_of e)) (mem_of lent.entry table.now scratch.old finds.old s) (mem_of lent.entry table.now scratch.new finds.new (head_state result)) (head_val result) }
 {
     let Some(k) = peek(lent.toks, s) else {
-        return Head::GoOn(close(scratch, Node::ConPat, b, s));
+        return Head::GoOn(close_node(scratch, Node::ConPat, b, s));
     };
     if name_star(k) {
         let fix = fixity_at(lent, table, 0, s);
         match fix {
             None => {
                 let s1 = at_must(lent, table, scratch, finds, left, e, s);
-                return Head::GoOn(close(scratch, Node::ConPat, b, s1));
+                return Head::GoOn(close_node(scratch, Node::ConPat, b, s1));
             }
             Some(op) => {
                 return con_op(lent, table, scratch, finds, left, op, min, b, s);
@@ -180,9 +181,9 @@ fn con_turn(
     }
     if arg(k) {
         let s1 = at_must(lent, table, scratch, finds, left, e, s);
-        return Head::GoOn(close(scratch, Node::ConPat, b, s1));
+        return Head::GoOn(close_node(scratch, Node::ConPat, b, s1));
     }
-    Head::GoOn(close(scratch, Node::ConPat, b, s))
+    Head::GoOn(close_node(scratch, Node::ConPat, b, s))
 }
 
 // An infix name that was tested, and the pattern behind it.
@@ -319,7 +320,7 @@ fn op_step(
     match fix {
         None => {
             let name = index(s);
-            Err(report(finds, ErrorKind::NotInfix(name), s))
+            Err(report_error(finds, ErrorKind::NotInfix(name), s))
         }
         Some(op) => {
             let ends = should_break_pat(lent, table, scratch, finds, op, min, s);
@@ -352,12 +353,12 @@ fn inf_pat(
     ensures { RunsIn left b (pat.infix_pat {g = false} (infix_of op) (err_of e)) (mem_of lent.entry table.now scratch.old finds.old s) (mem_of lent.entry table.now scratch.new finds.new result) 0 }
 {
     if left == 0 {
-        return s.refuse(Refusal::TooDeep);
+        return s.refuse_for(Refusal::TooDeep);
     }
     let s1 = bump(lent.toks, scratch, s.mark());
     let min = PatPrec::Infix(op);
     let s2 = pat_must(lent, table, scratch, finds, left - 1, min, e, s1);
-    close(scratch, Node::InfixPat, b, s2)
+    close_node(scratch, Node::InfixPat, b, s2)
 }
 
 // `|` and the pattern behind it, where it may stand.
@@ -379,12 +380,12 @@ fn or_step(
 {
     if is_min(min) {
         if left == 0 {
-            return Ok(s.refuse(Refusal::TooDeep));
+            return Ok(s.refuse_for(Refusal::TooDeep));
         }
         let s1 = bump(lent.toks, scratch, s.mark());
         let or = PatPrec::Or;
         let s2 = pat_must(lent, table, scratch, finds, left - 1, or, e, s1);
-        return Ok(close(scratch, Node::OrPat, b, s2));
+        return Ok(close_node(scratch, Node::OrPat, b, s2));
     }
     Err(s)
 }
@@ -410,15 +411,15 @@ fn as_step(
         return Err(s);
     }
     if left == 0 {
-        return Ok(s.refuse(Refusal::TooDeep));
+        return Ok(s.refuse_for(Refusal::TooDeep));
     }
     let s1 = s.mark();
     let got = as_pat_tl(lent, table, scratch, finds, left - 1, e, s1);
     match got {
-        Ok(s2) => Ok(close(scratch, Node::AsPat, b, s2)),
+        Ok(s2) => Ok(close_node(scratch, Node::AsPat, b, s2)),
         Err(s2) => {
-            let s3 = report(finds, ErrorKind::Expected(Expected::Pat), s2);
-            Ok(close(scratch, Node::AsPat, b, s3))
+            let s3 = report_error(finds, ErrorKind::Expected(Expected::Pat), s2);
+            Ok(close_node(scratch, Node::AsPat, b, s3))
         }
     }
 }
@@ -440,14 +441,14 @@ pub fn as_pat_tl(
 {
     if at(lent.toks, kind::AS_KW, s) {
         if left == 0 {
-            return Err(s.refuse(Refusal::TooDeep));
+            return Err(s.refuse_for(Refusal::TooDeep));
         }
         let s1 = s.mark();
         let b = s1.len;
         let s2 = bump(lent.toks, scratch, s1);
         let min = PatPrec::Min;
         let s3 = pat_must(lent, table, scratch, finds, left - 1, min, e, s2);
-        return Ok(close(scratch, Node::AsPatTail, b, s3));
+        return Ok(close_node(scratch, Node::AsPatTail, b, s3));
     }
     Err(s)
 }
@@ -470,7 +471,7 @@ pub fn at_must(
     let got = at_pat(lent, table, scratch, finds, left, e, s);
     match got {
         Ok(s1) => s1,
-        Err(s1) => report(finds, ErrorKind::Expected(Expected::Pat), s1),
+        Err(s1) => report_error(finds, ErrorKind::Expected(Expected::Pat), s1),
     }
 }
 
@@ -493,7 +494,7 @@ pub fn at_pat(
         return Err(s);
     };
     if left == 0 {
-        return Err(s.refuse(Refusal::TooDeep));
+        return Err(s.refuse_for(Refusal::TooDeep));
     }
     let s1 = s.mark();
     let b = s1.len;
@@ -519,21 +520,21 @@ fn at_head(
 {
     if s_con(k) {
         let s1 = bump(lent.toks, scratch, s);
-        return Ok(close(scratch, Node::SConPat, b, s1));
+        return Ok(close_node(scratch, Node::SConPat, b, s1));
     }
     if k == kind::UNDERSCORE {
         let s1 = bump(lent.toks, scratch, s);
-        return Ok(close(scratch, Node::WildcardPat, b, s1));
+        return Ok(close_node(scratch, Node::WildcardPat, b, s1));
     }
     if k == kind::OP_KW {
         let got = path_infix(lent, table, scratch, finds, left, s);
         let s1 = either(got);
-        return Ok(close(scratch, Node::ConPat, b, s1));
+        return Ok(close_node(scratch, Node::ConPat, b, s1));
     }
     if name_star(k) {
         let got = con_path(lent, table, scratch, finds, left, e, s);
         let s1 = either(got);
-        return Ok(close(scratch, Node::ConPat, b, s1));
+        return Ok(close_node(scratch, Node::ConPat, b, s1));
     }
     rest(lent, table, scratch, finds, left, k, e, b, s)
 }
@@ -559,7 +560,7 @@ fn rest(
     if k == kind::LCURLY {
         let s1 = bump(lent.toks, scratch, s);
         let s2 = rows(lent, table, scratch, finds, left, e, b, s1);
-        return Ok(close(scratch, Node::RecordPat, b, s2));
+        return Ok(close_node(scratch, Node::RecordPat, b, s2));
     }
     if k == kind::LROUND {
         let s1 = bump(lent.toks, scratch, s);
@@ -569,12 +570,12 @@ fn rest(
         let s1 = bump(lent.toks, scratch, s);
         let end = kind::RSQUARE;
         let s2 = args(lent, table, scratch, finds, left, end, e, b, s1);
-        return Ok(close(scratch, Node::ListPat, b, s2));
+        return Ok(close_node(scratch, Node::ListPat, b, s2));
     }
     if k == kind::HASH {
         let s1 = bump(lent.toks, scratch, s);
         let s2 = vector(lent, table, scratch, finds, left, e, s1);
-        return Ok(close(scratch, Node::VectorPat, b, s2));
+        return Ok(close_node(scratch, Node::VectorPat, b, s2));
     }
     Err(s)
 }
@@ -596,7 +597,7 @@ fn vector(
     ensures { Runs left (pat.vector (err_of e)) (mem_of lent.entry table.now scratch.old finds.old s) (mem_of lent.entry table.now scratch.new finds.new result) 0 }
 {
     if left == 0 {
-        return s.refuse(Refusal::TooDeep);
+        return s.refuse_for(Refusal::TooDeep);
     }
     let s1 = s.mark();
     let b = s1.len;
@@ -604,7 +605,7 @@ fn vector(
     let s2 = either(got);
     let end = kind::RSQUARE;
     let s3 = args(lent, table, scratch, finds, left - 1, end, e, b, s2);
-    close(scratch, Node::ListPat, b, s3)
+    close_node(scratch, Node::ListPat, b, s3)
 }
 
 // A pattern that starts with `(`, from behind it on.
@@ -626,18 +627,18 @@ fn at_round(
 {
     if at(lent.toks, kind::RROUND, s) {
         let s1 = bump(lent.toks, scratch, s);
-        return Ok(close(scratch, Node::TuplePat, b, s1));
+        return Ok(close_node(scratch, Node::TuplePat, b, s1));
     }
     let first = pat_arg(lent, table, scratch, finds, left, e, s);
     match first {
         Err(s1) => {
             let end = kind::RROUND;
             let s2 = args(lent, table, scratch, finds, left, end, e, b, s1);
-            Ok(close(scratch, Node::TuplePat, b, s2))
+            Ok(close_node(scratch, Node::TuplePat, b, s2))
         }
         Ok(s1) => {
             let s2 = bump(lent.toks, scratch, s1);
-            Ok(close(scratch, Node::ParenPat, b, s2))
+            Ok(close_node(scratch, Node::ParenPat, b, s2))
         }
     }
 }
@@ -658,7 +659,7 @@ fn pat_arg(
     ensures { Runs left (pat.pat_arg (err_of e)) (mem_of lent.entry table.now scratch.old finds.old s) (mem_of lent.entry table.now scratch.new finds.new (out_state result)) (out_val result) }
 {
     if left == 0 {
-        return Err(s.refuse(Refusal::TooDeep));
+        return Err(s.refuse_for(Refusal::TooDeep));
     }
     let s1 = s.mark();
     let b = s1.len;
@@ -669,7 +670,7 @@ fn pat_arg(
     }
     let got = eat(lent.toks, scratch, finds, kind::COMMA, s2);
     let s3 = either(got);
-    Err(close(scratch, Node::PatArg, b, s3))
+    Err(close_node(scratch, Node::PatArg, b, s3))
 }
 
 // Patterns with commas, up to `end`.
@@ -746,7 +747,7 @@ fn arg_item(
     ensures { Runs left (util.end_item {g = true} SK.PatArg SK.Comma (pat.pat_must Prec.Min (err_of e))) (mem_of lent.entry table.now scratch.old finds.old s) (mem_of lent.entry table.now scratch.new finds.new (out_state result)) (out_val result) }
 {
     if left == 0 {
-        return Err(s.refuse(Refusal::TooDeep));
+        return Err(s.refuse_for(Refusal::TooDeep));
     }
     let s1 = s.mark();
     let b = s1.len;
@@ -754,9 +755,9 @@ fn arg_item(
     let s2 = pat_must(lent, table, scratch, finds, left - 1, min, e, s1);
     if at(lent.toks, kind::COMMA, s2) {
         let s3 = bump(lent.toks, scratch, s2);
-        return Ok(close(scratch, Node::PatArg, b, s3));
+        return Ok(close_node(scratch, Node::PatArg, b, s3));
     }
-    Err(close(scratch, Node::PatArg, b, s2))
+    Err(close_node(scratch, Node::PatArg, b, s2))
 }
 
 // The rows of a record pattern, up to `}`.
@@ -831,16 +832,16 @@ fn row_item(
     ensures { Runs left (util.end_item {g = true} SK.PatRow SK.Comma (pat.pat_row (err_of e))) (mem_of lent.entry table.now scratch.old finds.old s) (mem_of lent.entry table.now scratch.new finds.new (out_state result)) (out_val result) }
 {
     if left == 0 {
-        return Err(s.refuse(Refusal::TooDeep));
+        return Err(s.refuse_for(Refusal::TooDeep));
     }
     let s1 = s.mark();
     let b = s1.len;
     let s2 = row(lent, table, scratch, finds, left - 1, e, s1);
     if at(lent.toks, kind::COMMA, s2) {
         let s3 = bump(lent.toks, scratch, s2);
-        return Ok(close(scratch, Node::PatRow, b, s3));
+        return Ok(close_node(scratch, Node::PatRow, b, s3));
     }
-    Err(close(scratch, Node::PatRow, b, s2))
+    Err(close_node(scratch, Node::PatRow, b, s2))
 }
 
 // A row: `...`, a label and its pattern, or a name with what may follow it.
@@ -859,13 +860,13 @@ fn row(
     ensures { Runs left (pat.pat_row (err_of e)) (mem_of lent.entry table.now scratch.old finds.old s) (mem_of lent.entry table.now scratch.new finds.new result) 0 }
 {
     if left == 0 {
-        return s.refuse(Refusal::TooDeep);
+        return s.refuse_for(Refusal::TooDeep);
     }
     let s1 = s.mark();
     let b = s1.len;
     if at(lent.toks, kind::DOT_DOT_DOT, s1) {
         let s2 = bump(lent.toks, scratch, s1);
-        return close(scratch, Node::RestPatRow, b, s2);
+        return close_node(scratch, Node::RestPatRow, b, s2);
     }
     if at_n(lent.toks, 1, kind::EQ, s1) {
         let s2 = lab(lent.toks, scratch, finds, s1);
@@ -873,7 +874,7 @@ fn row(
         let s3 = either(got);
         let min = PatPrec::Min;
         let s4 = pat_must(lent, table, scratch, finds, left - 1, min, e, s3);
-        return close(scratch, Node::LabAndPatPatRow, b, s4);
+        return close_node(scratch, Node::LabAndPatPatRow, b, s4);
     }
     let name = eat_name_star(lent.toks, scratch, finds, s1);
     let s2 = either(name);
@@ -881,5 +882,5 @@ fn row(
     let s3 = either(ty);
     let more = as_pat_tl(lent, table, scratch, finds, left - 1, e, s3);
     let s4 = either(more);
-    close(scratch, Node::LabPatRow, b, s4)
+    close_node(scratch, Node::LabPatRow, b, s4)
 }

@@ -11,7 +11,7 @@ ghost use Rattle.pat_parts.specs.Head.{head_state, head_val};
 
 use parser::node::Node;
 use parser::refusal::Refusal;
-use parser::{Found, InfixErr, Lent, State, at, bump, close, kind};
+use parser::{Found, InfixErr, Lent, State, at, bump, close_node, kind};
 use pat_prec::{PatPrec, is_infix, reports, should_break_pat};
 use sml_fixity::Infix;
 use ty::ty_must;
@@ -84,8 +84,8 @@ pub fn con_op(
 {
     let ends = should_break_pat(lent, table, scratch, finds, op, min, s);
     match ends {
-        Ok(s1) => Head::Stop(close(scratch, Node::ConPat, b, s1)),
-        Err(s1) => Head::AtOp(close(scratch, Node::ConPat, b, s1)),
+        Ok(s1) => Head::Stop(close_node(scratch, Node::ConPat, b, s1)),
+        Err(s1) => Head::AtOp(close_node(scratch, Node::ConPat, b, s1)),
     }
 }
 
@@ -107,9 +107,9 @@ pub fn typed_step(
         return Err(s);
     }
     if left == 0 {
-        return Ok(s.refuse(Refusal::TooDeep));
+        return Ok(s.refuse_for(Refusal::TooDeep));
     }
     let s1 = bump(lent.toks, scratch, s.mark());
     let s2 = ty_must(lent, table, scratch, finds, left - 1, TyPrec::Arrow, s1);
-    Ok(close(scratch, Node::TypedPat, b, s2))
+    Ok(close_node(scratch, Node::TypedPat, b, s2))
 }

@@ -12,7 +12,7 @@ ghost use Rattle.parser.specs.Runs.{Runs, RunsIn};
 
 use parser::node::Node;
 use parser::refusal::Refusal;
-use parser::{Found, Lent, State, at, bump, close, either, kind};
+use parser::{Found, Lent, State, at, bump, close_node, either, kind};
 use util::{bump_if, path_must};
 
 // Paths, between `=`.
@@ -33,7 +33,7 @@ fn path_eqs(
     let mut s1 = s;
     loop {
         if left == 0 {
-            return s1.refuse(Refusal::TooDeep);
+            return s1.refuse_for(Refusal::TooDeep);
         }
         let s2 = s1.mark();
         let c = s2.len;
@@ -43,10 +43,10 @@ fn path_eqs(
             Ok(s3) => {
                 if at(lent.toks, kind::EQ, s3) {
                     let s4 = bump(lent.toks, scratch, s3);
-                    s1 = close(scratch, Node::PathEq, c, s4);
+                    s1 = close_node(scratch, Node::PathEq, c, s4);
                     continue;
                 }
-                return close(scratch, Node::PathEq, c, s3);
+                return close_node(scratch, Node::PathEq, c, s3);
             }
         }
     }
@@ -67,14 +67,14 @@ fn sharing_turn(
 {
     if at(lent.toks, kind::SHARING_KW, s) {
         if left == 0 {
-            return Ok(s.refuse(Refusal::TooDeep));
+            return Ok(s.refuse_for(Refusal::TooDeep));
         }
         let s1 = s.mark();
         let b = s1.len;
         let s2 = bump(lent.toks, scratch, s1);
         let s3 = bump_if(lent.toks, scratch, kind::TYPE_KW, s2);
         let s4 = path_eqs(lent, table, scratch, finds, left - 1, b, s3);
-        return Ok(close(scratch, Node::SharingTail, b, s4));
+        return Ok(close_node(scratch, Node::SharingTail, b, s4));
     }
     Err(s)
 }
@@ -138,8 +138,8 @@ pub fn bare_tail(
 {
     let more = sharings(lent, table, scratch, finds, left, b, s);
     match more {
-        Ok(s1) => Ok(close(scratch, Node::DecWithTail, b, s1)),
-        Err(s1) => Err(close(scratch, Node::DecWithTail, b, s1)),
+        Ok(s1) => Ok(close_node(scratch, Node::DecWithTail, b, s1)),
+        Err(s1) => Err(close_node(scratch, Node::DecWithTail, b, s1)),
     }
 }
 
@@ -158,5 +158,5 @@ pub fn full_tail(
 {
     let more = sharings(lent, table, scratch, finds, left, b, s);
     let s1 = either(more);
-    close(scratch, Node::DecWithTail, b, s1)
+    close_node(scratch, Node::DecWithTail, b, s1)
 }

@@ -9,7 +9,7 @@ use exp_dec::dec;
 use parser::finding::{ErrorKind, Expected};
 use parser::node::Node;
 use parser::refusal::Refusal;
-use parser::{Found, InfixErr, Lent, State, bump, close, kind, peek, report};
+use parser::{Found, InfixErr, Lent, State, bump, close_node, kind, peek, report_error};
 
 // The kinds of closing delimiters.
 fn is_closer(k: u8) -> bool
@@ -41,10 +41,10 @@ fn root_turn(
         Ok(s1) => Ok(s1),
         Err(s1) => {
             if is_closer(k) {
-                let s2 = report(finds, ErrorKind::UnmatchedClosingDelimiter, s1);
+                let s2 = report_error(finds, ErrorKind::UnmatchedClosingDelimiter, s1);
                 return Ok(bump(lent.toks, scratch, s2));
             }
-            let s2 = report(finds, ErrorKind::Expected(Expected::Item), s1);
+            let s2 = report_error(finds, ErrorKind::Expected(Expected::Item), s1);
             Ok(bump(lent.toks, scratch, s2))
         }
     }
@@ -87,10 +87,10 @@ pub fn root(
     ensures { Runs left root_def.root (mem_of lent.entry table.old scratch.old finds.old s) (mem_of lent.entry table.new scratch.new finds.new result) 0 }
 {
     if left == 0 {
-        return s.refuse(Refusal::TooDeep);
+        return s.refuse_for(Refusal::TooDeep);
     }
     let s1 = s.mark();
     let b = s1.len;
     let s2 = root_turns(lent, table, scratch, finds, left - 1, b, s1);
-    close(scratch, Node::Root, b, s2)
+    close_node(scratch, Node::Root, b, s2)
 }

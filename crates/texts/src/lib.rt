@@ -120,6 +120,6 @@ pub fn take_as(
     let len = length_of(lent.toks, s.at);
     match change(lent.text, lent.env, table, r.fixes, start, len, f) {
         Ok(t) => State { fixes: t, ..r },
-        Err(Full) => r.refuse(Refusal::NoFixity),
+        Err(Full) => r.refuse_for(Refusal::NoFixity),
     }
 }

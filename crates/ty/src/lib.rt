@@ -15,7 +15,7 @@ ghost use Rattle.parser.specs.Runs.{Always, Runs, RunsIn};
 use parser::finding::{ErrorKind, Expected};
 use parser::node::Node;
 use parser::refusal::Refusal;
-use parser::{Found, Lent, State, at, bump, close, either, kind, peek, report};
+use parser::{Found, Lent, State, at, bump, close_node, either, kind, peek, report_error};
 use ty_prec::{TyPrec, ends};
 use util::{ascription, bump_ascription, eat, lab, path_must};
 
@@ -37,7 +37,7 @@ pub fn ty_must(
     let got = ty_prec(lent, table, scratch, finds, left, min, s);
     match got {
         Ok(s1) => s1,
-        Err(s1) => report(finds, ErrorKind::Expected(Expected::Ty), s1),
+        Err(s1) => report_error(finds, ErrorKind::Expected(Expected::Ty), s1),
     }
 }
 
@@ -61,7 +61,7 @@ pub fn ty_prec(
         return Err(s);
     };
     if left == 0 {
-        return Err(s.refuse(Refusal::TooDeep));
+        return Err(s.refuse_for(Refusal::TooDeep));
     }
     let b = s.len;
     let head = ty_head(lent, table, scratch, finds, left - 1, k, b, s.mark());
@@ -89,15 +89,15 @@ fn ty_head(
 {
     if k == kind::DOT_DOT_DOT {
         let s1 = bump(lent.toks, scratch, s);
-        return Ok(close(scratch, Node::HoleTy, b, s1));
+        return Ok(close_node(scratch, Node::HoleTy, b, s1));
     }
     if k == kind::UNDERSCORE {
         let s1 = bump(lent.toks, scratch, s);
-        return Ok(close(scratch, Node::WildcardTy, b, s1));
+        return Ok(close_node(scratch, Node::WildcardTy, b, s1));
     }
     if k == kind::TY_VAR {
         let s1 = bump(lent.toks, scratch, s);
-        return Ok(close(scratch, Node::TyVarTy, b, s1));
+        return Ok(close_node(scratch, Node::TyVarTy, b, s1));
     }
     ty_inner(lent, table, scratch, finds, left, k, b, s)
 }
@@ -122,7 +122,7 @@ fn ty_inner(
     if k == kind::LCURLY {
         let s1 = bump(lent.toks, scratch, s);
         let s2 = ty_rows(lent, table, scratch, finds, left, b, s1);
-        return Ok(close(scratch, Node::RecordTy, b, s2));
+        return Ok(close_node(scratch, Node::RecordTy, b, s2));
     }
     if k == kind::LROUND {
         return ty_round(lent, table, scratch, finds, left, b, s);
@@ -130,7 +130,7 @@ fn ty_inner(
     if k == kind::NAME {
         let got = path_must(lent, table, scratch, finds, left, s);
         let s1 = either(got);
-        return Ok(close(scratch, Node::ConTy, b, s1));
+        return Ok(close_node(scratch, Node::ConTy, b, s1));
     }
     Err(s)
 }
@@ -155,11 +155,11 @@ fn ty_round(
         Err(s1) => {
             let got = path_must(lent, table, scratch, finds, left, s1);
             let s2 = either(got);
-            Ok(close(scratch, Node::ConTy, b, s2))
+            Ok(close_node(scratch, Node::ConTy, b, s2))
         }
         Ok(s1) => {
             let s2 = bump(lent.toks, scratch, s1);
-            Ok(close(scratch, Node::ParenTy, b, s2))
+            Ok(close_node(scratch, Node::ParenTy, b, s2))
         }
     }
 }
@@ -180,7 +180,7 @@ fn ty_seq(
     ensures { Runs left types.ty_seq (mem_of lent.entry table.now scratch.old finds.old s) (mem_of lent.entry table.now scratch.new finds.new (out_state result)) (out_val result) }
 {
     if left == 0 {
-        return Err(s.refuse(Refusal::TooDeep));
+        return Err(s.refuse_for(Refusal::TooDeep));
     }
     let s1 = s.mark();
     let b = s1.len;
@@ -189,7 +189,7 @@ fn ty_seq(
     match arg {
         Err(s3) => {
             let s4 = ty_args(lent, table, scratch, finds, left - 1, b, s3);
-            Err(close(scratch, Node::TySeq, b, s4))
+            Err(close_node(scratch, Node::TySeq, b, s4))
         }
         Ok(s3) => Ok(s3),
     }
@@ -210,7 +210,7 @@ fn ty_arg(
     ensures { Runs left types.ty_arg (mem_of lent.entry table.now scratch.old finds.old s) (mem_of lent.entry table.now scratch.new finds.new (out_state result)) (out_val result) }
 {
     if left == 0 {
-        return Err(s.refuse(Refusal::TooDeep));
+        return Err(s.refuse_for(Refusal::TooDeep));
     }
     let s1 = s.mark();
     let b = s1.len;
@@ -220,7 +220,7 @@ fn ty_arg(
     }
     let got = eat(lent.toks, scratch, finds, kind::COMMA, s2);
     let s3 = either(got);
-    Err(close(scratch, Node::TyArg, b, s3))
+    Err(close_node(scratch, Node::TyArg, b, s3))
 }
 
 // The arrows, stars and constructors behind a type that started at `b`.
@@ -303,11 +303,11 @@ fn ty_arrow(
     ensures { RunsIn left b (types.ty_arrow {g = false}) (mem_of lent.entry table.now scratch.old finds.old s) (mem_of lent.entry table.now scratch.new finds.new result) 0 }
 {
     if left == 0 {
-        return s.refuse(Refusal::TooDeep);
+        return s.refuse_for(Refusal::TooDeep);
     }
     let s1 = bump(lent.toks, scratch, s.mark());
     let s2 = ty_must(lent, table, scratch, finds, left - 1, TyPrec::Arrow, s1);
-    close(scratch, Node::FnTy, b, s2)
+    close_node(scratch, Node::FnTy, b, s2)
 }
 
 // The factors of a tuple type behind the first.
@@ -326,10 +326,10 @@ fn ty_tuple(
     ensures { RunsIn left b (types.ty_tuple {g = false}) (mem_of lent.entry table.now scratch.old finds.old s) (mem_of lent.entry table.now scratch.new finds.new result) 0 }
 {
     if left == 0 {
-        return s.refuse(Refusal::TooDeep);
+        return s.refuse_for(Refusal::TooDeep);
     }
     let s1 = star_tail(lent, table, scratch, finds, left - 1, b, s.mark());
-    close(scratch, Node::TupleTy, b, s1)
+    close_node(scratch, Node::TupleTy, b, s1)
 }
 
 // A constructor behind its argument.
@@ -346,11 +346,11 @@ fn ty_con(
     ensures { RunsIn left b (types.ty_con {g = false}) (mem_of lent.entry table.now scratch.old finds.old s) (mem_of lent.entry table.now scratch.new finds.new result) 0 }
 {
     if left == 0 {
-        return s.refuse(Refusal::TooDeep);
+        return s.refuse_for(Refusal::TooDeep);
     }
     let got = path_must(lent, table, scratch, finds, left - 1, s.mark());
     let s1 = either(got);
-    close(scratch, Node::OneArgConTy, b, s1)
+    close_node(scratch, Node::OneArgConTy, b, s1)
 }
 
 // The factors of a tuple type.
@@ -415,13 +415,13 @@ fn star_factor(
     ensures { Runs left types.star_factor (mem_of lent.entry table.now scratch.old finds.old s) (mem_of lent.entry table.now scratch.new finds.new result) 0 }
 {
     if left == 0 {
-        return s.refuse(Refusal::TooDeep);
+        return s.refuse_for(Refusal::TooDeep);
     }
     let s1 = s.mark();
     let b = s1.len;
     let s2 = bump(lent.toks, scratch, s1);
     let s3 = ty_must(lent, table, scratch, finds, left - 1, TyPrec::App, s2);
-    close(scratch, Node::StarTy, b, s3)
+    close_node(scratch, Node::StarTy, b, s3)
 }
 
 // The rows of a record type, up to `}`.
@@ -493,16 +493,16 @@ fn row_item(
     ensures { Runs left (util.end_item {g = true} SK.TyRow SK.Comma types.ty_row) (mem_of lent.entry table.now scratch.old finds.old s) (mem_of lent.entry table.now scratch.new finds.new (out_state result)) (out_val result) }
 {
     if left == 0 {
-        return Err(s.refuse(Refusal::TooDeep));
+        return Err(s.refuse_for(Refusal::TooDeep));
     }
     let s1 = s.mark();
     let b = s1.len;
     let s2 = ty_row(lent, table, scratch, finds, left - 1, s1);
     if at(lent.toks, kind::COMMA, s2) {
         let s3 = bump(lent.toks, scratch, s2);
-        return Ok(close(scratch, Node::TyRow, b, s3));
+        return Ok(close_node(scratch, Node::TyRow, b, s3));
     }
-    Err(close(scratch, Node::TyRow, b, s2))
+    Err(close_node(scratch, Node::TyRow, b, s2))
 }
 
 // A label and its type.
@@ -593,16 +593,16 @@ fn arg_item(
     ensures { Runs left (util.end_item {g = true} SK.TyArg SK.Comma (types.ty_must 0)) (mem_of lent.entry table.now scratch.old finds.old s) (mem_of lent.entry table.now scratch.new finds.new (out_state result)) (out_val result) }
 {
     if left == 0 {
-        return Err(s.refuse(Refusal::TooDeep));
+        return Err(s.refuse_for(Refusal::TooDeep));
     }
     let s1 = s.mark();
     let b = s1.len;
     let s2 = ty_must(lent, table, scratch, finds, left - 1, TyPrec::Arrow, s1);
     if at(lent.toks, kind::COMMA, s2) {
         let s3 = bump(lent.toks, scratch, s2);
-        return Ok(close(scratch, Node::TyArg, b, s3));
+        return Ok(close_node(scratch, Node::TyArg, b, s3));
     }
-    Err(close(scratch, Node::TyArg, b, s2))
+    Err(close_node(scratch, Node::TyArg, b, s2))
 }
 
 // `of` and a type, where they are next.
@@ -619,13 +619,13 @@ pub fn of_ty(
 {
     if at(lent.toks, kind::OF_KW, s) {
         if left == 0 {
-            return Err(s.refuse(Refusal::TooDeep));
+            return Err(s.refuse_for(Refusal::TooDeep));
         }
         let s1 = s.mark();
         let b = s1.len;
         let s2 = bump(lent.toks, scratch, s1);
         let s3 = ty_must(lent, table, scratch, finds, left - 1, TyPrec::Arrow, s2);
-        return Ok(close(scratch, Node::OfTy, b, s3));
+        return Ok(close_node(scratch, Node::OfTy, b, s3));
     }
     Err(s)
 }
@@ -647,13 +647,13 @@ pub fn ty_annotation(
     };
     if ascription(k) {
         if left == 0 {
-            return Err(s.refuse(Refusal::TooDeep));
+            return Err(s.refuse_for(Refusal::TooDeep));
         }
         let s1 = s.mark();
         let b = s1.len;
         let s2 = bump(lent.toks, scratch, s1);
         let s3 = ty_must(lent, table, scratch, finds, left - 1, TyPrec::Arrow, s2);
-        return Ok(close(scratch, Node::TyAnnotation, b, s3));
+        return Ok(close_node(scratch, Node::TyAnnotation, b, s3));
     }
     Err(s)
 }

@@ -12,7 +12,7 @@ ghost use Rattle.parser.specs.Runs.{Runs, RunsIn};
 
 use parser::node::Node;
 use parser::refusal::Refusal;
-use parser::{Found, Lent, State, at, at_n, bump, close, either, kind, peek};
+use parser::{Found, Lent, State, at, at_n, bump, close_node, either, kind, peek};
 use util::eat;
 
 // The type variables of a sequence, to its `)`.
@@ -78,7 +78,7 @@ fn var_item(
     ensures { Runs left (util.end_item {g = true} SK.TyVarArg SK.Comma (util.eat SK.TyVar)) (mem_of lent.entry table.now scratch.old finds.old s) (mem_of lent.entry table.now scratch.new finds.new (out_state result)) (out_val result) }
 {
     if left == 0 {
-        return Err(s.refuse(Refusal::TooDeep));
+        return Err(s.refuse_for(Refusal::TooDeep));
     }
     let s1 = s.mark();
     let b = s1.len;
@@ -86,9 +86,9 @@ fn var_item(
     let s2 = either(got);
     if at(lent.toks, kind::COMMA, s2) {
         let s3 = bump(lent.toks, scratch, s2);
-        Ok(close(scratch, Node::TyVarArg, b, s3))
+        Ok(close_node(scratch, Node::TyVarArg, b, s3))
     } else {
-        Err(close(scratch, Node::TyVarArg, b, s2))
+        Err(close_node(scratch, Node::TyVarArg, b, s2))
     }
 }
 
@@ -106,14 +106,14 @@ fn var_one(
     ensures { RunsIn left b (types.ty_var_one) (mem_of lent.entry table.now scratch.old finds.old s) (mem_of lent.entry table.now scratch.new finds.new (out_state result)) (out_val result) }
 {
     if left == 0 {
-        let s1 = s.refuse(Refusal::TooDeep);
-        return Ok(close(scratch, Node::TyVarSeq, b, s1));
+        let s1 = s.refuse_for(Refusal::TooDeep);
+        return Ok(close_node(scratch, Node::TyVarSeq, b, s1));
     }
     let s1 = s.mark();
     let b1 = s1.len;
     let s2 = bump(lent.toks, scratch, s1);
-    let s3 = close(scratch, Node::TyVarArg, b1, s2);
-    Ok(close(scratch, Node::TyVarSeq, b, s3))
+    let s3 = close_node(scratch, Node::TyVarArg, b1, s2);
+    Ok(close_node(scratch, Node::TyVarSeq, b, s3))
 }
 
 // Several in parentheses, in the node that started at `b`.
@@ -133,7 +133,7 @@ fn var_many(
     if at_n(lent.toks, 1, kind::TY_VAR, s) {
         let s1 = bump(lent.toks, scratch, s);
         let s2 = var_args(lent, table, scratch, finds, left, b, s1);
-        return Ok(close(scratch, Node::TyVarSeq, b, s2));
+        return Ok(close_node(scratch, Node::TyVarSeq, b, s2));
     }
     Err(s)
 }
@@ -176,7 +176,7 @@ pub fn ty_var_seq(
     ensures { Runs left (types.ty_var_seq {g = true}) (mem_of lent.entry table.now scratch.old finds.old s) (mem_of lent.entry table.now scratch.new finds.new (out_state result)) (out_val result) }
 {
     if left == 0 {
-        return Err(s.refuse(Refusal::TooDeep));
+        return Err(s.refuse_for(Refusal::TooDeep));
     }
     let s1 = s.mark();
     let b = s1.len;

@@ -12,7 +12,7 @@ use parser::finding::{ErrorKind, Expected};
 use parser::node::Node;
 use parser::refusal::Refusal;
 use parser::{
-    Found, Lent, State, at, at_n, bump, close, either, index, kind, peek, peek_n, report,
+    Found, Lent, State, at, at_n, bump, close_node, either, index, kind, peek, peek_n, report_error,
 };
 use texts::fixity_at;
 
@@ -52,7 +52,7 @@ pub fn eat(toks: &[u8], scratch: &mut [u8], finds: &mut [u8], want: u8, s: State
     if at(toks, want, s) {
         Ok(bump(toks, scratch, s))
     } else {
-        Err(report(finds, ErrorKind::Expected(Expected::Kind(want)), s))
+        Err(report_error(finds, ErrorKind::Expected(Expected::Kind(want)), s))
     }
 }
 
@@ -98,12 +98,12 @@ pub fn eat_name_star(toks: &[u8], scratch: &mut [u8], finds: &mut [u8], s: State
     ensures { Eats (util.eat_name_star {g = true}) toks.now scratch.old finds.old s scratch.new finds.new (out_state result) (out_val result) }
 {
     let Some(k) = peek(toks, s) else {
-        return Err(report(finds, ErrorKind::Expected(Expected::Kind(kind::NAME)), s));
+        return Err(report_error(finds, ErrorKind::Expected(Expected::Kind(kind::NAME)), s));
     };
     if name_star(k) {
         Ok(bump(toks, scratch, s))
     } else {
-        Err(report(finds, ErrorKind::Expected(Expected::Kind(kind::NAME)), s))
+        Err(report_error(finds, ErrorKind::Expected(Expected::Kind(kind::NAME)), s))
     }
 }
 
@@ -113,12 +113,12 @@ pub fn lab(toks: &[u8], scratch: &mut [u8], finds: &mut [u8], s: State) -> State
     ensures { Eats (util.lab {g = true}) toks.now scratch.old finds.old s scratch.new finds.new result 0 }
 {
     let Some(k) = peek(toks, s) else {
-        return report(finds, ErrorKind::Expected(Expected::Lab), s);
+        return report_error(finds, ErrorKind::Expected(Expected::Lab), s);
     };
     if label(k) {
         bump(toks, scratch, s)
     } else {
-        report(finds, ErrorKind::Expected(Expected::Lab), s)
+        report_error(finds, ErrorKind::Expected(Expected::Lab), s)
     }
 }
 
@@ -138,9 +138,9 @@ fn part_end(
 {
     if at(lent.toks, kind::DOT, s) {
         let s1 = bump(lent.toks, scratch, s);
-        Ok(close(scratch, Node::NameStarEqDot, b, s1))
+        Ok(close_node(scratch, Node::NameStarEqDot, b, s1))
     } else {
-        Err(close(scratch, Node::NameStarEqDot, b, s))
+        Err(close_node(scratch, Node::NameStarEqDot, b, s))
     }
 }
 
@@ -157,7 +157,7 @@ fn path_start(
     ensures { Runs left (util.path_start {g = true}) (mem_of lent.entry table.now scratch.old finds.old s) (mem_of lent.entry table.now scratch.new finds.new (out_state result)) (out_val result) }
 {
     if left == 0 {
-        return Err(s.refuse(Refusal::TooDeep));
+        return Err(s.refuse_for(Refusal::TooDeep));
     }
     let s1 = s.mark();
     let b = s1.len;
@@ -178,7 +178,7 @@ fn path_part(
     ensures { Runs left (util.path_part {g = true}) (mem_of lent.entry table.now scratch.old finds.old s) (mem_of lent.entry table.now scratch.new finds.new (out_state result)) (out_val result) }
 {
     if left == 0 {
-        return Err(s.refuse(Refusal::TooDeep));
+        return Err(s.refuse_for(Refusal::TooDeep));
     }
     let s1 = s.mark();
     let b = s1.len;
@@ -224,7 +224,7 @@ fn path_here(
     ensures { Runs left (util.path_here {g = true}) (mem_of lent.entry table.now scratch.old finds.old s) (mem_of lent.entry table.now scratch.new finds.new (out_state result)) (out_val result) }
 {
     if left == 0 {
-        return Err(s.refuse(Refusal::TooDeep));
+        return Err(s.refuse_for(Refusal::TooDeep));
     }
     let s1 = s.mark();
     let b = s1.len;
@@ -232,9 +232,9 @@ fn path_here(
     match start {
         Ok(s2) => {
             let s3 = path_parts(lent, table, scratch, finds, left - 1, b, s2);
-            Ok(close(scratch, Node::Path, b, s3))
+            Ok(close_node(scratch, Node::Path, b, s3))
         }
-        Err(s2) => Ok(close(scratch, Node::Path, b, s2)),
+        Err(s2) => Ok(close_node(scratch, Node::Path, b, s2)),
     }
 }
 
@@ -275,7 +275,7 @@ pub fn path_must(
     let got = path(lent, table, scratch, finds, left, s);
     match got {
         Ok(s1) => Ok(s1),
-        Err(s1) => Err(report(finds, ErrorKind::Expected(Expected::Path), s1)),
+        Err(s1) => Err(report_error(finds, ErrorKind::Expected(Expected::Path), s1)),
     }
 }
 
@@ -292,7 +292,7 @@ fn unnecessary_op(lent: Lent, table: &[u8], scratch: &mut [u8], finds: &mut [u8]
     };
     if name_star_eq(k) {
         match fixity_at(lent, table, 1, s) {
-            None => report(finds, ErrorKind::UnnecessaryOp, s),
+            None => report_error(finds, ErrorKind::UnnecessaryOp, s),
             Some(_) => s,
         }
     } else {
@@ -332,7 +332,7 @@ fn without_op(lent: Lent, table: &[u8], scratch: &mut [u8], finds: &mut [u8], s:
     if name_star_eq(k) {
         match fixity_at(lent, table, 0, s) {
             None => s,
-            Some(_) => report(finds, ErrorKind::InfixWithoutOp(index(s)), s),
+            Some(_) => report_error(finds, ErrorKind::InfixWithoutOp(index(s)), s),
         }
     } else {
         s

@@ -10,7 +10,7 @@ ghost use Rattle.parser.specs.Runs.{RunsIn};
 
 use parser::node::Node;
 use parser::refusal::Refusal;
-use parser::{Lent, State, at, bump, close, either, kind, peek};
+use parser::{Lent, State, at, bump, close_node, either, kind, peek};
 use ty::ty_must;
 use ty_parts::ty_var_seq;
 use ty_prec::TyPrec;
@@ -37,14 +37,14 @@ fn where_tail(
         let s3 = either(name);
         let s4 = want(lent.toks, scratch, finds, kind::EQ, s3);
         let s5 = ty_must(lent, table, scratch, finds, left, TyPrec::Arrow, s4);
-        return close(scratch, Node::WhereTypeSigExp, b, s5);
+        return close_node(scratch, Node::WhereTypeSigExp, b, s5);
     }
     let name = path_must(lent, table, scratch, finds, left, s);
     let s1 = either(name);
     let s2 = want(lent.toks, scratch, finds, kind::EQ, s1);
     let same = path_must(lent, table, scratch, finds, left, s2);
     let s3 = either(same);
-    close(scratch, Node::WhereSigExp, b, s3)
+    close_node(scratch, Node::WhereSigExp, b, s3)
 }
 
 // The kinds that `where` goes on at.
@@ -76,7 +76,7 @@ fn where_tails(
         };
         if where_and(k) {
             if left == 0 {
-                s1 = s1.refuse(Refusal::TooDeep);
+                s1 = s1.refuse_for(Refusal::TooDeep);
                 continue;
             }
             let s2 = s1.mark();

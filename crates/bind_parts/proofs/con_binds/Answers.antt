@@ -14,8 +14,8 @@ loop-s1-init c =
     let pre0 = c.requires in
     loop_starts pre0
 
-pub refuse-requires : goal.refuse-requires
-refuse-requires c =
+pub refuse_for-requires : goal.refuse_for-requires
+refuse_for-requires c =
     tt
 
 pub returns-then-left-eq0 : goal.returns-then-left-eq0
@@ -23,8 +23,8 @@ unfolding util.many_turn plan choose chosen hushed
 returns-then-left-eq0 c =
     let inv = c.loop-s1.invariant in
     let if1 = c.if-left-eq0.true in
-    let refuse = c.refuse.ensures in
-    loop_ends (many_turn_advances true SK.Bar SK.ConBind decl.con_bind _ _) inv (in_steps inv.ok {n = c.args.left} {b = c.args.b} (s_shut if1 refuse (λ k l. refl)))
+    let refuse_for = c.refuse_for.ensures in
+    loop_ends (many_turn_advances true SK.Bar SK.ConBind decl.con_bind _ _) inv (in_steps inv.ok {n = c.args.left} {b = c.args.b} (s_shut if1 refuse_for (λ k l. refl)))
 
 pub mark-s2-requires : goal.mark-s2-requires
 mark-s2-requires c =
@@ -58,8 +58,8 @@ bump-s4-requires c =
     let con_bind_ok = con_bind.ok in
     (con_bind_ok.reads, con_bind_ok.logs)
 
-pub close-s1-requires : goal.close-s1-requires
-close-s1-requires c =
+pub close_node-s1-requires : goal.close_node-s1-requires
+close_node-s1-requires c =
     let inv = c.loop-s1.invariant.ok in
     let mark = c.mark-s2.ensures in
     let mark_ok = ok_marks mark inv in
@@ -79,8 +79,8 @@ loop-s1-smaller c =
     let at = c.at.ensures in
     let if2 = c.if-at.true in
     let bump = c.bump-s4.ensures in
-    let close = c.close-s1.ensures in
-    loop_falls (many_turn_advances true SK.Bar SK.ConBind decl.con_bind _ _) (in_steps inv.ok {n = c.args.left} {b = c.args.b} (s_mark if1 mark (s_by _ (runs_in con_bind) (s_kind (s_true _ _ (kind_at _ _ _ _ at if2) (s_bump bump (s_close close s_end)))))))
+    let close_node = c.close_node-s1.ensures in
+    loop_falls (many_turn_advances true SK.Bar SK.ConBind decl.con_bind _ _) (in_steps inv.ok {n = c.args.left} {b = c.args.b} (s_mark if1 mark (s_by _ (runs_in con_bind) (s_kind (s_true _ _ (kind_at _ _ _ _ at if2) (s_bump bump (s_close close_node s_end)))))))
 
 pub loop-s1-preserved : goal.loop-s1-preserved
 unfolding util.many_turn plan choose chosen
@@ -92,11 +92,11 @@ loop-s1-preserved c =
     let at = c.at.ensures in
     let if2 = c.if-at.true in
     let bump = c.bump-s4.ensures in
-    let close = c.close-s1.ensures in
-    loop_goes (many_turn_advances true SK.Bar SK.ConBind decl.con_bind _ _) inv (in_steps inv.ok {n = c.args.left} {b = c.args.b} (s_mark if1 mark (s_by _ (runs_in con_bind) (s_kind (s_true _ _ (kind_at _ _ _ _ at if2) (s_bump bump (s_close close s_end)))))))
+    let close_node = c.close_node-s1.ensures in
+    loop_goes (many_turn_advances true SK.Bar SK.ConBind decl.con_bind _ _) inv (in_steps inv.ok {n = c.args.left} {b = c.args.b} (s_mark if1 mark (s_by _ (runs_in con_bind) (s_kind (s_true _ _ (kind_at _ _ _ _ at if2) (s_bump bump (s_close close_node s_end)))))))
 
-pub close-requires : goal.close-requires
-close-requires c =
+pub close_node-requires : goal.close_node-requires
+close_node-requires c =
     let inv = c.loop-s1.invariant.ok in
     let mark = c.mark-s2.ensures in
     let mark_ok = ok_marks mark inv in
@@ -113,5 +113,5 @@ returns-in-Ok c =
     let con_bind = c.in-Ok.ensures in
     let at = c.at.ensures in
     let if2 = c.if-at.false in
-    let close2 = c.close.ensures in
-    loop_ends (many_turn_advances true SK.Bar SK.ConBind decl.con_bind _ _) inv (in_steps inv.ok {n = c.args.left} {b = c.args.b} (s_mark if1 mark (s_by _ (runs_in con_bind) (s_kind (s_false _ _ (kind_off _ _ _ _ at if2) (s_close close2 s_end))))))
+    let close_node2 = c.close_node.ensures in
+    loop_ends (many_turn_advances true SK.Bar SK.ConBind decl.con_bind _ _) inv (in_steps inv.ok {n = c.args.left} {b = c.args.b} (s_mark if1 mark (s_by _ (runs_in con_bind) (s_kind (s_false _ _ (kind_off _ _ _ _ at if2) (s_close close_node2 s_end))))))

@@ -11,8 +11,8 @@ at-requires c =
     let pre0 = c.requires in
     pre0.reads
 
-pub refuse-requires : goal.refuse-requires
-refuse-requires c =
+pub refuse_for-requires : goal.refuse_for-requires
+refuse_for-requires c =
     tt
 
 pub returns-then-left-eq0 : goal.returns-then-left-eq0
@@ -22,8 +22,8 @@ returns-then-left-eq0 c =
     let at = c.at.ensures in
     let if1 = c.if-at.true in
     let if2 = c.if-left-eq0.true in
-    let refuse = c.refuse.ensures in
-    by_steps pre0 (λ b. s_kind (s_true _ _ (kind_at _ _ _ _ at if1) (s_shut if2 refuse (λ k l. refl))))
+    let refuse_for = c.refuse_for.ensures in
+    by_steps pre0 (λ b. s_kind (s_true _ _ (kind_at _ _ _ _ at if1) (s_shut if2 refuse_for (λ k l. refl))))
 
 pub mark-s1-requires : goal.mark-s1-requires
 mark-s1-requires c =
@@ -56,8 +56,8 @@ con_binds-s4-requires c =
     let bump_if_ok = ok_takes bump_if bump_ok in
     bump_if_ok
 
-pub close-requires : goal.close-requires
-close-requires c =
+pub close_node-requires : goal.close_node-requires
+close_node-requires c =
     let pre0 = c.requires in
     let mark = c.mark-s1.ensures in
     let mark_ok = ok_marks mark pre0 in
@@ -76,8 +76,8 @@ returns-then-at c =
     let bump = c.bump-s2.ensures in
     let bump_if = c.bump_if-s3.ensures in
     let con_binds = c.con_binds-s4.ensures in
-    let close = c.close.ensures in
-    by_steps pre0 (λ b. s_kind (s_true _ _ (kind_at _ _ _ _ at if1) (s_mark if2 mark (s_bump bump (s_takes _ _ _ bump_if (s_run con_binds (s_close close s_end)))))))
+    let close_node = c.close_node.ensures in
+    by_steps pre0 (λ b. s_kind (s_true _ _ (kind_at _ _ _ _ at if1) (s_mark if2 mark (s_bump bump (s_takes _ _ _ bump_if (s_run con_binds (s_close close_node s_end)))))))
 
 pub returns : goal.returns
 unfolding decl.eq_con_binds util.many_sep plan choose chosen

@@ -10,25 +10,25 @@ at-requires c =
     let pre0 = c.requires in
     pre0.reads
 
-pub report-s1-requires : goal.report-s1-requires
-report-s1-requires c =
+pub report_error-s1-requires : goal.report_error-s1-requires
+report_error-s1-requires c =
     let pre0 = c.requires in
     (pre0.holds, (let few = pre0.reads.few in let inside = pre0.reads.inside in omega arith), omega arith)
 
 pub bump-s2-requires : goal.bump-s2-requires
 bump-s2-requires c =
     let pre0 = c.requires in
-    let report = c.report-s1.ensures in
-    let report_ok = ok_tells report pre0 in
-    (report_ok.reads, report_ok.logs)
+    let report_error = c.report_error-s1.ensures in
+    let report_error_ok = ok_tells report_error pre0 in
+    (report_error_ok.reads, report_error_ok.logs)
 
 pub eat_name_star-got-requires : goal.eat_name_star-got-requires
 eat_name_star-got-requires c =
     let pre0 = c.requires in
-    let report = c.report-s1.ensures in
-    let report_ok = ok_tells report pre0 in
+    let report_error = c.report_error-s1.ensures in
+    let report_error_ok = ok_tells report_error pre0 in
     let bump = c.bump-s2.ensures in
-    let bump_ok = ok_bumps bump report_ok in
+    let bump_ok = ok_bumps bump report_error_ok in
     (bump_ok.reads, bump_ok.logs, bump_ok.holds)
 
 pub either-s3-requires : goal.either-s3-requires
@@ -41,11 +41,11 @@ returns-then-at c =
     let pre0 = c.requires in
     let at = c.at.ensures in
     let if1 = c.if-at.true in
-    let report = c.report-s1.ensures in
+    let report_error = c.report_error-s1.ensures in
     let bump = c.bump-s2.ensures in
     let eat_name_star = c.eat_name_star-got.ensures in
     let either = c.either-s3.ensures in
-    always pre0 (λ n b. s_kind (s_true _ _ (kind_at _ _ _ _ at if1) (s_report report (s_bump bump (s_eats _ _ _ (eats_settled either eat_name_star) s_end)))))
+    always pre0 (λ n b. s_kind (s_true _ _ (kind_at _ _ _ _ at if1) (s_report report_error (s_bump bump (s_eats _ _ _ (eats_settled either eat_name_star) s_end)))))
 
 pub eat_name_star-requires : goal.eat_name_star-requires
 eat_name_star-requires c =

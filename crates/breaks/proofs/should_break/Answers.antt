@@ -9,8 +9,8 @@ pub tie-requires : goal.tie-requires
 tie-requires c =
     tt
 
-pub report-requires : goal.report-requires
-report-requires c =
+pub report_error-requires : goal.report_error-requires
+report_error-requires c =
     let pre0 = c.requires in
     (pre0.holds, (let few = pre0.reads.few in let inside = pre0.reads.inside in omega arith), omega arith)
 
@@ -20,8 +20,8 @@ returns-then-tie c =
     let pre0 = c.requires in
     let tie = c.tie.ensures in
     let if1 = c.if-tie.true in
-    let report = c.report.ensures in
-    λ g. always pre0 (λ n b. s_true _ _ (test_true tie if1) (s_report report s_end))
+    let report_error = c.report_error.ensures in
+    λ g. always pre0 (λ n b. s_true _ _ (test_true tie if1) (s_report report_error s_end))
 
 pub weaker-requires : goal.weaker-requires
 weaker-requires c =

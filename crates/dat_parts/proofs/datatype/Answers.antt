@@ -61,8 +61,8 @@ pub either-s5-requires : goal.either-s5-requires
 either-s5-requires c =
     tt
 
-pub close-requires : goal.close-requires
-close-requires c =
+pub close_node-requires : goal.close_node-requires
+close_node-requires c =
     let pre1 = c.requires.1 in
     let path_must = c.path_must-got.ensures in
     let path_must_ok = path_must.ok in
@@ -82,8 +82,8 @@ returns-then-at_n c =
     let want3 = c.want-s4.ensures in
     let path_must = c.path_must-got.ensures in
     let either = c.either-s5.ensures in
-    let close = c.close.ensures in
-    in_steps pre0 (s_bump bump (s_kind (s_true _ _ (kind_at _ _ _ _ at_n if1) (s_eats _ _ _ want (s_eats _ _ _ want2 (s_eats _ _ _ want3 (s_by _ (settled either (runs_in path_must)) (s_close close s_end))))))))
+    let close_node = c.close_node.ensures in
+    in_steps pre0 (s_bump bump (s_kind (s_true _ _ (kind_at _ _ _ _ at_n if1) (s_eats _ _ _ want (s_eats _ _ _ want2 (s_eats _ _ _ want3 (s_by _ (settled either (runs_in path_must)) (s_close close_node s_end))))))))
 
 pub dat_binds-s2-requires : goal.dat_binds-s2-requires
 dat_binds-s2-requires c =
@@ -92,8 +92,8 @@ dat_binds-s2-requires c =
     let bump_ok = ok_bumps bump pre0 in
     bump_ok
 
-pub close-requires-2 : goal.close-requires-2
-close-requires-2 c =
+pub close_node-requires-2 : goal.close_node-requires-2
+close_node-requires-2 c =
     let pre1 = c.requires.1 in
     let dat_binds = c.dat_binds-s2.ensures in
     let dat_binds_ok = dat_binds.ok in
@@ -107,5 +107,5 @@ returns c =
     let at_n = c.at_n.ensures in
     let if1 = c.if-at_n.false in
     let dat_binds = c.dat_binds-s2.ensures in
-    let close2 = c.close-2.ensures in
-    in_steps pre0 (s_bump bump (s_kind (s_false _ _ (kind_off _ _ _ _ at_n if1) (s_by _ dat_binds (s_close close2 s_end)))))
+    let close_node2 = c.close_node-2.ensures in
+    in_steps pre0 (s_bump bump (s_kind (s_false _ _ (kind_off _ _ _ _ at_n if1) (s_by _ dat_binds (s_close close_node2 s_end)))))

@@ -10,8 +10,8 @@ want-s1-requires c =
     let pre0 = c.requires.0 in
     (pre0.reads, pre0.logs, pre0.holds, omega arith)
 
-pub close_kind-requires : goal.close_kind-requires
-close_kind-requires c =
+pub close-requires : goal.close-requires
+close-requires c =
     let pre0 = c.requires.0 in
     let pre1 = c.requires.1 in
     let want = c.want-s1.ensures in
@@ -23,5 +23,5 @@ unfolding decl.ended plan choose chosen
 returns c =
     let pre0 = c.requires.0 in
     let want = c.want-s1.ensures in
-    let close_kind = c.close_kind.ensures in
-    in_steps pre0 (s_eats _ _ _ want (s_close close_kind s_end))
+    let close = c.close.ensures in
+    in_steps pre0 (s_eats _ _ _ want (s_close close s_end))

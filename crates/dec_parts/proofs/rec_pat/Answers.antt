@@ -37,8 +37,8 @@ pat_prec-got-requires c =
     let pre0 = c.requires in
     pre0
 
-pub report-requires : goal.report-requires
-report-requires c =
+pub report_error-requires : goal.report_error-requires
+report_error-requires c =
     let pat_prec = c.in-Err.ensures in
     let pat_prec_ok = pat_prec.ok in
     (pat_prec_ok.holds, (let few = pat_prec_ok.reads.few in let inside = pat_prec_ok.reads.inside in omega arith), omega arith)
@@ -59,5 +59,5 @@ returns-in-Err c =
     let at = c.at.ensures in
     let if1 = c.if-at.false in
     let pat_prec = c.in-Err.ensures in
-    let report = c.report.ensures in
-    by_steps pre0 (λ b. s_kind (s_false _ _ (kind_off _ _ _ _ at if1) (s_run (runs_in pat_prec) (s_report report s_end))))
+    let report_error = c.report_error.ensures in
+    by_steps pre0 (λ b. s_kind (s_false _ _ (kind_off _ _ _ _ at if1) (s_run (runs_in pat_prec) (s_report report_error s_end))))

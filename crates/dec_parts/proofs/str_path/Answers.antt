@@ -13,8 +13,8 @@ pub either-s1-requires : goal.either-s1-requires
 either-s1-requires c =
     tt
 
-pub close-requires : goal.close-requires
-close-requires c =
+pub close_node-requires : goal.close_node-requires
+close_node-requires c =
     let pre1 = c.requires.1 in
     let path_must = c.path_must-got.ensures in
     let path_must_ok = path_must.ok in
@@ -28,5 +28,5 @@ returns c =
     let pre0 = c.requires.0 in
     let path_must = c.path_must-got.ensures in
     let either = c.either-s1.ensures in
-    let close = c.close.ensures in
-    in_steps pre0 (s_by _ (settled either (runs_in path_must)) (s_close close s_end))
+    let close_node = c.close_node.ensures in
+    in_steps pre0 (s_by _ (settled either (runs_in path_must)) (s_close close_node s_end))

@@ -16,8 +16,8 @@ use mathlib.Core.Path.{sym}
 use mathlib.Core.Bool.{true}
 use Rattle.exp_dec.proofs.+exp_dec.Goals as goal
 
-pub app-refuse-requires : goal.app-refuse-requires
-app-refuse-requires t c =
+pub app-refuse_for-requires : goal.app-refuse_for-requires
+app-refuse_for-requires t c =
     tt
 
 pub app-returns-then-left-eq0 : goal.app-returns-then-left-eq0
@@ -30,8 +30,8 @@ app-returns-then-left-eq0 t c =
     let L0 = c.args.scratch.now in
     let H0 = c.args.finds.now in
     let S0 = c.args.s in
-    let S2 = c.refuse.result in
-    in_steps {m = (mem X0 T0 N0 J0 L0 H0 S0)} {m' = (mem X0 T0 N0 J0 L0 H0 S2)} (c.requires.0) (s_shut (c.if-left-eq0.true) (c.refuse.ensures) (λ k l. refl))
+    let S2 = c.refuse_for.result in
+    in_steps {m = (mem X0 T0 N0 J0 L0 H0 S0)} {m' = (mem X0 T0 N0 J0 L0 H0 S2)} (c.requires.0) (s_shut (c.if-left-eq0.true) (c.refuse_for.ensures) (λ k l. refl))
 
 pub app-mark-s1-requires : goal.app-mark-s1-requires
 app-mark-s1-requires t c =
@@ -44,8 +44,8 @@ app-arg-s2-requires t c =
     let mark_ok = ok_marks mark pre0 in
     (omega arith, mark_ok)
 
-pub app-close-requires : goal.app-close-requires
-app-close-requires t c =
+pub app-close_node-requires : goal.app-close_node-requires
+app-close_node-requires t c =
     let pre1 = c.requires.1 in
     let arg = c.arg-s2.ensures in
     let arg_ok = arg.ok in
@@ -66,17 +66,17 @@ app-returns t c =
     let L3 = c.arg-s2.new.scratch in
     let H3 = c.arg-s2.new.finds in
     let S3 = c.arg-s2.result in
-    let L4 = c.close.new.scratch in
-    let S4 = c.close.result in
-    in_steps {m = (mem X0 T0 N0 J0 L0 H0 S0)} {m' = (mem X0 T0 N0 J3 L4 H3 S4)} (c.requires.0) (s_mark {e = (mem X0 T0 N0 J3 L4 H3 S4)} {x = X0} {t = T0} {n = N0} {j = J0} {l = L0} {h = H0} {s = S0} {s' = S2} (c.if-left-eq0.false) (c.mark-s1.ensures) (s_by {a = (mem X0 T0 N0 J0 L0 H0 S2)} {c = (mem X0 T0 N0 J3 L3 H3 S3)} {e = (mem X0 T0 N0 J3 L4 H3 S4)} _ (runs_in {a = (mem X0 T0 N0 J0 L0 H0 S2)} {c = (mem X0 T0 N0 J3 L3 H3 S3)} (c.arg-s2.ensures)) (s_close {e = (mem X0 T0 N0 J3 L4 H3 S4)} {x = X0} {t = T0} {n = N0} {j = J3} {l = L3} {h = H3} {s = S3} {s' = S4} {l' = L4} (c.close.ensures) s_end)))
+    let L4 = c.close_node.new.scratch in
+    let S4 = c.close_node.result in
+    in_steps {m = (mem X0 T0 N0 J0 L0 H0 S0)} {m' = (mem X0 T0 N0 J3 L4 H3 S4)} (c.requires.0) (s_mark {e = (mem X0 T0 N0 J3 L4 H3 S4)} {x = X0} {t = T0} {n = N0} {j = J0} {l = L0} {h = H0} {s = S0} {s' = S2} (c.if-left-eq0.false) (c.mark-s1.ensures) (s_by {a = (mem X0 T0 N0 J0 L0 H0 S2)} {c = (mem X0 T0 N0 J3 L3 H3 S3)} {e = (mem X0 T0 N0 J3 L4 H3 S4)} _ (runs_in {a = (mem X0 T0 N0 J0 L0 H0 S2)} {c = (mem X0 T0 N0 J3 L3 H3 S3)} (c.arg-s2.ensures)) (s_close {e = (mem X0 T0 N0 J3 L4 H3 S4)} {x = X0} {t = T0} {n = N0} {j = J3} {l = L3} {h = H3} {s = S3} {s' = S4} {l' = L4} (c.close_node.ensures) s_end)))
 
 pub arg-peek-requires : goal.arg-peek-requires
 arg-peek-requires t c =
     let pre0 = c.requires in
     pre0.reads
 
-pub arg-report-requires : goal.arg-report-requires
-arg-report-requires t c =
+pub arg-report_error-requires : goal.arg-report_error-requires
+arg-report_error-requires t c =
     let pre0 = c.requires in
     (pre0.holds, (let few = pre0.reads.few in let inside = pre0.reads.inside in omega arith), omega arith)
 
@@ -85,11 +85,11 @@ unfolding expr.at_exp_must expr.at_exp plan choose chosen
 arg-returns-in_default t c =
     let pre0 = c.requires in
     let peek = c.in_default.ensures in
-    let report = c.report.ensures in
-    by_steps pre0 (λ b. s_look peek (s_report report s_end))
+    let report_error = c.report_error.ensures in
+    by_steps pre0 (λ b. s_look peek (s_report report_error s_end))
 
-pub arg-refuse-requires : goal.arg-refuse-requires
-arg-refuse-requires t c =
+pub arg-refuse_for-requires : goal.arg-refuse_for-requires
+arg-refuse_for-requires t c =
     tt
 
 pub arg-returns-then-left-eq0 : goal.arg-returns-then-left-eq0
@@ -102,8 +102,8 @@ arg-returns-then-left-eq0 t c =
     let L0 = c.args.scratch.now in
     let H0 = c.args.finds.now in
     let S0 = c.args.s in
-    let S3 = c.refuse.result in
-    by_steps {m = (mem X0 T0 N0 J0 L0 H0 S0)} {m' = (mem X0 T0 N0 J0 L0 H0 S3)} (c.requires) (λ b. s_look {a = (mem X0 T0 N0 J0 L0 H0 S0)} {e = (mem X0 T0 N0 J0 L0 H0 S3)} (c.in-Some.ensures) (s_shut (c.if-left-eq0.true) (c.refuse.ensures) (λ k l. refl)))
+    let S3 = c.refuse_for.result in
+    by_steps {m = (mem X0 T0 N0 J0 L0 H0 S0)} {m' = (mem X0 T0 N0 J0 L0 H0 S3)} (c.requires) (λ b. s_look {a = (mem X0 T0 N0 J0 L0 H0 S0)} {e = (mem X0 T0 N0 J0 L0 H0 S3)} (c.in-Some.ensures) (s_shut (c.if-left-eq0.true) (c.refuse_for.ensures) (λ k l. refl)))
 
 pub arg-mark-s1-requires : goal.arg-mark-s1-requires
 arg-mark-s1-requires t c =
@@ -116,8 +116,8 @@ arg-atm-got-requires t c =
     let mark_ok = ok_marks mark pre0 in
     (omega arith, (mark_ok, small_len mark_ok))
 
-pub arg-report-requires-in-Err : goal.arg-report-requires-in-Err
-arg-report-requires-in-Err t c =
+pub arg-report_error-requires-in-Err : goal.arg-report_error-requires-in-Err
+arg-report_error-requires-in-Err t c =
     let atm = c.in-Err.ensures in
     let atm_ok = atm.ok in
     (atm_ok.holds, (let few = atm_ok.reads.few in let inside = atm_ok.reads.inside in omega arith), omega arith)
@@ -154,17 +154,17 @@ arg-returns-in-Err t c =
     let L4 = c.atm-got.new.scratch in
     let H4 = c.atm-got.new.finds in
     let S4 = c.in-Err.s2 in
-    let H5 = c.report-in-Err.new.finds in
-    let S5 = c.report-in-Err.result in
-    by_steps {m = (mem X0 T0 N0 J0 L0 H0 S0)} {m' = (mem X0 T0 N0 J4 L4 H5 S5)} (c.requires) (λ b. s_look {a = (mem X0 T0 N0 J0 L0 H0 S0)} {e = (mem X0 T0 N0 J4 L4 H5 S5)} (c.in-Some.ensures) (s_mark {e = (mem X0 T0 N0 J4 L4 H5 S5)} {x = X0} {t = T0} {n = N0} {j = J0} {l = L0} {h = H0} {s = S0} {s' = S3} (c.if-left-eq0.false) (c.mark-s1.ensures) (s_by {a = (mem X0 T0 N0 J0 L0 H0 S3)} {c = (mem X0 T0 N0 J4 L4 H4 S4)} {e = (mem X0 T0 N0 J4 L4 H5 S5)} _ (c.in-Err.ensures) (s_report {e = (mem X0 T0 N0 J4 L4 H5 S5)} {x = X0} {t = T0} {n = N0} {j = J4} {l = L4} {h = H4} {s = S4} {s' = S5} {h' = H5} (c.report-in-Err.ensures) s_end))))
+    let H5 = c.report_error-in-Err.new.finds in
+    let S5 = c.report_error-in-Err.result in
+    by_steps {m = (mem X0 T0 N0 J0 L0 H0 S0)} {m' = (mem X0 T0 N0 J4 L4 H5 S5)} (c.requires) (λ b. s_look {a = (mem X0 T0 N0 J0 L0 H0 S0)} {e = (mem X0 T0 N0 J4 L4 H5 S5)} (c.in-Some.ensures) (s_mark {e = (mem X0 T0 N0 J4 L4 H5 S5)} {x = X0} {t = T0} {n = N0} {j = J0} {l = L0} {h = H0} {s = S0} {s' = S3} (c.if-left-eq0.false) (c.mark-s1.ensures) (s_by {a = (mem X0 T0 N0 J0 L0 H0 S3)} {c = (mem X0 T0 N0 J4 L4 H4 S4)} {e = (mem X0 T0 N0 J4 L4 H5 S5)} _ (c.in-Err.ensures) (s_report {e = (mem X0 T0 N0 J4 L4 H5 S5)} {x = X0} {t = T0} {n = N0} {j = J4} {l = L4} {h = H4} {s = S4} {s' = S5} {h' = H5} (c.report_error-in-Err.ensures) s_end))))
 
 pub arm-pat_prec-got-requires : goal.arm-pat_prec-got-requires
 arm-pat_prec-got-requires t c =
     let pre0 = c.requires in
     pre0
 
-pub arm-report-s2-requires : goal.arm-report-s2-requires
-arm-report-s2-requires t c =
+pub arm-report_error-s2-requires : goal.arm-report_error-s2-requires
+arm-report_error-s2-requires t c =
     let pat_prec = c.in-Err.ensures in
     let pat_prec_ok = pat_prec.ok in
     (pat_prec_ok.holds, (let few = pat_prec_ok.reads.few in let inside = pat_prec_ok.reads.inside in omega arith), omega arith)
@@ -188,9 +188,9 @@ arm-returns-in-Err t c =
     let L1 = c.pat_prec-got.new.scratch in
     let H1 = c.pat_prec-got.new.finds in
     let S1 = c.in-Err.s1 in
-    let H2 = c.report-s2.new.finds in
-    let S2 = c.report-s2.result in
-    by_steps {m = (mem X0 T0 N0 J0 L0 H0 S0)} {m' = (mem X0 T0 N0 J0 L1 H2 S2)} (c.requires) (λ b. s_run {a = (mem X0 T0 N0 J0 L0 H0 S0)} {c = (mem X0 T0 N0 J0 L1 H1 S1)} {e = (mem X0 T0 N0 J0 L1 H2 S2)} (runs_in {a = (mem X0 T0 N0 J0 L0 H0 S0)} {c = (mem X0 T0 N0 J0 L1 H1 S1)} (c.in-Err.ensures)) (s_report {e = (mem X0 T0 N0 J0 L1 H2 S2)} {x = X0} {t = T0} {n = N0} {j = J0} {l = L1} {h = H1} {s = S1} {s' = S2} {h' = H2} (c.report-s2.ensures) s_end))
+    let H2 = c.report_error-s2.new.finds in
+    let S2 = c.report_error-s2.result in
+    by_steps {m = (mem X0 T0 N0 J0 L0 H0 S0)} {m' = (mem X0 T0 N0 J0 L1 H2 S2)} (c.requires) (λ b. s_run {a = (mem X0 T0 N0 J0 L0 H0 S0)} {c = (mem X0 T0 N0 J0 L1 H1 S1)} {e = (mem X0 T0 N0 J0 L1 H2 S2)} (runs_in {a = (mem X0 T0 N0 J0 L0 H0 S0)} {c = (mem X0 T0 N0 J0 L1 H1 S1)} (c.in-Err.ensures)) (s_report {e = (mem X0 T0 N0 J0 L1 H2 S2)} {x = X0} {t = T0} {n = N0} {j = J0} {l = L1} {h = H1} {s = S1} {s' = S2} {h' = H2} (c.report_error-s2.ensures) s_end))
 
 pub arm-returns-in-Ok : goal.arm-returns-in-Ok
 unfolding expr.arm plan choose chosen
@@ -211,8 +211,8 @@ arm-returns-in-Ok t c =
     let S2 = c.we-s2.result in
     by_steps {m = (mem X0 T0 N0 J0 L0 H0 S0)} {m' = (mem X0 T0 N0 J2 L2 H2 S2)} (c.requires) (λ b. s_run {a = (mem X0 T0 N0 J0 L0 H0 S0)} {c = (mem X0 T0 N0 J0 L1 H1 S1)} {e = (mem X0 T0 N0 J2 L2 H2 S2)} (runs_in {a = (mem X0 T0 N0 J0 L0 H0 S0)} {c = (mem X0 T0 N0 J0 L1 H1 S1)} (c.in-Ok.ensures)) (s_by {a = (mem X0 T0 N0 J0 L1 H1 S1)} {c = (mem X0 T0 N0 J2 L2 H2 S2)} {e = (mem X0 T0 N0 J2 L2 H2 S2)} _ (runs_in {a = (mem X0 T0 N0 J0 L1 H1 S1)} {c = (mem X0 T0 N0 J2 L2 H2 S2)} (c.we-s2.ensures)) s_end))
 
-pub asc-refuse-requires : goal.asc-refuse-requires
-asc-refuse-requires t c =
+pub asc-refuse_for-requires : goal.asc-refuse_for-requires
+asc-refuse_for-requires t c =
     tt
 
 pub asc-returns-then-left-eq0 : goal.asc-returns-then-left-eq0
@@ -225,8 +225,8 @@ asc-returns-then-left-eq0 t c =
     let L0 = c.args.scratch.now in
     let H0 = c.args.finds.now in
     let S0 = c.args.s in
-    let S2 = c.refuse.result in
-    by_steps {m = (mem X0 T0 N0 J0 L0 H0 S0)} {m' = (mem X0 T0 N0 J0 L0 H0 S2)} (c.requires) (λ b. s_shut (c.if-left-eq0.true) (c.refuse.ensures) (λ k l. refl))
+    let S2 = c.refuse_for.result in
+    by_steps {m = (mem X0 T0 N0 J0 L0 H0 S0)} {m' = (mem X0 T0 N0 J0 L0 H0 S2)} (c.requires) (λ b. s_shut (c.if-left-eq0.true) (c.refuse_for.ensures) (λ k l. refl))
 
 pub asc-mark-s1-requires : goal.asc-mark-s1-requires
 asc-mark-s1-requires t c =
@@ -248,8 +248,8 @@ asc-sgm-s3-requires t c =
     let bump_ok = ok_bumps bump mark_ok in
     (omega arith, bump_ok)
 
-pub asc-close-requires : goal.asc-close-requires
-asc-close-requires t c =
+pub asc-close_node-requires : goal.asc-close_node-requires
+asc-close_node-requires t c =
     let pre0 = c.requires in
     let mark = c.mark-s1.ensures in
     let mark_ok = ok_marks mark pre0 in
@@ -274,9 +274,9 @@ asc-returns t c =
     let L4 = c.sgm-s3.new.scratch in
     let H4 = c.sgm-s3.new.finds in
     let S4 = c.sgm-s3.result in
-    let L5 = c.close.new.scratch in
-    let S5 = c.close.result in
-    by_steps {m = (mem X0 T0 N0 J0 L0 H0 S0)} {m' = (mem X0 T0 N0 J4 L5 H4 S5)} (c.requires) (λ b. s_mark {e = (mem X0 T0 N0 J4 L5 H4 S5)} {x = X0} {t = T0} {n = N0} {j = J0} {l = L0} {h = H0} {s = S0} {s' = S2} (c.if-left-eq0.false) (c.mark-s1.ensures) (s_bump {e = (mem X0 T0 N0 J4 L5 H4 S5)} {x = X0} {t = T0} {n = N0} {j = J0} {l = L0} {h = H0} {s = S2} {s' = S3} {l' = L3} (c.bump-s2.ensures) (s_by {a = (mem X0 T0 N0 J0 L3 H0 S3)} {c = (mem X0 T0 N0 J4 L4 H4 S4)} {e = (mem X0 T0 N0 J4 L5 H4 S5)} _ (runs_in {a = (mem X0 T0 N0 J0 L3 H0 S3)} {c = (mem X0 T0 N0 J4 L4 H4 S4)} (c.sgm-s3.ensures)) (s_close {e = (mem X0 T0 N0 J4 L5 H4 S5)} {x = X0} {t = T0} {n = N0} {j = J4} {l = L4} {h = H4} {s = S4} {s' = S5} {l' = L5} (c.close.ensures) s_end))))
+    let L5 = c.close_node.new.scratch in
+    let S5 = c.close_node.result in
+    by_steps {m = (mem X0 T0 N0 J0 L0 H0 S0)} {m' = (mem X0 T0 N0 J4 L5 H4 S5)} (c.requires) (λ b. s_mark {e = (mem X0 T0 N0 J4 L5 H4 S5)} {x = X0} {t = T0} {n = N0} {j = J0} {l = L0} {h = H0} {s = S0} {s' = S2} (c.if-left-eq0.false) (c.mark-s1.ensures) (s_bump {e = (mem X0 T0 N0 J4 L5 H4 S5)} {x = X0} {t = T0} {n = N0} {j = J0} {l = L0} {h = H0} {s = S2} {s' = S3} {l' = L3} (c.bump-s2.ensures) (s_by {a = (mem X0 T0 N0 J0 L3 H0 S3)} {c = (mem X0 T0 N0 J4 L4 H4 S4)} {e = (mem X0 T0 N0 J4 L5 H4 S5)} _ (runs_in {a = (mem X0 T0 N0 J0 L3 H0 S3)} {c = (mem X0 T0 N0 J4 L4 H4 S4)} (c.sgm-s3.ensures)) (s_close {e = (mem X0 T0 N0 J4 L5 H4 S5)} {x = X0} {t = T0} {n = N0} {j = J4} {l = L4} {h = H4} {s = S4} {s' = S5} {l' = L5} (c.close_node.ensures) s_end))))
 
 pub aso-peek-requires : goal.aso-peek-requires
 aso-peek-requires t c =
@@ -490,8 +490,8 @@ bd-mny-s1-requires t c =
     let pre0 = c.requires.0 in
     (omega arith, pre0)
 
-pub bd-close-requires : goal.bd-close-requires
-bd-close-requires t c =
+pub bd-close_node-requires : goal.bd-close_node-requires
+bd-close_node-requires t c =
     let pre1 = c.requires.1 in
     let mny = c.mny-s1.ensures in
     let mny_ok = mny.ok in
@@ -511,9 +511,9 @@ bd-returns t c =
     let L1 = c.mny-s1.new.scratch in
     let H1 = c.mny-s1.new.finds in
     let S1 = c.mny-s1.result in
-    let L2 = c.close.new.scratch in
-    let S2 = c.close.result in
-    in_steps {m = (mem X0 T0 N0 J0 L0 H0 S0)} {m' = (mem X0 T0 N0 J1 L2 H1 S2)} (c.requires.0) (s_run {a = (mem X0 T0 N0 J0 L0 H0 S0)} {c = (mem X0 T0 N0 J1 L1 H1 S1)} {e = (mem X0 T0 N0 J1 L2 H1 S2)} (c.mny-s1.ensures) (s_close {e = (mem X0 T0 N0 J1 L2 H1 S2)} {x = X0} {t = T0} {n = N0} {j = J1} {l = L1} {h = H1} {s = S1} {s' = S2} {l' = L2} (c.close.ensures) s_end))
+    let L2 = c.close_node.new.scratch in
+    let S2 = c.close_node.result in
+    in_steps {m = (mem X0 T0 N0 J0 L0 H0 S0)} {m' = (mem X0 T0 N0 J1 L2 H1 S2)} (c.requires.0) (s_run {a = (mem X0 T0 N0 J0 L0 H0 S0)} {c = (mem X0 T0 N0 J1 L1 H1 S1)} {e = (mem X0 T0 N0 J1 L2 H1 S2)} (c.mny-s1.ensures) (s_close {e = (mem X0 T0 N0 J1 L2 H1 S2)} {x = X0} {t = T0} {n = N0} {j = J1} {l = L1} {h = H1} {s = S1} {s' = S2} {l' = L2} (c.close_node.ensures) s_end))
 
 pub bdy-dec-got-requires : goal.bdy-dec-got-requires
 bdy-dec-got-requires t c =
@@ -603,8 +603,8 @@ cl-sep-s1-requires t c =
     let pre0 = c.requires.0 in
     (omega arith, (pre0, omega arith))
 
-pub cl-close-requires : goal.cl-close-requires
-cl-close-requires t c =
+pub cl-close_node-requires : goal.cl-close_node-requires
+cl-close_node-requires t c =
     let pre1 = c.requires.1 in
     let sep = c.sep-s1.ensures in
     let sep_ok = sep.ok in
@@ -624,9 +624,9 @@ cl-returns t c =
     let L1 = c.sep-s1.new.scratch in
     let H1 = c.sep-s1.new.finds in
     let S1 = c.sep-s1.result in
-    let L2 = c.close.new.scratch in
-    let S2 = c.close.result in
-    in_steps {m = (mem X0 T0 N0 J0 L0 H0 S0)} {m' = (mem X0 T0 N0 J1 L2 H1 S2)} (c.requires.0) (s_run {a = (mem X0 T0 N0 J0 L0 H0 S0)} {c = (mem X0 T0 N0 J1 L1 H1 S1)} {e = (mem X0 T0 N0 J1 L2 H1 S2)} (c.sep-s1.ensures) (s_close {e = (mem X0 T0 N0 J1 L2 H1 S2)} {x = X0} {t = T0} {n = N0} {j = J1} {l = L1} {h = H1} {s = S1} {s' = S2} {l' = L2} (c.close.ensures) s_end))
+    let L2 = c.close_node.new.scratch in
+    let S2 = c.close_node.result in
+    in_steps {m = (mem X0 T0 N0 J0 L0 H0 S0)} {m' = (mem X0 T0 N0 J1 L2 H1 S2)} (c.requires.0) (s_run {a = (mem X0 T0 N0 J0 L0 H0 S0)} {c = (mem X0 T0 N0 J1 L1 H1 S1)} {e = (mem X0 T0 N0 J1 L2 H1 S2)} (c.sep-s1.ensures) (s_close {e = (mem X0 T0 N0 J1 L2 H1 S2)} {x = X0} {t = T0} {n = N0} {j = J1} {l = L1} {h = H1} {s = S1} {s' = S2} {l' = L2} (c.close_node.ensures) s_end))
 
 pub cor-bump_vars-s1-requires : goal.cor-bump_vars-s1-requires
 cor-bump_vars-s1-requires t c =
@@ -733,8 +733,8 @@ cor-exp-s2-requires t c =
     let bump2_ok = ok_bumps bump2 pre0 in
     (omega arith, bump2_ok)
 
-pub cor-close-requires : goal.cor-close-requires
-cor-close-requires t c =
+pub cor-close_node-requires : goal.cor-close_node-requires
+cor-close_node-requires t c =
     let pre1 = c.requires.1 in
     let exp = c.exp-s2.ensures in
     let exp_ok = exp.ok in
@@ -756,9 +756,9 @@ cor-returns-then-k-eq-DO_KW t c =
     let L6 = c.exp-s2.new.scratch in
     let H6 = c.exp-s2.new.finds in
     let S6 = c.exp-s2.result in
-    let L7 = c.close.new.scratch in
-    let S7 = c.close.result in
-    in_steps {m = (mem X0 T0 N0 J0 L0 H0 S0)} {m' = (mem X0 T0 N0 J6 L7 H6 S7)} (c.requires.0) (s_false {a = (mem X0 T0 N0 J0 L0 H0 S0)} {e = (mem X0 T0 N0 J6 L7 H6 S7)} _ _ (kind_not (c.if-k-eq-VAL_KW.false)) (s_false {a = (mem X0 T0 N0 J0 L0 H0 S0)} {e = (mem X0 T0 N0 J6 L7 H6 S7)} _ _ (kind_not (c.if-k-eq-FUN_KW.false)) (s_false {a = (mem X0 T0 N0 J0 L0 H0 S0)} {e = (mem X0 T0 N0 J6 L7 H6 S7)} _ _ (kind_not (c.if-k-eq-EXCEPTION_KW.false)) (s_true {a = (mem X0 T0 N0 J0 L0 H0 S0)} {e = (mem X0 T0 N0 J6 L7 H6 S7)} _ _ (kind_is (c.if-k-eq-DO_KW.true)) (s_bump {e = (mem X0 T0 N0 J6 L7 H6 S7)} {x = X0} {t = T0} {n = N0} {j = J0} {l = L0} {h = H0} {s = S0} {s' = S5} {l' = L5} (c.bump-s1-then-k-eq-DO_KW.ensures) (s_by {a = (mem X0 T0 N0 J0 L5 H0 S5)} {c = (mem X0 T0 N0 J6 L6 H6 S6)} {e = (mem X0 T0 N0 J6 L7 H6 S7)} _ (runs_in {a = (mem X0 T0 N0 J0 L5 H0 S5)} {c = (mem X0 T0 N0 J6 L6 H6 S6)} (c.exp-s2.ensures)) (s_close {e = (mem X0 T0 N0 J6 L7 H6 S7)} {x = X0} {t = T0} {n = N0} {j = J6} {l = L6} {h = H6} {s = S6} {s' = S7} {l' = L7} (c.close.ensures) s_end)))))))
+    let L7 = c.close_node.new.scratch in
+    let S7 = c.close_node.result in
+    in_steps {m = (mem X0 T0 N0 J0 L0 H0 S0)} {m' = (mem X0 T0 N0 J6 L7 H6 S7)} (c.requires.0) (s_false {a = (mem X0 T0 N0 J0 L0 H0 S0)} {e = (mem X0 T0 N0 J6 L7 H6 S7)} _ _ (kind_not (c.if-k-eq-VAL_KW.false)) (s_false {a = (mem X0 T0 N0 J0 L0 H0 S0)} {e = (mem X0 T0 N0 J6 L7 H6 S7)} _ _ (kind_not (c.if-k-eq-FUN_KW.false)) (s_false {a = (mem X0 T0 N0 J0 L0 H0 S0)} {e = (mem X0 T0 N0 J6 L7 H6 S7)} _ _ (kind_not (c.if-k-eq-EXCEPTION_KW.false)) (s_true {a = (mem X0 T0 N0 J0 L0 H0 S0)} {e = (mem X0 T0 N0 J6 L7 H6 S7)} _ _ (kind_is (c.if-k-eq-DO_KW.true)) (s_bump {e = (mem X0 T0 N0 J6 L7 H6 S7)} {x = X0} {t = T0} {n = N0} {j = J0} {l = L0} {h = H0} {s = S0} {s' = S5} {l' = L5} (c.bump-s1-then-k-eq-DO_KW.ensures) (s_by {a = (mem X0 T0 N0 J0 L5 H0 S5)} {c = (mem X0 T0 N0 J6 L6 H6 S6)} {e = (mem X0 T0 N0 J6 L7 H6 S7)} _ (runs_in {a = (mem X0 T0 N0 J0 L5 H0 S5)} {c = (mem X0 T0 N0 J6 L6 H6 S6)} (c.exp-s2.ensures)) (s_close {e = (mem X0 T0 N0 J6 L7 H6 S7)} {x = X0} {t = T0} {n = N0} {j = J6} {l = L6} {h = H6} {s = S6} {s' = S7} {l' = L7} (c.close_node.ensures) s_end)))))))
 
 pub cor-mds-requires : goal.cor-mds-requires
 cor-mds-requires t c =
@@ -875,8 +875,8 @@ dec-returns-in-Ok t c =
     let S2 = c.seq-s2.result in
     by_steps {m = (mem X0 T0 N0 J0 L0 H0 S0)} {m' = (mem X0 T0 N0 J2 L2 H2 S2)} (c.requires) (λ b. s_rule {a = (mem X0 T0 N0 J0 L0 H0 S0)} {e = (mem X0 T0 N0 J2 L2 H2 S2)} (s_by {a = (mem X0 T0 N0 J0 L0 H0 S0)} {c = (mem X0 T0 N0 J1 L1 H1 S1)} {e = (mem X0 T0 N0 J2 L2 H2 S2)} _ (runs_in {a = (mem X0 T0 N0 J0 L0 H0 S0)} {c = (mem X0 T0 N0 J1 L1 H1 S1)} ((c.in-Ok.ensures) _)) (s_run {a = (mem X0 T0 N0 J1 L1 H1 S1)} {c = (mem X0 T0 N0 J2 L2 H2 S2)} {e = (mem X0 T0 N0 J2 L2 H2 S2)} ((c.seq-s2.ensures) _) s_end)))
 
-pub end-refuse-requires : goal.end-refuse-requires
-end-refuse-requires t c =
+pub end-refuse_for-requires : goal.end-refuse_for-requires
+end-refuse_for-requires t c =
     tt
 
 pub end-returns-then-left-eq0 : goal.end-returns-then-left-eq0
@@ -889,8 +889,8 @@ end-returns-then-left-eq0 t c =
     let L0 = c.args.scratch.now in
     let H0 = c.args.finds.now in
     let S0 = c.args.s in
-    let S2 = c.refuse.result in
-    in_steps {m = (mem X0 T0 N0 J0 L0 H0 S0)} {m' = (mem X0 T0 N0 J0 L0 H0 S2)} (c.requires.0) (s_shut (c.if-left-eq0.true) (c.refuse.ensures) (λ k l. refl))
+    let S2 = c.refuse_for.result in
+    in_steps {m = (mem X0 T0 N0 J0 L0 H0 S0)} {m' = (mem X0 T0 N0 J0 L0 H0 S2)} (c.requires.0) (s_shut (c.if-left-eq0.true) (c.refuse_for.ensures) (λ k l. refl))
 
 pub end-mark-s1-requires : goal.end-mark-s1-requires
 end-mark-s1-requires t c =
@@ -916,8 +916,8 @@ pub end-either-s3-requires : goal.end-either-s3-requires
 end-either-s3-requires t c =
     tt
 
-pub end-close-s4-requires : goal.end-close-s4-requires
-end-close-s4-requires t c =
+pub end-close_node-s4-requires : goal.end-close_node-s4-requires
+end-close_node-s4-requires t c =
     let pre0 = c.requires.0 in
     let mark = c.mark-s1.ensures in
     let mark_ok = ok_marks mark pre0 in
@@ -934,9 +934,9 @@ end-end_node-end-requires t c =
     let dec_ok = dec.ok in
     let either = c.either-s3.ensures in
     let either_ok = ok_state either dec_ok in
-    let close = c.close-s4.ensures in
-    let close_ok = ok_adds close either_ok in
-    (close_ok, pre1, omega arith)
+    let close_node = c.close_node-s4.ensures in
+    let close_node_ok = ok_adds close_node either_ok in
+    (close_node_ok, pre1, omega arith)
 
 pub end-returns : goal.end-returns
 unfolding decl.local_tail plan choose chosen
@@ -957,20 +957,20 @@ end-returns t c =
     let H4 = c.dec-got.new.finds in
     let S4 = out_state c.dec-got.result in
     let S5 = c.either-s3.result in
-    let L6 = c.close-s4.new.scratch in
-    let S6 = c.close-s4.result in
+    let L6 = c.close_node-s4.new.scratch in
+    let S6 = c.close_node-s4.result in
     let L7 = c.end_node-end.new.scratch in
     let H7 = c.end_node-end.new.finds in
     let S7 = c.end_node-end.result in
-    in_steps {m = (mem X0 T0 N0 J0 L0 H0 S0)} {m' = (mem X0 T0 N0 J4 L7 H7 S7)} (c.requires.0) (s_mark {e = (mem X0 T0 N0 J4 L7 H7 S7)} {x = X0} {t = T0} {n = N0} {j = J0} {l = L0} {h = H0} {s = S0} {s' = S2} (c.if-left-eq0.false) (c.mark-s1.ensures) (s_eats _ _ {x = X0} {t = T0} {n = N0} {j = J0} {l = L0} {h = H0} {l' = L3} {s = S2} {s' = S3} {e = (mem X0 T0 N0 J4 L7 H7 S7)} _ {h' = H3} (c.want-s2.ensures) (s_run {a = (mem X0 T0 N0 J0 L3 H3 S3)} {c = (mem X0 T0 N0 J4 L4 H4 S5)} {e = (mem X0 T0 N0 J4 L7 H7 S7)} (settled (c.either-s3.ensures) (runs_in {a = (mem X0 T0 N0 J0 L3 H3 S3)} {c = (mem X0 T0 N0 J4 L4 H4 S4)} (c.dec-got.ensures))) (s_close {e = (mem X0 T0 N0 J4 L7 H7 S7)} {x = X0} {t = T0} {n = N0} {j = J4} {l = L4} {h = H4} {s = S5} {s' = S6} {l' = L6} (c.close-s4.ensures) (s_by {a = (mem X0 T0 N0 J4 L6 H4 S6)} {c = (mem X0 T0 N0 J4 L7 H7 S7)} {e = (mem X0 T0 N0 J4 L7 H7 S7)} _ (c.end_node-end.ensures) s_end)))))
+    in_steps {m = (mem X0 T0 N0 J0 L0 H0 S0)} {m' = (mem X0 T0 N0 J4 L7 H7 S7)} (c.requires.0) (s_mark {e = (mem X0 T0 N0 J4 L7 H7 S7)} {x = X0} {t = T0} {n = N0} {j = J0} {l = L0} {h = H0} {s = S0} {s' = S2} (c.if-left-eq0.false) (c.mark-s1.ensures) (s_eats _ _ {x = X0} {t = T0} {n = N0} {j = J0} {l = L0} {h = H0} {l' = L3} {s = S2} {s' = S3} {e = (mem X0 T0 N0 J4 L7 H7 S7)} _ {h' = H3} (c.want-s2.ensures) (s_run {a = (mem X0 T0 N0 J0 L3 H3 S3)} {c = (mem X0 T0 N0 J4 L4 H4 S5)} {e = (mem X0 T0 N0 J4 L7 H7 S7)} (settled (c.either-s3.ensures) (runs_in {a = (mem X0 T0 N0 J0 L3 H3 S3)} {c = (mem X0 T0 N0 J4 L4 H4 S4)} (c.dec-got.ensures))) (s_close {e = (mem X0 T0 N0 J4 L7 H7 S7)} {x = X0} {t = T0} {n = N0} {j = J4} {l = L4} {h = H4} {s = S5} {s' = S6} {l' = L6} (c.close_node-s4.ensures) (s_by {a = (mem X0 T0 N0 J4 L6 H4 S6)} {c = (mem X0 T0 N0 J4 L7 H7 S7)} {e = (mem X0 T0 N0 J4 L7 H7 S7)} _ (c.end_node-end.ensures) s_end)))))
 
 pub eq-at-requires : goal.eq-at-requires
 eq-at-requires t c =
     let pre0 = c.requires in
     pre0.reads
 
-pub eq-refuse-requires : goal.eq-refuse-requires
-eq-refuse-requires t c =
+pub eq-refuse_for-requires : goal.eq-refuse_for-requires
+eq-refuse_for-requires t c =
     tt
 
 pub eq-returns-then-left-eq0 : goal.eq-returns-then-left-eq0
@@ -983,8 +983,8 @@ eq-returns-then-left-eq0 t c =
     let L0 = c.args.scratch.now in
     let H0 = c.args.finds.now in
     let S0 = c.args.s in
-    let S4 = c.refuse.result in
-    by_steps {m = (mem X0 T0 N0 J0 L0 H0 S0)} {m' = (mem X0 T0 N0 J0 L0 H0 S4)} (c.requires) (λ b. s_kind {a = (mem X0 T0 N0 J0 L0 H0 S0)} {e = (mem X0 T0 N0 J0 L0 H0 S4)} (s_true {a = (mem X0 T0 N0 J0 L0 H0 S0)} {e = (mem X0 T0 N0 J0 L0 H0 S4)} _ _ (kind_at _ _ (mem X0 T0 N0 J0 L0 H0 S0) _ (c.at.ensures) (c.if-at.true)) (s_shut (c.if-left-eq0.true) (c.refuse.ensures) (λ k l. refl))))
+    let S4 = c.refuse_for.result in
+    by_steps {m = (mem X0 T0 N0 J0 L0 H0 S0)} {m' = (mem X0 T0 N0 J0 L0 H0 S4)} (c.requires) (λ b. s_kind {a = (mem X0 T0 N0 J0 L0 H0 S0)} {e = (mem X0 T0 N0 J0 L0 H0 S4)} (s_true {a = (mem X0 T0 N0 J0 L0 H0 S0)} {e = (mem X0 T0 N0 J0 L0 H0 S4)} _ _ (kind_at _ _ (mem X0 T0 N0 J0 L0 H0 S0) _ (c.at.ensures) (c.if-at.true)) (s_shut (c.if-left-eq0.true) (c.refuse_for.ensures) (λ k l. refl))))
 
 pub eq-mark-s1-requires : goal.eq-mark-s1-requires
 eq-mark-s1-requires t c =
@@ -1006,8 +1006,8 @@ eq-exp-s3-requires t c =
     let bump_ok = ok_bumps bump mark_ok in
     (omega arith, bump_ok)
 
-pub eq-close-requires : goal.eq-close-requires
-eq-close-requires t c =
+pub eq-close_node-requires : goal.eq-close_node-requires
+eq-close_node-requires t c =
     let pre0 = c.requires in
     let mark = c.mark-s1.ensures in
     let mark_ok = ok_marks mark pre0 in
@@ -1032,9 +1032,9 @@ eq-returns-then-at t c =
     let L6 = c.exp-s3.new.scratch in
     let H6 = c.exp-s3.new.finds in
     let S6 = c.exp-s3.result in
-    let L7 = c.close.new.scratch in
-    let S7 = c.close.result in
-    by_steps {m = (mem X0 T0 N0 J0 L0 H0 S0)} {m' = (mem X0 T0 N0 J6 L7 H6 S7)} (c.requires) (λ b. s_kind {a = (mem X0 T0 N0 J0 L0 H0 S0)} {e = (mem X0 T0 N0 J6 L7 H6 S7)} (s_true {a = (mem X0 T0 N0 J0 L0 H0 S0)} {e = (mem X0 T0 N0 J6 L7 H6 S7)} _ _ (kind_at _ _ (mem X0 T0 N0 J0 L0 H0 S0) _ (c.at.ensures) (c.if-at.true)) (s_mark {e = (mem X0 T0 N0 J6 L7 H6 S7)} {x = X0} {t = T0} {n = N0} {j = J0} {l = L0} {h = H0} {s = S0} {s' = S4} (c.if-left-eq0.false) (c.mark-s1.ensures) (s_bump {e = (mem X0 T0 N0 J6 L7 H6 S7)} {x = X0} {t = T0} {n = N0} {j = J0} {l = L0} {h = H0} {s = S4} {s' = S5} {l' = L5} (c.bump-s2.ensures) (s_by {a = (mem X0 T0 N0 J0 L5 H0 S5)} {c = (mem X0 T0 N0 J6 L6 H6 S6)} {e = (mem X0 T0 N0 J6 L7 H6 S7)} _ (runs_in {a = (mem X0 T0 N0 J0 L5 H0 S5)} {c = (mem X0 T0 N0 J6 L6 H6 S6)} (c.exp-s3.ensures)) (s_close {e = (mem X0 T0 N0 J6 L7 H6 S7)} {x = X0} {t = T0} {n = N0} {j = J6} {l = L6} {h = H6} {s = S6} {s' = S7} {l' = L7} (c.close.ensures) s_end))))))
+    let L7 = c.close_node.new.scratch in
+    let S7 = c.close_node.result in
+    by_steps {m = (mem X0 T0 N0 J0 L0 H0 S0)} {m' = (mem X0 T0 N0 J6 L7 H6 S7)} (c.requires) (λ b. s_kind {a = (mem X0 T0 N0 J0 L0 H0 S0)} {e = (mem X0 T0 N0 J6 L7 H6 S7)} (s_true {a = (mem X0 T0 N0 J0 L0 H0 S0)} {e = (mem X0 T0 N0 J6 L7 H6 S7)} _ _ (kind_at _ _ (mem X0 T0 N0 J0 L0 H0 S0) _ (c.at.ensures) (c.if-at.true)) (s_mark {e = (mem X0 T0 N0 J6 L7 H6 S7)} {x = X0} {t = T0} {n = N0} {j = J0} {l = L0} {h = H0} {s = S0} {s' = S4} (c.if-left-eq0.false) (c.mark-s1.ensures) (s_bump {e = (mem X0 T0 N0 J6 L7 H6 S7)} {x = X0} {t = T0} {n = N0} {j = J0} {l = L0} {h = H0} {s = S4} {s' = S5} {l' = L5} (c.bump-s2.ensures) (s_by {a = (mem X0 T0 N0 J0 L5 H0 S5)} {c = (mem X0 T0 N0 J6 L6 H6 S6)} {e = (mem X0 T0 N0 J6 L7 H6 S7)} _ (runs_in {a = (mem X0 T0 N0 J0 L5 H0 S5)} {c = (mem X0 T0 N0 J6 L6 H6 S6)} (c.exp-s3.ensures)) (s_close {e = (mem X0 T0 N0 J6 L7 H6 S7)} {x = X0} {t = T0} {n = N0} {j = J6} {l = L6} {h = H6} {s = S6} {s' = S7} {l' = L7} (c.close_node.ensures) s_end))))))
 
 pub eq-returns : goal.eq-returns
 unfolding expr.eq_exp plan choose chosen
@@ -1125,8 +1125,8 @@ exp-pre-got-requires t c =
     let pre0 = c.requires in
     (omega arith, pre0)
 
-pub exp-report-requires : goal.exp-report-requires
-exp-report-requires t c =
+pub exp-report_error-requires : goal.exp-report_error-requires
+exp-report_error-requires t c =
     let pre = c.in-Err.ensures in
     let pre_ok = pre.ok in
     (pre_ok.holds, (let few = pre_ok.reads.few in let inside = pre_ok.reads.inside in omega arith), omega arith)
@@ -1161,17 +1161,17 @@ exp-returns-in-Err t c =
     let L1 = c.pre-got.new.scratch in
     let H1 = c.pre-got.new.finds in
     let S1 = c.in-Err.s1 in
-    let H2 = c.report.new.finds in
-    let S2 = c.report.result in
-    by_steps {m = (mem X0 T0 N0 J0 L0 H0 S0)} {m' = (mem X0 T0 N0 J1 L1 H2 S2)} (c.requires) (λ b. s_run {a = (mem X0 T0 N0 J0 L0 H0 S0)} {c = (mem X0 T0 N0 J1 L1 H1 S1)} {e = (mem X0 T0 N0 J1 L1 H2 S2)} (runs_in {a = (mem X0 T0 N0 J0 L0 H0 S0)} {c = (mem X0 T0 N0 J1 L1 H1 S1)} (c.in-Err.ensures)) (s_report {e = (mem X0 T0 N0 J1 L1 H2 S2)} {x = X0} {t = T0} {n = N0} {j = J1} {l = L1} {h = H1} {s = S1} {s' = S2} {h' = H2} (c.report.ensures) s_end))
+    let H2 = c.report_error.new.finds in
+    let S2 = c.report_error.result in
+    by_steps {m = (mem X0 T0 N0 J0 L0 H0 S0)} {m' = (mem X0 T0 N0 J1 L1 H2 S2)} (c.requires) (λ b. s_run {a = (mem X0 T0 N0 J0 L0 H0 S0)} {c = (mem X0 T0 N0 J1 L1 H1 S1)} {e = (mem X0 T0 N0 J1 L1 H2 S2)} (runs_in {a = (mem X0 T0 N0 J0 L0 H0 S0)} {c = (mem X0 T0 N0 J1 L1 H1 S1)} (c.in-Err.ensures)) (s_report {e = (mem X0 T0 N0 J1 L1 H2 S2)} {x = X0} {t = T0} {n = N0} {j = J1} {l = L1} {h = H1} {s = S1} {s' = S2} {h' = H2} (c.report_error.ensures) s_end))
 
 pub fap-app_start-s1-requires : goal.fap-app_start-s1-requires
 fap-app_start-s1-requires t c =
     let pre0 = c.requires.0 in
     pre0
 
-pub fap-refuse-requires : goal.fap-refuse-requires
-fap-refuse-requires t c =
+pub fap-refuse_for-requires : goal.fap-refuse_for-requires
+fap-refuse_for-requires t c =
     tt
 
 pub fap-returns-then-left-eq0 : goal.fap-returns-then-left-eq0
@@ -1187,8 +1187,8 @@ fap-returns-then-left-eq0 t c =
     let L1 = c.app_start-s1.new.scratch in
     let H1 = c.app_start-s1.new.finds in
     let S1 = c.app_start-s1.result in
-    let S3 = c.refuse.result in
-    in_steps {m = (mem X0 T0 N0 J0 L0 H0 S0)} {m' = (mem X0 T0 N0 J0 L1 H1 S3)} (c.requires.0) (s_by {a = (mem X0 T0 N0 J0 L0 H0 S0)} {c = (mem X0 T0 N0 J0 L1 H1 S1)} {e = (mem X0 T0 N0 J0 L1 H1 S3)} _ (runs_in {a = (mem X0 T0 N0 J0 L0 H0 S0)} {c = (mem X0 T0 N0 J0 L1 H1 S1)} (c.app_start-s1.ensures)) (s_shut (c.if-left-eq0.true) (c.refuse.ensures) (λ k l. refl)))
+    let S3 = c.refuse_for.result in
+    in_steps {m = (mem X0 T0 N0 J0 L0 H0 S0)} {m' = (mem X0 T0 N0 J0 L1 H1 S3)} (c.requires.0) (s_by {a = (mem X0 T0 N0 J0 L0 H0 S0)} {c = (mem X0 T0 N0 J0 L1 H1 S1)} {e = (mem X0 T0 N0 J0 L1 H1 S3)} _ (runs_in {a = (mem X0 T0 N0 J0 L0 H0 S0)} {c = (mem X0 T0 N0 J0 L1 H1 S1)} (c.app_start-s1.ensures)) (s_shut (c.if-left-eq0.true) (c.refuse_for.ensures) (λ k l. refl)))
 
 pub fap-mark-s2-requires : goal.fap-mark-s2-requires
 fap-mark-s2-requires t c =
@@ -1202,8 +1202,8 @@ fap-stx-found-requires t c =
     let mark_ok = ok_marks mark app_start_ok in
     (omega arith, mark_ok)
 
-pub fap-close-s4-requires : goal.fap-close-s4-requires
-fap-close-s4-requires t c =
+pub fap-close_node-s4-requires : goal.fap-close_node-s4-requires
+fap-close_node-s4-requires t c =
     let app_start = c.app_start-s1.ensures in
     let app_start_ok = app_start.ok in
     let mark = c.mark-s2.ensures in
@@ -1217,9 +1217,9 @@ fap-end_node-end-requires t c =
     let pre1 = c.requires.1 in
     let stx = c.in-Ok.ensures in
     let stx_ok = stx.ok in
-    let close = c.close-s4.ensures in
-    let close_ok = ok_adds close stx_ok in
-    (close_ok, pre1, omega arith)
+    let close_node = c.close_node-s4.ensures in
+    let close_node_ok = ok_adds close_node stx_ok in
+    (close_node_ok, pre1, omega arith)
 
 pub fap-dec-got-requires : goal.fap-dec-got-requires
 fap-dec-got-requires t c =
@@ -1264,12 +1264,12 @@ fap-returns-in-Ok t c =
     let L4 = c.stx-found.new.scratch in
     let H4 = c.stx-found.new.finds in
     let S4 = c.in-Ok.s3 in
-    let L5 = c.close-s4.new.scratch in
-    let S5 = c.close-s4.result in
+    let L5 = c.close_node-s4.new.scratch in
+    let S5 = c.close_node-s4.result in
     let L6 = c.end_node-end.new.scratch in
     let H6 = c.end_node-end.new.finds in
     let S6 = c.end_node-end.result in
-    in_steps {m = (mem X0 T0 N0 J0 L0 H0 S0)} {m' = (mem X0 T0 N0 J4 L6 H6 S6)} (c.requires.0) (s_by {a = (mem X0 T0 N0 J0 L0 H0 S0)} {c = (mem X0 T0 N0 J0 L1 H1 S1)} {e = (mem X0 T0 N0 J4 L6 H6 S6)} _ (runs_in {a = (mem X0 T0 N0 J0 L0 H0 S0)} {c = (mem X0 T0 N0 J0 L1 H1 S1)} (c.app_start-s1.ensures)) (s_mark {e = (mem X0 T0 N0 J4 L6 H6 S6)} {x = X0} {t = T0} {n = N0} {j = J0} {l = L1} {h = H1} {s = S1} {s' = S3} (c.if-left-eq0.false) (c.mark-s2.ensures) (s_run {a = (mem X0 T0 N0 J0 L1 H1 S3)} {c = (mem X0 T0 N0 J4 L4 H4 S4)} {e = (mem X0 T0 N0 J4 L6 H6 S6)} (runs_in {a = (mem X0 T0 N0 J0 L1 H1 S3)} {c = (mem X0 T0 N0 J4 L4 H4 S4)} (c.in-Ok.ensures)) (s_close {e = (mem X0 T0 N0 J4 L6 H6 S6)} {x = X0} {t = T0} {n = N0} {j = J4} {l = L4} {h = H4} {s = S4} {s' = S5} {l' = L5} (c.close-s4.ensures) (s_by {a = (mem X0 T0 N0 J4 L5 H4 S5)} {c = (mem X0 T0 N0 J4 L6 H6 S6)} {e = (mem X0 T0 N0 J4 L6 H6 S6)} _ (c.end_node-end.ensures) s_end)))))
+    in_steps {m = (mem X0 T0 N0 J0 L0 H0 S0)} {m' = (mem X0 T0 N0 J4 L6 H6 S6)} (c.requires.0) (s_by {a = (mem X0 T0 N0 J0 L0 H0 S0)} {c = (mem X0 T0 N0 J0 L1 H1 S1)} {e = (mem X0 T0 N0 J4 L6 H6 S6)} _ (runs_in {a = (mem X0 T0 N0 J0 L0 H0 S0)} {c = (mem X0 T0 N0 J0 L1 H1 S1)} (c.app_start-s1.ensures)) (s_mark {e = (mem X0 T0 N0 J4 L6 H6 S6)} {x = X0} {t = T0} {n = N0} {j = J0} {l = L1} {h = H1} {s = S1} {s' = S3} (c.if-left-eq0.false) (c.mark-s2.ensures) (s_run {a = (mem X0 T0 N0 J0 L1 H1 S3)} {c = (mem X0 T0 N0 J4 L4 H4 S4)} {e = (mem X0 T0 N0 J4 L6 H6 S6)} (runs_in {a = (mem X0 T0 N0 J0 L1 H1 S3)} {c = (mem X0 T0 N0 J4 L4 H4 S4)} (c.in-Ok.ensures)) (s_close {e = (mem X0 T0 N0 J4 L6 H6 S6)} {x = X0} {t = T0} {n = N0} {j = J4} {l = L4} {h = H4} {s = S4} {s' = S5} {l' = L5} (c.close_node-s4.ensures) (s_by {a = (mem X0 T0 N0 J4 L5 H4 S5)} {c = (mem X0 T0 N0 J4 L6 H6 S6)} {e = (mem X0 T0 N0 J4 L6 H6 S6)} _ (c.end_node-end.ensures) s_end)))))
 
 pub fap-returns-in-Err : goal.fap-returns-in-Err
 unfolding decl.str_app plan choose chosen
@@ -1442,8 +1442,8 @@ hs-at-requires t c =
     let bump_ok = ok_bumps bump pre0 in
     bump_ok.reads
 
-pub hs-refuse-requires : goal.hs-refuse-requires
-hs-refuse-requires t c =
+pub hs-refuse_for-requires : goal.hs-refuse_for-requires
+hs-refuse_for-requires t c =
     tt
 
 pub hs-returns-then-left-eq0 : goal.hs-returns-then-left-eq0
@@ -1458,8 +1458,8 @@ hs-returns-then-left-eq0 t c =
     let S0 = c.args.s in
     let L1 = c.bump-s1.new.scratch in
     let S1 = c.bump-s1.result in
-    let S5 = c.refuse.result in
-    in_steps {m = (mem X0 T0 N0 J0 L0 H0 S0)} {m' = (mem X0 T0 N0 J0 L1 H0 S5)} (c.requires.0) (s_bump {e = (mem X0 T0 N0 J0 L1 H0 S5)} {x = X0} {t = T0} {n = N0} {j = J0} {l = L0} {h = H0} {s = S0} {s' = S1} {l' = L1} (c.bump-s1.ensures) (s_kind {a = (mem X0 T0 N0 J0 L1 H0 S1)} {e = (mem X0 T0 N0 J0 L1 H0 S5)} (s_true {a = (mem X0 T0 N0 J0 L1 H0 S1)} {e = (mem X0 T0 N0 J0 L1 H0 S5)} _ _ (kind_at _ _ (mem X0 T0 N0 J0 L1 H0 S1) _ (c.at.ensures) (c.if-at.true)) (s_shut (c.if-left-eq0.true) (c.refuse.ensures) (λ k l. refl)))))
+    let S5 = c.refuse_for.result in
+    in_steps {m = (mem X0 T0 N0 J0 L0 H0 S0)} {m' = (mem X0 T0 N0 J0 L1 H0 S5)} (c.requires.0) (s_bump {e = (mem X0 T0 N0 J0 L1 H0 S5)} {x = X0} {t = T0} {n = N0} {j = J0} {l = L0} {h = H0} {s = S0} {s' = S1} {l' = L1} (c.bump-s1.ensures) (s_kind {a = (mem X0 T0 N0 J0 L1 H0 S1)} {e = (mem X0 T0 N0 J0 L1 H0 S5)} (s_true {a = (mem X0 T0 N0 J0 L1 H0 S1)} {e = (mem X0 T0 N0 J0 L1 H0 S5)} _ _ (kind_at _ _ (mem X0 T0 N0 J0 L1 H0 S1) _ (c.at.ensures) (c.if-at.true)) (s_shut (c.if-left-eq0.true) (c.refuse_for.ensures) (λ k l. refl)))))
 
 pub hs-mark-s2-requires : goal.hs-mark-s2-requires
 hs-mark-s2-requires t c =
@@ -1485,8 +1485,8 @@ hs-cl-s4-requires t c =
     let bump2_ok = ok_bumps bump2 mark_ok in
     (omega arith, (bump2_ok, small_len mark_ok, omega arith))
 
-pub hs-close-requires : goal.hs-close-requires
-hs-close-requires t c =
+pub hs-close_node-requires : goal.hs-close_node-requires
+hs-close_node-requires t c =
     let pre1 = c.requires.1 in
     let cl = c.cl-s4.ensures in
     let cl_ok = cl.ok in
@@ -1511,9 +1511,9 @@ hs-returns-then-at t c =
     let L7 = c.cl-s4.new.scratch in
     let H7 = c.cl-s4.new.finds in
     let S7 = c.cl-s4.result in
-    let L8 = c.close.new.scratch in
-    let S8 = c.close.result in
-    in_steps {m = (mem X0 T0 N0 J0 L0 H0 S0)} {m' = (mem X0 T0 N0 J7 L8 H7 S8)} (c.requires.0) (s_bump {e = (mem X0 T0 N0 J7 L8 H7 S8)} {x = X0} {t = T0} {n = N0} {j = J0} {l = L0} {h = H0} {s = S0} {s' = S1} {l' = L1} (c.bump-s1.ensures) (s_kind {a = (mem X0 T0 N0 J0 L1 H0 S1)} {e = (mem X0 T0 N0 J7 L8 H7 S8)} (s_true {a = (mem X0 T0 N0 J0 L1 H0 S1)} {e = (mem X0 T0 N0 J7 L8 H7 S8)} _ _ (kind_at _ _ (mem X0 T0 N0 J0 L1 H0 S1) _ (c.at.ensures) (c.if-at.true)) (s_mark {e = (mem X0 T0 N0 J7 L8 H7 S8)} {x = X0} {t = T0} {n = N0} {j = J0} {l = L1} {h = H0} {s = S1} {s' = S5} (c.if-left-eq0.false) (c.mark-s2.ensures) (s_bump {e = (mem X0 T0 N0 J7 L8 H7 S8)} {x = X0} {t = T0} {n = N0} {j = J0} {l = L1} {h = H0} {s = S5} {s' = S6} {l' = L6} (c.bump-s3.ensures) (s_by {a = (mem X0 T0 N0 J0 L6 H0 S6)} {c = (mem X0 T0 N0 J7 L7 H7 S7)} {e = (mem X0 T0 N0 J7 L8 H7 S8)} _ (c.cl-s4.ensures) (s_close {e = (mem X0 T0 N0 J7 L8 H7 S8)} {x = X0} {t = T0} {n = N0} {j = J7} {l = L7} {h = H7} {s = S7} {s' = S8} {l' = L8} (c.close.ensures) s_end)))))))
+    let L8 = c.close_node.new.scratch in
+    let S8 = c.close_node.result in
+    in_steps {m = (mem X0 T0 N0 J0 L0 H0 S0)} {m' = (mem X0 T0 N0 J7 L8 H7 S8)} (c.requires.0) (s_bump {e = (mem X0 T0 N0 J7 L8 H7 S8)} {x = X0} {t = T0} {n = N0} {j = J0} {l = L0} {h = H0} {s = S0} {s' = S1} {l' = L1} (c.bump-s1.ensures) (s_kind {a = (mem X0 T0 N0 J0 L1 H0 S1)} {e = (mem X0 T0 N0 J7 L8 H7 S8)} (s_true {a = (mem X0 T0 N0 J0 L1 H0 S1)} {e = (mem X0 T0 N0 J7 L8 H7 S8)} _ _ (kind_at _ _ (mem X0 T0 N0 J0 L1 H0 S1) _ (c.at.ensures) (c.if-at.true)) (s_mark {e = (mem X0 T0 N0 J7 L8 H7 S8)} {x = X0} {t = T0} {n = N0} {j = J0} {l = L1} {h = H0} {s = S1} {s' = S5} (c.if-left-eq0.false) (c.mark-s2.ensures) (s_bump {e = (mem X0 T0 N0 J7 L8 H7 S8)} {x = X0} {t = T0} {n = N0} {j = J0} {l = L1} {h = H0} {s = S5} {s' = S6} {l' = L6} (c.bump-s3.ensures) (s_by {a = (mem X0 T0 N0 J0 L6 H0 S6)} {c = (mem X0 T0 N0 J7 L7 H7 S7)} {e = (mem X0 T0 N0 J7 L8 H7 S8)} _ (c.cl-s4.ensures) (s_close {e = (mem X0 T0 N0 J7 L8 H7 S8)} {x = X0} {t = T0} {n = N0} {j = J7} {l = L7} {h = H7} {s = S7} {s' = S8} {l' = L8} (c.close_node.ensures) s_end)))))))
 
 pub hs-lab-s2-requires : goal.hs-lab-s2-requires
 hs-lab-s2-requires t c =
@@ -1522,8 +1522,8 @@ hs-lab-s2-requires t c =
     let bump_ok = ok_bumps bump pre0 in
     (bump_ok.reads, bump_ok.logs, bump_ok.holds)
 
-pub hs-close-requires-2 : goal.hs-close-requires-2
-hs-close-requires-2 t c =
+pub hs-close_node-requires-2 : goal.hs-close_node-requires-2
+hs-close_node-requires-2 t c =
     let pre0 = c.requires.0 in
     let pre1 = c.requires.1 in
     let bump = c.bump-s1.ensures in
@@ -1547,9 +1547,9 @@ hs-returns t c =
     let L4 = c.lab-s2.new.scratch in
     let H4 = c.lab-s2.new.finds in
     let S4 = c.lab-s2.result in
-    let L5 = c.close-2.new.scratch in
-    let S5 = c.close-2.result in
-    in_steps {m = (mem X0 T0 N0 J0 L0 H0 S0)} {m' = (mem X0 T0 N0 J0 L5 H4 S5)} (c.requires.0) (s_bump {e = (mem X0 T0 N0 J0 L5 H4 S5)} {x = X0} {t = T0} {n = N0} {j = J0} {l = L0} {h = H0} {s = S0} {s' = S1} {l' = L1} (c.bump-s1.ensures) (s_kind {a = (mem X0 T0 N0 J0 L1 H0 S1)} {e = (mem X0 T0 N0 J0 L5 H4 S5)} (s_false {a = (mem X0 T0 N0 J0 L1 H0 S1)} {e = (mem X0 T0 N0 J0 L5 H4 S5)} _ _ (kind_off _ _ (mem X0 T0 N0 J0 L1 H0 S1) _ (c.at.ensures) (c.if-at.false)) (s_eats _ _ {x = X0} {t = T0} {n = N0} {j = J0} {l = L1} {h = H0} {l' = L4} {s = S1} {s' = S4} {e = (mem X0 T0 N0 J0 L5 H4 S5)} _ {h' = H4} (c.lab-s2.ensures) (s_close {e = (mem X0 T0 N0 J0 L5 H4 S5)} {x = X0} {t = T0} {n = N0} {j = J0} {l = L4} {h = H4} {s = S4} {s' = S5} {l' = L5} (c.close-2.ensures) s_end)))))
+    let L5 = c.close_node-2.new.scratch in
+    let S5 = c.close_node-2.result in
+    in_steps {m = (mem X0 T0 N0 J0 L0 H0 S0)} {m' = (mem X0 T0 N0 J0 L5 H4 S5)} (c.requires.0) (s_bump {e = (mem X0 T0 N0 J0 L5 H4 S5)} {x = X0} {t = T0} {n = N0} {j = J0} {l = L0} {h = H0} {s = S0} {s' = S1} {l' = L1} (c.bump-s1.ensures) (s_kind {a = (mem X0 T0 N0 J0 L1 H0 S1)} {e = (mem X0 T0 N0 J0 L5 H4 S5)} (s_false {a = (mem X0 T0 N0 J0 L1 H0 S1)} {e = (mem X0 T0 N0 J0 L5 H4 S5)} _ _ (kind_off _ _ (mem X0 T0 N0 J0 L1 H0 S1) _ (c.at.ensures) (c.if-at.false)) (s_eats _ _ {x = X0} {t = T0} {n = N0} {j = J0} {l = L1} {h = H0} {l' = L4} {s = S1} {s' = S4} {e = (mem X0 T0 N0 J0 L5 H4 S5)} _ {h' = H4} (c.lab-s2.ensures) (s_close {e = (mem X0 T0 N0 J0 L5 H4 S5)} {x = X0} {t = T0} {n = N0} {j = J0} {l = L4} {h = H4} {s = S4} {s' = S5} {l' = L5} (c.close_node-2.ensures) s_end)))))
 
 pub ic-loop-s2-init : goal.ic-loop-s2-init
 ic-loop-s2-init t c =
@@ -1728,8 +1728,8 @@ kw-mat-s1-requires t c =
     let pre0 = c.requires.0 in
     (omega arith, pre0)
 
-pub kw-close-requires : goal.kw-close-requires
-kw-close-requires t c =
+pub kw-close_node-requires : goal.kw-close_node-requires
+kw-close_node-requires t c =
     let pre1 = c.requires.1 in
     let mat = c.mat-s1.ensures in
     let mat_ok = mat.ok in
@@ -1749,17 +1749,17 @@ kw-returns-then-k-eq-FN_KW t c =
     let L2 = c.mat-s1.new.scratch in
     let H2 = c.mat-s1.new.finds in
     let S2 = c.mat-s1.result in
-    let L3 = c.close.new.scratch in
-    let S3 = c.close.result in
-    in_steps {m = (mem X0 T0 N0 J0 L0 H0 S0)} {m' = (mem X0 T0 N0 J2 L3 H2 S3)} (c.requires.0) (s_true {a = (mem X0 T0 N0 J0 L0 H0 S0)} {e = (mem X0 T0 N0 J2 L3 H2 S3)} _ _ (kind_is (c.if-k-eq-FN_KW.true)) (s_by {a = (mem X0 T0 N0 J0 L0 H0 S0)} {c = (mem X0 T0 N0 J2 L2 H2 S2)} {e = (mem X0 T0 N0 J2 L3 H2 S3)} _ (runs_in {a = (mem X0 T0 N0 J0 L0 H0 S0)} {c = (mem X0 T0 N0 J2 L2 H2 S2)} (c.mat-s1.ensures)) (s_close {e = (mem X0 T0 N0 J2 L3 H2 S3)} {x = X0} {t = T0} {n = N0} {j = J2} {l = L2} {h = H2} {s = S2} {s' = S3} {l' = L3} (c.close.ensures) s_end)))
+    let L3 = c.close_node.new.scratch in
+    let S3 = c.close_node.result in
+    in_steps {m = (mem X0 T0 N0 J0 L0 H0 S0)} {m' = (mem X0 T0 N0 J2 L3 H2 S3)} (c.requires.0) (s_true {a = (mem X0 T0 N0 J0 L0 H0 S0)} {e = (mem X0 T0 N0 J2 L3 H2 S3)} _ _ (kind_is (c.if-k-eq-FN_KW.true)) (s_by {a = (mem X0 T0 N0 J0 L0 H0 S0)} {c = (mem X0 T0 N0 J2 L2 H2 S2)} {e = (mem X0 T0 N0 J2 L3 H2 S3)} _ (runs_in {a = (mem X0 T0 N0 J0 L0 H0 S0)} {c = (mem X0 T0 N0 J2 L2 H2 S2)} (c.mat-s1.ensures)) (s_close {e = (mem X0 T0 N0 J2 L3 H2 S3)} {x = X0} {t = T0} {n = N0} {j = J2} {l = L2} {h = H2} {s = S2} {s' = S3} {l' = L3} (c.close_node.ensures) s_end)))
 
 pub kw-exp-s1-requires : goal.kw-exp-s1-requires
 kw-exp-s1-requires t c =
     let pre0 = c.requires.0 in
     (omega arith, pre0)
 
-pub kw-close-requires-then-k-eq-RAISE_KW : goal.kw-close-requires-then-k-eq-RAISE_KW
-kw-close-requires-then-k-eq-RAISE_KW t c =
+pub kw-close_node-requires-then-k-eq-RAISE_KW : goal.kw-close_node-requires-then-k-eq-RAISE_KW
+kw-close_node-requires-then-k-eq-RAISE_KW t c =
     let pre1 = c.requires.1 in
     let exp = c.exp-s1.ensures in
     let exp_ok = exp.ok in
@@ -1779,9 +1779,9 @@ kw-returns-then-k-eq-RAISE_KW t c =
     let L2 = c.exp-s1.new.scratch in
     let H2 = c.exp-s1.new.finds in
     let S2 = c.exp-s1.result in
-    let L4 = c.close-then-k-eq-RAISE_KW.new.scratch in
-    let S4 = c.close-then-k-eq-RAISE_KW.result in
-    in_steps {m = (mem X0 T0 N0 J0 L0 H0 S0)} {m' = (mem X0 T0 N0 J2 L4 H2 S4)} (c.requires.0) (s_false {a = (mem X0 T0 N0 J0 L0 H0 S0)} {e = (mem X0 T0 N0 J2 L4 H2 S4)} _ _ (kind_not (c.if-k-eq-FN_KW.false)) (s_by {a = (mem X0 T0 N0 J0 L0 H0 S0)} {c = (mem X0 T0 N0 J2 L2 H2 S2)} {e = (mem X0 T0 N0 J2 L4 H2 S4)} _ (runs_in {a = (mem X0 T0 N0 J0 L0 H0 S0)} {c = (mem X0 T0 N0 J2 L2 H2 S2)} (c.exp-s1.ensures)) (s_true {a = (mem X0 T0 N0 J2 L2 H2 S2)} {e = (mem X0 T0 N0 J2 L4 H2 S4)} _ _ (kind_is (c.if-k-eq-RAISE_KW.true)) (s_close {e = (mem X0 T0 N0 J2 L4 H2 S4)} {x = X0} {t = T0} {n = N0} {j = J2} {l = L2} {h = H2} {s = S2} {s' = S4} {l' = L4} (c.close-then-k-eq-RAISE_KW.ensures) s_end))))
+    let L4 = c.close_node-then-k-eq-RAISE_KW.new.scratch in
+    let S4 = c.close_node-then-k-eq-RAISE_KW.result in
+    in_steps {m = (mem X0 T0 N0 J0 L0 H0 S0)} {m' = (mem X0 T0 N0 J2 L4 H2 S4)} (c.requires.0) (s_false {a = (mem X0 T0 N0 J0 L0 H0 S0)} {e = (mem X0 T0 N0 J2 L4 H2 S4)} _ _ (kind_not (c.if-k-eq-FN_KW.false)) (s_by {a = (mem X0 T0 N0 J0 L0 H0 S0)} {c = (mem X0 T0 N0 J2 L2 H2 S2)} {e = (mem X0 T0 N0 J2 L4 H2 S4)} _ (runs_in {a = (mem X0 T0 N0 J0 L0 H0 S0)} {c = (mem X0 T0 N0 J2 L2 H2 S2)} (c.exp-s1.ensures)) (s_true {a = (mem X0 T0 N0 J2 L2 H2 S2)} {e = (mem X0 T0 N0 J2 L4 H2 S4)} _ _ (kind_is (c.if-k-eq-RAISE_KW.true)) (s_close {e = (mem X0 T0 N0 J2 L4 H2 S4)} {x = X0} {t = T0} {n = N0} {j = J2} {l = L2} {h = H2} {s = S2} {s' = S4} {l' = L4} (c.close_node-then-k-eq-RAISE_KW.ensures) s_end))))
 
 pub kw-we-s2-requires : goal.kw-we-s2-requires
 kw-we-s2-requires t c =
@@ -1795,8 +1795,8 @@ kw-we-s3-requires t c =
     let we_ok = we.ok in
     (omega arith, (we_ok, omega arith))
 
-pub kw-close-requires-then-k-eq-IF_KW : goal.kw-close-requires-then-k-eq-IF_KW
-kw-close-requires-then-k-eq-IF_KW t c =
+pub kw-close_node-requires-then-k-eq-IF_KW : goal.kw-close_node-requires-then-k-eq-IF_KW
+kw-close_node-requires-then-k-eq-IF_KW t c =
     let pre1 = c.requires.1 in
     let we2 = c.we-s3.ensures in
     let we2_ok = we2.ok in
@@ -1824,9 +1824,9 @@ kw-returns-then-k-eq-IF_KW t c =
     let L6 = c.we-s3.new.scratch in
     let H6 = c.we-s3.new.finds in
     let S6 = c.we-s3.result in
-    let L7 = c.close-then-k-eq-IF_KW.new.scratch in
-    let S7 = c.close-then-k-eq-IF_KW.result in
-    in_steps {m = (mem X0 T0 N0 J0 L0 H0 S0)} {m' = (mem X0 T0 N0 J6 L7 H6 S7)} (c.requires.0) (s_false {a = (mem X0 T0 N0 J0 L0 H0 S0)} {e = (mem X0 T0 N0 J6 L7 H6 S7)} _ _ (kind_not (c.if-k-eq-FN_KW.false)) (s_by {a = (mem X0 T0 N0 J0 L0 H0 S0)} {c = (mem X0 T0 N0 J2 L2 H2 S2)} {e = (mem X0 T0 N0 J6 L7 H6 S7)} _ (runs_in {a = (mem X0 T0 N0 J0 L0 H0 S0)} {c = (mem X0 T0 N0 J2 L2 H2 S2)} (c.exp-s1.ensures)) (s_false {a = (mem X0 T0 N0 J2 L2 H2 S2)} {e = (mem X0 T0 N0 J6 L7 H6 S7)} _ _ (kind_not (c.if-k-eq-RAISE_KW.false)) (s_true {a = (mem X0 T0 N0 J2 L2 H2 S2)} {e = (mem X0 T0 N0 J6 L7 H6 S7)} _ _ (kind_is (c.if-k-eq-IF_KW.true)) (s_by {a = (mem X0 T0 N0 J2 L2 H2 S2)} {c = (mem X0 T0 N0 J5 L5 H5 S5)} {e = (mem X0 T0 N0 J6 L7 H6 S7)} _ (runs_in {a = (mem X0 T0 N0 J2 L2 H2 S2)} {c = (mem X0 T0 N0 J5 L5 H5 S5)} (c.we-s2.ensures)) (s_by {a = (mem X0 T0 N0 J5 L5 H5 S5)} {c = (mem X0 T0 N0 J6 L6 H6 S6)} {e = (mem X0 T0 N0 J6 L7 H6 S7)} _ (runs_in {a = (mem X0 T0 N0 J5 L5 H5 S5)} {c = (mem X0 T0 N0 J6 L6 H6 S6)} (c.we-s3.ensures)) (s_close {e = (mem X0 T0 N0 J6 L7 H6 S7)} {x = X0} {t = T0} {n = N0} {j = J6} {l = L6} {h = H6} {s = S6} {s' = S7} {l' = L7} (c.close-then-k-eq-IF_KW.ensures) s_end)))))))
+    let L7 = c.close_node-then-k-eq-IF_KW.new.scratch in
+    let S7 = c.close_node-then-k-eq-IF_KW.result in
+    in_steps {m = (mem X0 T0 N0 J0 L0 H0 S0)} {m' = (mem X0 T0 N0 J6 L7 H6 S7)} (c.requires.0) (s_false {a = (mem X0 T0 N0 J0 L0 H0 S0)} {e = (mem X0 T0 N0 J6 L7 H6 S7)} _ _ (kind_not (c.if-k-eq-FN_KW.false)) (s_by {a = (mem X0 T0 N0 J0 L0 H0 S0)} {c = (mem X0 T0 N0 J2 L2 H2 S2)} {e = (mem X0 T0 N0 J6 L7 H6 S7)} _ (runs_in {a = (mem X0 T0 N0 J0 L0 H0 S0)} {c = (mem X0 T0 N0 J2 L2 H2 S2)} (c.exp-s1.ensures)) (s_false {a = (mem X0 T0 N0 J2 L2 H2 S2)} {e = (mem X0 T0 N0 J6 L7 H6 S7)} _ _ (kind_not (c.if-k-eq-RAISE_KW.false)) (s_true {a = (mem X0 T0 N0 J2 L2 H2 S2)} {e = (mem X0 T0 N0 J6 L7 H6 S7)} _ _ (kind_is (c.if-k-eq-IF_KW.true)) (s_by {a = (mem X0 T0 N0 J2 L2 H2 S2)} {c = (mem X0 T0 N0 J5 L5 H5 S5)} {e = (mem X0 T0 N0 J6 L7 H6 S7)} _ (runs_in {a = (mem X0 T0 N0 J2 L2 H2 S2)} {c = (mem X0 T0 N0 J5 L5 H5 S5)} (c.we-s2.ensures)) (s_by {a = (mem X0 T0 N0 J5 L5 H5 S5)} {c = (mem X0 T0 N0 J6 L6 H6 S6)} {e = (mem X0 T0 N0 J6 L7 H6 S7)} _ (runs_in {a = (mem X0 T0 N0 J5 L5 H5 S5)} {c = (mem X0 T0 N0 J6 L6 H6 S6)} (c.we-s3.ensures)) (s_close {e = (mem X0 T0 N0 J6 L7 H6 S7)} {x = X0} {t = T0} {n = N0} {j = J6} {l = L6} {h = H6} {s = S6} {s' = S7} {l' = L7} (c.close_node-then-k-eq-IF_KW.ensures) s_end)))))))
 
 pub kw-we-s2-requires-then-k-eq-WHILE_KW : goal.kw-we-s2-requires-then-k-eq-WHILE_KW
 kw-we-s2-requires-then-k-eq-WHILE_KW t c =
@@ -1834,8 +1834,8 @@ kw-we-s2-requires-then-k-eq-WHILE_KW t c =
     let exp_ok = exp.ok in
     (omega arith, (exp_ok, omega arith))
 
-pub kw-close-requires-then-k-eq-WHILE_KW : goal.kw-close-requires-then-k-eq-WHILE_KW
-kw-close-requires-then-k-eq-WHILE_KW t c =
+pub kw-close_node-requires-then-k-eq-WHILE_KW : goal.kw-close_node-requires-then-k-eq-WHILE_KW
+kw-close_node-requires-then-k-eq-WHILE_KW t c =
     let pre1 = c.requires.1 in
     let we3 = c.we-s2-then-k-eq-WHILE_KW.ensures in
     let we3_ok = we3.ok in
@@ -1859,9 +1859,9 @@ kw-returns-then-k-eq-WHILE_KW t c =
     let L6 = c.we-s2-then-k-eq-WHILE_KW.new.scratch in
     let H6 = c.we-s2-then-k-eq-WHILE_KW.new.finds in
     let S6 = c.we-s2-then-k-eq-WHILE_KW.result in
-    let L7 = c.close-then-k-eq-WHILE_KW.new.scratch in
-    let S7 = c.close-then-k-eq-WHILE_KW.result in
-    in_steps {m = (mem X0 T0 N0 J0 L0 H0 S0)} {m' = (mem X0 T0 N0 J6 L7 H6 S7)} (c.requires.0) (s_false {a = (mem X0 T0 N0 J0 L0 H0 S0)} {e = (mem X0 T0 N0 J6 L7 H6 S7)} _ _ (kind_not (c.if-k-eq-FN_KW.false)) (s_by {a = (mem X0 T0 N0 J0 L0 H0 S0)} {c = (mem X0 T0 N0 J2 L2 H2 S2)} {e = (mem X0 T0 N0 J6 L7 H6 S7)} _ (runs_in {a = (mem X0 T0 N0 J0 L0 H0 S0)} {c = (mem X0 T0 N0 J2 L2 H2 S2)} (c.exp-s1.ensures)) (s_false {a = (mem X0 T0 N0 J2 L2 H2 S2)} {e = (mem X0 T0 N0 J6 L7 H6 S7)} _ _ (kind_not (c.if-k-eq-RAISE_KW.false)) (s_false {a = (mem X0 T0 N0 J2 L2 H2 S2)} {e = (mem X0 T0 N0 J6 L7 H6 S7)} _ _ (kind_not (c.if-k-eq-IF_KW.false)) (s_true {a = (mem X0 T0 N0 J2 L2 H2 S2)} {e = (mem X0 T0 N0 J6 L7 H6 S7)} _ _ (kind_is (c.if-k-eq-WHILE_KW.true)) (s_by {a = (mem X0 T0 N0 J2 L2 H2 S2)} {c = (mem X0 T0 N0 J6 L6 H6 S6)} {e = (mem X0 T0 N0 J6 L7 H6 S7)} _ (runs_in {a = (mem X0 T0 N0 J2 L2 H2 S2)} {c = (mem X0 T0 N0 J6 L6 H6 S6)} (c.we-s2-then-k-eq-WHILE_KW.ensures)) (s_close {e = (mem X0 T0 N0 J6 L7 H6 S7)} {x = X0} {t = T0} {n = N0} {j = J6} {l = L6} {h = H6} {s = S6} {s' = S7} {l' = L7} (c.close-then-k-eq-WHILE_KW.ensures) s_end)))))))
+    let L7 = c.close_node-then-k-eq-WHILE_KW.new.scratch in
+    let S7 = c.close_node-then-k-eq-WHILE_KW.result in
+    in_steps {m = (mem X0 T0 N0 J0 L0 H0 S0)} {m' = (mem X0 T0 N0 J6 L7 H6 S7)} (c.requires.0) (s_false {a = (mem X0 T0 N0 J0 L0 H0 S0)} {e = (mem X0 T0 N0 J6 L7 H6 S7)} _ _ (kind_not (c.if-k-eq-FN_KW.false)) (s_by {a = (mem X0 T0 N0 J0 L0 H0 S0)} {c = (mem X0 T0 N0 J2 L2 H2 S2)} {e = (mem X0 T0 N0 J6 L7 H6 S7)} _ (runs_in {a = (mem X0 T0 N0 J0 L0 H0 S0)} {c = (mem X0 T0 N0 J2 L2 H2 S2)} (c.exp-s1.ensures)) (s_false {a = (mem X0 T0 N0 J2 L2 H2 S2)} {e = (mem X0 T0 N0 J6 L7 H6 S7)} _ _ (kind_not (c.if-k-eq-RAISE_KW.false)) (s_false {a = (mem X0 T0 N0 J2 L2 H2 S2)} {e = (mem X0 T0 N0 J6 L7 H6 S7)} _ _ (kind_not (c.if-k-eq-IF_KW.false)) (s_true {a = (mem X0 T0 N0 J2 L2 H2 S2)} {e = (mem X0 T0 N0 J6 L7 H6 S7)} _ _ (kind_is (c.if-k-eq-WHILE_KW.true)) (s_by {a = (mem X0 T0 N0 J2 L2 H2 S2)} {c = (mem X0 T0 N0 J6 L6 H6 S6)} {e = (mem X0 T0 N0 J6 L7 H6 S7)} _ (runs_in {a = (mem X0 T0 N0 J2 L2 H2 S2)} {c = (mem X0 T0 N0 J6 L6 H6 S6)} (c.we-s2-then-k-eq-WHILE_KW.ensures)) (s_close {e = (mem X0 T0 N0 J6 L7 H6 S7)} {x = X0} {t = T0} {n = N0} {j = J6} {l = L6} {h = H6} {s = S6} {s' = S7} {l' = L7} (c.close_node-then-k-eq-WHILE_KW.ensures) s_end)))))))
 
 pub kw-want-s2-requires : goal.kw-want-s2-requires
 kw-want-s2-requires t c =
@@ -1877,8 +1877,8 @@ kw-mat-s3-requires t c =
     let want_ok = ok_eats want exp_ok in
     (omega arith, want_ok)
 
-pub kw-close-requires-2 : goal.kw-close-requires-2
-kw-close-requires-2 t c =
+pub kw-close_node-requires-2 : goal.kw-close_node-requires-2
+kw-close_node-requires-2 t c =
     let pre1 = c.requires.1 in
     let mat2 = c.mat-s3.ensures in
     let mat2_ok = mat2.ok in
@@ -1905,9 +1905,9 @@ kw-returns t c =
     let L7 = c.mat-s3.new.scratch in
     let H7 = c.mat-s3.new.finds in
     let S7 = c.mat-s3.result in
-    let L8 = c.close-2.new.scratch in
-    let S8 = c.close-2.result in
-    in_steps {m = (mem X0 T0 N0 J0 L0 H0 S0)} {m' = (mem X0 T0 N0 J7 L8 H7 S8)} (c.requires.0) (s_false {a = (mem X0 T0 N0 J0 L0 H0 S0)} {e = (mem X0 T0 N0 J7 L8 H7 S8)} _ _ (kind_not (c.if-k-eq-FN_KW.false)) (s_by {a = (mem X0 T0 N0 J0 L0 H0 S0)} {c = (mem X0 T0 N0 J2 L2 H2 S2)} {e = (mem X0 T0 N0 J7 L8 H7 S8)} _ (runs_in {a = (mem X0 T0 N0 J0 L0 H0 S0)} {c = (mem X0 T0 N0 J2 L2 H2 S2)} (c.exp-s1.ensures)) (s_false {a = (mem X0 T0 N0 J2 L2 H2 S2)} {e = (mem X0 T0 N0 J7 L8 H7 S8)} _ _ (kind_not (c.if-k-eq-RAISE_KW.false)) (s_false {a = (mem X0 T0 N0 J2 L2 H2 S2)} {e = (mem X0 T0 N0 J7 L8 H7 S8)} _ _ (kind_not (c.if-k-eq-IF_KW.false)) (s_false {a = (mem X0 T0 N0 J2 L2 H2 S2)} {e = (mem X0 T0 N0 J7 L8 H7 S8)} _ _ (kind_not (c.if-k-eq-WHILE_KW.false)) (s_eats _ _ {x = X0} {t = T0} {n = N0} {j = J2} {l = L2} {h = H2} {l' = L6} {s = S2} {s' = S6} {e = (mem X0 T0 N0 J7 L8 H7 S8)} _ {h' = H6} (c.want-s2.ensures) (s_by {a = (mem X0 T0 N0 J2 L6 H6 S6)} {c = (mem X0 T0 N0 J7 L7 H7 S7)} {e = (mem X0 T0 N0 J7 L8 H7 S8)} _ (runs_in {a = (mem X0 T0 N0 J2 L6 H6 S6)} {c = (mem X0 T0 N0 J7 L7 H7 S7)} (c.mat-s3.ensures)) (s_close {e = (mem X0 T0 N0 J7 L8 H7 S8)} {x = X0} {t = T0} {n = N0} {j = J7} {l = L7} {h = H7} {s = S7} {s' = S8} {l' = L8} (c.close-2.ensures) s_end))))))))
+    let L8 = c.close_node-2.new.scratch in
+    let S8 = c.close_node-2.result in
+    in_steps {m = (mem X0 T0 N0 J0 L0 H0 S0)} {m' = (mem X0 T0 N0 J7 L8 H7 S8)} (c.requires.0) (s_false {a = (mem X0 T0 N0 J0 L0 H0 S0)} {e = (mem X0 T0 N0 J7 L8 H7 S8)} _ _ (kind_not (c.if-k-eq-FN_KW.false)) (s_by {a = (mem X0 T0 N0 J0 L0 H0 S0)} {c = (mem X0 T0 N0 J2 L2 H2 S2)} {e = (mem X0 T0 N0 J7 L8 H7 S8)} _ (runs_in {a = (mem X0 T0 N0 J0 L0 H0 S0)} {c = (mem X0 T0 N0 J2 L2 H2 S2)} (c.exp-s1.ensures)) (s_false {a = (mem X0 T0 N0 J2 L2 H2 S2)} {e = (mem X0 T0 N0 J7 L8 H7 S8)} _ _ (kind_not (c.if-k-eq-RAISE_KW.false)) (s_false {a = (mem X0 T0 N0 J2 L2 H2 S2)} {e = (mem X0 T0 N0 J7 L8 H7 S8)} _ _ (kind_not (c.if-k-eq-IF_KW.false)) (s_false {a = (mem X0 T0 N0 J2 L2 H2 S2)} {e = (mem X0 T0 N0 J7 L8 H7 S8)} _ _ (kind_not (c.if-k-eq-WHILE_KW.false)) (s_eats _ _ {x = X0} {t = T0} {n = N0} {j = J2} {l = L2} {h = H2} {l' = L6} {s = S2} {s' = S6} {e = (mem X0 T0 N0 J7 L8 H7 S8)} _ {h' = H6} (c.want-s2.ensures) (s_by {a = (mem X0 T0 N0 J2 L6 H6 S6)} {c = (mem X0 T0 N0 J7 L7 H7 S7)} {e = (mem X0 T0 N0 J7 L8 H7 S8)} _ (runs_in {a = (mem X0 T0 N0 J2 L6 H6 S6)} {c = (mem X0 T0 N0 J7 L7 H7 S7)} (c.mat-s3.ensures)) (s_close {e = (mem X0 T0 N0 J7 L8 H7 S8)} {x = X0} {t = T0} {n = N0} {j = J7} {l = L7} {h = H7} {s = S7} {s' = S8} {l' = L8} (c.close_node-2.ensures) s_end))))))))
 
 pub lex-bump-s1-requires : goal.lex-bump-s1-requires
 lex-bump-s1-requires t c =
@@ -1921,8 +1921,8 @@ lex-bdy-s2-requires t c =
     let bump_ok = ok_bumps bump pre0 in
     (omega arith, bump_ok)
 
-pub lex-leave-requires : goal.lex-leave-requires
-lex-leave-requires t c =
+pub lex-leave_node-requires : goal.lex-leave_node-requires
+lex-leave_node-requires t c =
     let pre1 = c.requires.1 in
     let bdy = c.bdy-s2.ensures in
     let bdy_ok = bdy.ok in
@@ -1934,20 +1934,20 @@ lex-returns t c =
     let pre0 = c.requires.0 in
     let bump = c.bump-s1.ensures in
     let bdy = c.bdy-s2.ensures in
-    let leave = c.leave.ensures in
-    in_steps pre0 (s_bump bump (s_scoped bdy refl (s_close leave s_end)))
+    let leave_node = c.leave_node.ensures in
+    in_steps pre0 (s_bump bump (s_scoped bdy refl (s_close leave_node s_end)))
 
-pub lo-refuse-s1-requires : goal.lo-refuse-s1-requires
-lo-refuse-s1-requires t c =
+pub lo-refuse_for-s1-requires : goal.lo-refuse_for-s1-requires
+lo-refuse_for-s1-requires t c =
     tt
 
 pub lo-end-requires : goal.lo-end-requires
 lo-end-requires t c =
     let pre0 = c.requires.0 in
     let pre1 = c.requires.1 in
-    let refuse = c.refuse-s1.ensures in
-    let refuse_ok = ok_refused _ refuse pre0 in
-    (omega arith, (refuse_ok, pre1))
+    let refuse_for = c.refuse_for-s1.ensures in
+    let refuse_for_ok = ok_refused _ refuse_for pre0 in
+    (omega arith, (refuse_for_ok, pre1))
 
 pub lo-returns-then-left-eq0 : goal.lo-returns-then-left-eq0
 unfolding decl.local_dec plan choose chosen
@@ -1959,12 +1959,12 @@ lo-returns-then-left-eq0 t c =
     let L0 = c.args.scratch.now in
     let H0 = c.args.finds.now in
     let S0 = c.args.s in
-    let S2 = c.refuse-s1.result in
+    let S2 = c.refuse_for-s1.result in
     let J3 = c.end.new.table in
     let L3 = c.end.new.scratch in
     let H3 = c.end.new.finds in
     let S3 = out_state c.end.result in
-    in_steps {m = (mem X0 T0 N0 J0 L0 H0 S0)} {m' = (mem X0 T0 N0 J3 L3 H3 S3)} (c.requires.0) (s_deep (c.if-left-eq0.true) (c.refuse-s1.ensures) (s_by {a = (mem X0 T0 N0 J0 L0 H0 S2)} {c = (mem X0 T0 N0 J3 L3 H3 S3)} {e = (mem X0 T0 N0 J3 L3 H3 S3)} _ (c.end.ensures) s_end))
+    in_steps {m = (mem X0 T0 N0 J0 L0 H0 S0)} {m' = (mem X0 T0 N0 J3 L3 H3 S3)} (c.requires.0) (s_deep (c.if-left-eq0.true) (c.refuse_for-s1.ensures) (s_by {a = (mem X0 T0 N0 J0 L0 H0 S2)} {c = (mem X0 T0 N0 J3 L3 H3 S3)} {e = (mem X0 T0 N0 J3 L3 H3 S3)} _ (c.end.ensures) s_end))
 
 pub lo-mark-s1-requires : goal.lo-mark-s1-requires
 lo-mark-s1-requires t c =
@@ -1990,8 +1990,8 @@ pub lo-either-s3-requires : goal.lo-either-s3-requires
 lo-either-s3-requires t c =
     tt
 
-pub lo-leave-s4-requires : goal.lo-leave-s4-requires
-lo-leave-s4-requires t c =
+pub lo-leave_node-s4-requires : goal.lo-leave_node-s4-requires
+lo-leave_node-s4-requires t c =
     let pre0 = c.requires.0 in
     let mark = c.mark-s1.ensures in
     let mark_ok = ok_marks mark pre0 in
@@ -2008,9 +2008,9 @@ lo-end-requires-2 t c =
     let dec_ok = dec.ok in
     let either = c.either-s3.ensures in
     let either_ok = ok_state either dec_ok in
-    let leave = c.leave-s4.ensures in
-    let leave_ok = ok_adds leave either_ok in
-    (omega arith, (leave_ok, pre1))
+    let leave_node = c.leave_node-s4.ensures in
+    let leave_node_ok = ok_adds leave_node either_ok in
+    (omega arith, (leave_node_ok, pre1))
 
 pub lo-returns : goal.lo-returns
 unfolding decl.local_dec plan choose chosen
@@ -2030,16 +2030,16 @@ lo-returns t c =
     let H4 = c.dec-got.new.finds in
     let S4 = out_state c.dec-got.result in
     let S5 = c.either-s3.result in
-    let L6 = c.leave-s4.new.scratch in
-    let S6 = c.leave-s4.result in
+    let L6 = c.leave_node-s4.new.scratch in
+    let S6 = c.leave_node-s4.result in
     let J7 = c.end-2.new.table in
     let L7 = c.end-2.new.scratch in
     let H7 = c.end-2.new.finds in
     let S7 = out_state c.end-2.result in
-    in_steps {m = (mem X0 T0 N0 J0 L0 H0 S0)} {m' = (mem X0 T0 N0 J7 L7 H7 S7)} (c.requires.0) (s_mark {e = (mem X0 T0 N0 J7 L7 H7 S7)} {x = X0} {t = T0} {n = N0} {j = J0} {l = L0} {h = H0} {s = S0} {s' = S2} (c.if-left-eq0.false) (c.mark-s1.ensures) (s_bump {e = (mem X0 T0 N0 J7 L7 H7 S7)} {x = X0} {t = T0} {n = N0} {j = J0} {l = L0} {h = H0} {s = S2} {s' = S3} {l' = L3} (c.bump-s2.ensures) (s_run {a = (mem X0 T0 N0 J0 L3 H0 S3)} {c = (mem X0 T0 N0 J4 L4 H4 S5)} {e = (mem X0 T0 N0 J7 L7 H7 S7)} (settled (c.either-s3.ensures) (runs_in {a = (mem X0 T0 N0 J0 L3 H0 S3)} {c = (mem X0 T0 N0 J4 L4 H4 S4)} (c.dec-got.ensures))) (s_close {e = (mem X0 T0 N0 J7 L7 H7 S7)} {x = X0} {t = T0} {n = N0} {j = J4} {l = L4} {h = H4} {s = S5} {s' = S6} {l' = L6} (c.leave-s4.ensures) (s_by {a = (mem X0 T0 N0 J4 L6 H4 S6)} {c = (mem X0 T0 N0 J7 L7 H7 S7)} {e = (mem X0 T0 N0 J7 L7 H7 S7)} _ (c.end-2.ensures) s_end)))))
+    in_steps {m = (mem X0 T0 N0 J0 L0 H0 S0)} {m' = (mem X0 T0 N0 J7 L7 H7 S7)} (c.requires.0) (s_mark {e = (mem X0 T0 N0 J7 L7 H7 S7)} {x = X0} {t = T0} {n = N0} {j = J0} {l = L0} {h = H0} {s = S0} {s' = S2} (c.if-left-eq0.false) (c.mark-s1.ensures) (s_bump {e = (mem X0 T0 N0 J7 L7 H7 S7)} {x = X0} {t = T0} {n = N0} {j = J0} {l = L0} {h = H0} {s = S2} {s' = S3} {l' = L3} (c.bump-s2.ensures) (s_run {a = (mem X0 T0 N0 J0 L3 H0 S3)} {c = (mem X0 T0 N0 J4 L4 H4 S5)} {e = (mem X0 T0 N0 J7 L7 H7 S7)} (settled (c.either-s3.ensures) (runs_in {a = (mem X0 T0 N0 J0 L3 H0 S3)} {c = (mem X0 T0 N0 J4 L4 H4 S4)} (c.dec-got.ensures))) (s_close {e = (mem X0 T0 N0 J7 L7 H7 S7)} {x = X0} {t = T0} {n = N0} {j = J4} {l = L4} {h = H4} {s = S5} {s' = S6} {l' = L6} (c.leave_node-s4.ensures) (s_by {a = (mem X0 T0 N0 J4 L6 H4 S6)} {c = (mem X0 T0 N0 J7 L7 H7 S7)} {e = (mem X0 T0 N0 J7 L7 H7 S7)} _ (c.end-2.ensures) s_end)))))
 
-pub mat-refuse-requires : goal.mat-refuse-requires
-mat-refuse-requires t c =
+pub mat-refuse_for-requires : goal.mat-refuse_for-requires
+mat-refuse_for-requires t c =
     tt
 
 pub mat-returns-then-left-eq0 : goal.mat-returns-then-left-eq0
@@ -2052,8 +2052,8 @@ mat-returns-then-left-eq0 t c =
     let L0 = c.args.scratch.now in
     let H0 = c.args.finds.now in
     let S0 = c.args.s in
-    let S2 = c.refuse.result in
-    by_steps {m = (mem X0 T0 N0 J0 L0 H0 S0)} {m' = (mem X0 T0 N0 J0 L0 H0 S2)} (c.requires) (λ b. s_shut (c.if-left-eq0.true) (c.refuse.ensures) (λ k l. refl))
+    let S2 = c.refuse_for.result in
+    by_steps {m = (mem X0 T0 N0 J0 L0 H0 S0)} {m' = (mem X0 T0 N0 J0 L0 H0 S2)} (c.requires) (λ b. s_shut (c.if-left-eq0.true) (c.refuse_for.ensures) (λ k l. refl))
 
 pub mat-mark-s1-requires : goal.mat-mark-s1-requires
 mat-mark-s1-requires t c =
@@ -2199,8 +2199,8 @@ mds-ic-s2-requires t c =
     let bump4_ok = ok_bumps bump4 pre0 in
     (omega arith, bump4_ok)
 
-pub mds-close-requires : goal.mds-close-requires
-mds-close-requires t c =
+pub mds-close_node-requires : goal.mds-close_node-requires
+mds-close_node-requires t c =
     let pre1 = c.requires.1 in
     let ic = c.ic-s2.ensures in
     let ic_ok = ic.ok in
@@ -2222,9 +2222,9 @@ mds-returns-then-k-eq-INCLUDE_KW t c =
     let L6 = c.ic-s2.new.scratch in
     let H6 = c.ic-s2.new.finds in
     let S6 = c.ic-s2.result in
-    let L7 = c.close.new.scratch in
-    let S7 = c.close.result in
-    in_steps {m = (mem X0 T0 N0 J0 L0 H0 S0)} {m' = (mem X0 T0 N0 J6 L7 H6 S7)} (c.requires.0) (s_false {a = (mem X0 T0 N0 J0 L0 H0 S0)} {e = (mem X0 T0 N0 J6 L7 H6 S7)} _ _ (kind_not (c.if-k-eq-STRUCTURE_KW.false)) (s_false {a = (mem X0 T0 N0 J0 L0 H0 S0)} {e = (mem X0 T0 N0 J6 L7 H6 S7)} _ _ (kind_not (c.if-k-eq-SIGNATURE_KW.false)) (s_false {a = (mem X0 T0 N0 J0 L0 H0 S0)} {e = (mem X0 T0 N0 J6 L7 H6 S7)} _ _ (kind_not (c.if-k-eq-FUNCTOR_KW.false)) (s_true {a = (mem X0 T0 N0 J0 L0 H0 S0)} {e = (mem X0 T0 N0 J6 L7 H6 S7)} _ _ (kind_is (c.if-k-eq-INCLUDE_KW.true)) (s_bump {e = (mem X0 T0 N0 J6 L7 H6 S7)} {x = X0} {t = T0} {n = N0} {j = J0} {l = L0} {h = H0} {s = S0} {s' = S5} {l' = L5} (c.bump-s1-then-k-eq-INCLUDE_KW.ensures) (s_run {a = (mem X0 T0 N0 J0 L5 H0 S5)} {c = (mem X0 T0 N0 J6 L6 H6 S6)} {e = (mem X0 T0 N0 J6 L7 H6 S7)} (c.ic-s2.ensures) (s_close {e = (mem X0 T0 N0 J6 L7 H6 S7)} {x = X0} {t = T0} {n = N0} {j = J6} {l = L6} {h = H6} {s = S6} {s' = S7} {l' = L7} (c.close.ensures) s_end)))))))
+    let L7 = c.close_node.new.scratch in
+    let S7 = c.close_node.result in
+    in_steps {m = (mem X0 T0 N0 J0 L0 H0 S0)} {m' = (mem X0 T0 N0 J6 L7 H6 S7)} (c.requires.0) (s_false {a = (mem X0 T0 N0 J0 L0 H0 S0)} {e = (mem X0 T0 N0 J6 L7 H6 S7)} _ _ (kind_not (c.if-k-eq-STRUCTURE_KW.false)) (s_false {a = (mem X0 T0 N0 J0 L0 H0 S0)} {e = (mem X0 T0 N0 J6 L7 H6 S7)} _ _ (kind_not (c.if-k-eq-SIGNATURE_KW.false)) (s_false {a = (mem X0 T0 N0 J0 L0 H0 S0)} {e = (mem X0 T0 N0 J6 L7 H6 S7)} _ _ (kind_not (c.if-k-eq-FUNCTOR_KW.false)) (s_true {a = (mem X0 T0 N0 J0 L0 H0 S0)} {e = (mem X0 T0 N0 J6 L7 H6 S7)} _ _ (kind_is (c.if-k-eq-INCLUDE_KW.true)) (s_bump {e = (mem X0 T0 N0 J6 L7 H6 S7)} {x = X0} {t = T0} {n = N0} {j = J0} {l = L0} {h = H0} {s = S0} {s' = S5} {l' = L5} (c.bump-s1-then-k-eq-INCLUDE_KW.ensures) (s_run {a = (mem X0 T0 N0 J0 L5 H0 S5)} {c = (mem X0 T0 N0 J6 L6 H6 S6)} {e = (mem X0 T0 N0 J6 L7 H6 S7)} (c.ic-s2.ensures) (s_close {e = (mem X0 T0 N0 J6 L7 H6 S7)} {x = X0} {t = T0} {n = N0} {j = J6} {l = L6} {h = H6} {s = S6} {s' = S7} {l' = L7} (c.close_node.ensures) s_end)))))))
 
 pub mds-oth-requires : goal.mds-oth-requires
 mds-oth-requires t c =
@@ -2253,8 +2253,8 @@ mny-loop-q-init t c =
     let pre0 = c.requires in
     loop_starts pre0
 
-pub mny-refuse-requires : goal.mny-refuse-requires
-mny-refuse-requires t c =
+pub mny-refuse_for-requires : goal.mny-refuse_for-requires
+mny-refuse_for-requires t c =
     tt
 
 pub mny-returns-then-left-eq0 : goal.mny-returns-then-left-eq0
@@ -2262,8 +2262,8 @@ unfolding util.many_turn plan choose chosen hushed
 mny-returns-then-left-eq0 t c =
     let inv = c.loop-q.invariant in
     let if1 = c.if-left-eq0.true in
-    let refuse = c.refuse.ensures in
-    loop_ends (many_turn_advances true _ _ _ _ _) inv (in_steps inv.ok {n = c.args.left} {b = c.args.b} (s_shut if1 refuse (λ k l. refl)))
+    let refuse_for = c.refuse_for.ensures in
+    loop_ends (many_turn_advances true _ _ _ _ _) inv (in_steps inv.ok {n = c.args.left} {b = c.args.b} (s_shut if1 refuse_for (λ k l. refl)))
 
 pub mny-mark-s2-requires : goal.mny-mark-s2-requires
 mny-mark-s2-requires t c =
@@ -2297,8 +2297,8 @@ mny-bump-s4-requires t c =
     let itm_ok = itm.ok in
     (itm_ok.reads, itm_ok.logs)
 
-pub mny-close-s1-requires : goal.mny-close-s1-requires
-mny-close-s1-requires t c =
+pub mny-close_node-s1-requires : goal.mny-close_node-s1-requires
+mny-close_node-s1-requires t c =
     let inv = c.loop-q.invariant.ok in
     let mark = c.mark-s2.ensures in
     let mark_ok = ok_marks mark inv in
@@ -2318,8 +2318,8 @@ mny-loop-q-smaller t c =
     let at = c.at.ensures in
     let if2 = c.if-at.true in
     let bump = c.bump-s4.ensures in
-    let close = c.close-s1.ensures in
-    loop_falls {p = (util.many_turn {g = true} c.args.q.sep (node_number c.args.q.wrap) (decl.many_closure (node_number c.args.q.wrap) (err_of c.args.e)))} (many_turn_advances true _ _ _ _ _) (in_steps inv.ok {n = c.args.left} {b = c.args.b} (s_mark if1 mark (s_by _ (runs_in itm) (s_kind (s_true _ _ (kind_at _ _ _ _ at if2) (s_bump bump (s_close close s_end)))))))
+    let close_node = c.close_node-s1.ensures in
+    loop_falls {p = (util.many_turn {g = true} c.args.q.sep (node_number c.args.q.wrap) (decl.many_closure (node_number c.args.q.wrap) (err_of c.args.e)))} (many_turn_advances true _ _ _ _ _) (in_steps inv.ok {n = c.args.left} {b = c.args.b} (s_mark if1 mark (s_by _ (runs_in itm) (s_kind (s_true _ _ (kind_at _ _ _ _ at if2) (s_bump bump (s_close close_node s_end)))))))
 
 pub mny-loop-q-preserved : goal.mny-loop-q-preserved
 unfolding util.many_turn plan choose chosen
@@ -2331,11 +2331,11 @@ mny-loop-q-preserved t c =
     let at = c.at.ensures in
     let if2 = c.if-at.true in
     let bump = c.bump-s4.ensures in
-    let close = c.close-s1.ensures in
-    loop_goes (many_turn_advances true _ _ _ _ _) inv (in_steps inv.ok {n = c.args.left} {b = c.args.b} (s_mark if1 mark (s_by _ (runs_in itm) (s_kind (s_true _ _ (kind_at _ _ _ _ at if2) (s_bump bump (s_close close s_end)))))))
+    let close_node = c.close_node-s1.ensures in
+    loop_goes (many_turn_advances true _ _ _ _ _) inv (in_steps inv.ok {n = c.args.left} {b = c.args.b} (s_mark if1 mark (s_by _ (runs_in itm) (s_kind (s_true _ _ (kind_at _ _ _ _ at if2) (s_bump bump (s_close close_node s_end)))))))
 
-pub mny-close-requires : goal.mny-close-requires
-mny-close-requires t c =
+pub mny-close_node-requires : goal.mny-close_node-requires
+mny-close_node-requires t c =
     let inv = c.loop-q.invariant.ok in
     let mark = c.mark-s2.ensures in
     let mark_ok = ok_marks mark inv in
@@ -2352,8 +2352,8 @@ mny-returns-in-Ok t c =
     let itm = c.in-Ok.ensures in
     let at = c.at.ensures in
     let if2 = c.if-at.false in
-    let close2 = c.close.ensures in
-    loop_ends (many_turn_advances true _ _ _ _ _) inv (in_steps inv.ok {n = c.args.left} {b = c.args.b} (s_mark if1 mark (s_by _ (runs_in itm) (s_kind (s_false _ _ (kind_off _ _ _ _ at if2) (s_close close2 s_end))))))
+    let close_node2 = c.close_node.ensures in
+    loop_ends (many_turn_advances true _ _ _ _ _) inv (in_steps inv.ok {n = c.args.left} {b = c.args.b} (s_mark if1 mark (s_by _ (runs_in itm) (s_kind (s_false _ _ (kind_off _ _ _ _ at if2) (s_close close_node2 s_end))))))
 
 pub one-peek-requires : goal.one-peek-requires
 one-peek-requires t c =
@@ -2367,8 +2367,8 @@ one-returns-in_default t c =
     let peek = c.in_default.ensures in
     by_steps pre0 (λ b. s_look peek s_end)
 
-pub one-refuse-requires : goal.one-refuse-requires
-one-refuse-requires t c =
+pub one-refuse_for-requires : goal.one-refuse_for-requires
+one-refuse_for-requires t c =
     tt
 
 pub one-returns-then-left-eq0 : goal.one-returns-then-left-eq0
@@ -2381,8 +2381,8 @@ one-returns-then-left-eq0 t c =
     let L0 = c.args.scratch.now in
     let H0 = c.args.finds.now in
     let S0 = c.args.s in
-    let S3 = c.refuse.result in
-    by_steps {m = (mem X0 T0 N0 J0 L0 H0 S0)} {m' = (mem X0 T0 N0 J0 L0 H0 S3)} (c.requires) (λ b. s_look {a = (mem X0 T0 N0 J0 L0 H0 S0)} {e = (mem X0 T0 N0 J0 L0 H0 S3)} (c.in-Some.ensures) (s_shut (c.if-left-eq0.true) (c.refuse.ensures) (λ k l. refl)))
+    let S3 = c.refuse_for.result in
+    by_steps {m = (mem X0 T0 N0 J0 L0 H0 S0)} {m' = (mem X0 T0 N0 J0 L0 H0 S3)} (c.requires) (λ b. s_look {a = (mem X0 T0 N0 J0 L0 H0 S0)} {e = (mem X0 T0 N0 J0 L0 H0 S3)} (c.in-Some.ensures) (s_shut (c.if-left-eq0.true) (c.refuse_for.ensures) (λ k l. refl)))
 
 pub one-mark-s1-requires : goal.one-mark-s1-requires
 one-mark-s1-requires t c =
@@ -2447,8 +2447,8 @@ opr-should_break_exp-ends-requires t c =
     let pre0 = c.requires.0 in
     pre0
 
-pub opr-refuse-requires : goal.opr-refuse-requires
-opr-refuse-requires t c =
+pub opr-refuse_for-requires : goal.opr-refuse_for-requires
+opr-refuse_for-requires t c =
     tt
 
 pub opr-returns-then-left-eq0 : goal.opr-returns-then-left-eq0
@@ -2464,8 +2464,8 @@ opr-returns-then-left-eq0 t c =
     let L1 = c.should_break_exp-ends.new.scratch in
     let H1 = c.should_break_exp-ends.new.finds in
     let S1 = c.in-Err.s1 in
-    let S3 = c.refuse.result in
-    in_steps {m = (mem X0 T0 N0 J0 L0 H0 S0)} {m' = (mem X0 T0 N0 J0 L1 H1 S3)} (c.requires.0) (s_by {a = (mem X0 T0 N0 J0 L0 H0 S0)} {c = (mem X0 T0 N0 J0 L1 H1 S1)} {e = (mem X0 T0 N0 J0 L1 H1 S3)} _ (runs_always {a = (mem X0 T0 N0 J0 L0 H0 S0)} {c = (mem X0 T0 N0 J0 L1 H1 S1)} (c.in-Err.ensures)) (s_shut (c.if-left-eq0.true) (c.refuse.ensures) (λ k l. refl)))
+    let S3 = c.refuse_for.result in
+    in_steps {m = (mem X0 T0 N0 J0 L0 H0 S0)} {m' = (mem X0 T0 N0 J0 L1 H1 S3)} (c.requires.0) (s_by {a = (mem X0 T0 N0 J0 L0 H0 S0)} {c = (mem X0 T0 N0 J0 L1 H1 S1)} {e = (mem X0 T0 N0 J0 L1 H1 S3)} _ (runs_always {a = (mem X0 T0 N0 J0 L0 H0 S0)} {c = (mem X0 T0 N0 J0 L1 H1 S1)} (c.in-Err.ensures)) (s_shut (c.if-left-eq0.true) (c.refuse_for.ensures) (λ k l. refl)))
 
 pub opr-mark-s2-requires : goal.opr-mark-s2-requires
 opr-mark-s2-requires t c =
@@ -2630,8 +2630,8 @@ oth-pre-got-requires t c =
     let pre0 = c.requires.0 in
     (omega arith, pre0)
 
-pub oth-close-requires : goal.oth-close-requires
-oth-close-requires t c =
+pub oth-close_node-requires : goal.oth-close_node-requires
+oth-close_node-requires t c =
     let pre1 = c.requires.1 in
     let pre = c.in-Ok.ensures in
     let pre_ok = pre.ok in
@@ -2667,17 +2667,17 @@ oth-returns-in-Ok t c =
     let L3 = c.pre-got.new.scratch in
     let H3 = c.pre-got.new.finds in
     let S3 = c.in-Ok.s1 in
-    let L4 = c.close.new.scratch in
-    let S4 = c.close.result in
-    in_steps {m = (mem X0 T0 N0 J0 L0 H0 S0)} {m' = (mem X0 T0 N0 J3 L4 H3 S4)} (c.requires.0) (s_false {a = (mem X0 T0 N0 J0 L0 H0 S0)} {e = (mem X0 T0 N0 J3 L4 H3 S4)} _ _ (kind_not (c.if-k-eq-ABSTYPE_KW.false)) (s_false {a = (mem X0 T0 N0 J0 L0 H0 S0)} {e = (mem X0 T0 N0 J3 L4 H3 S4)} _ _ (kind_not (c.if-k-eq-LOCAL_KW.false)) (s_run {a = (mem X0 T0 N0 J0 L0 H0 S0)} {c = (mem X0 T0 N0 J3 L3 H3 S3)} {e = (mem X0 T0 N0 J3 L4 H3 S4)} (runs_in {a = (mem X0 T0 N0 J0 L0 H0 S0)} {c = (mem X0 T0 N0 J3 L3 H3 S3)} (c.in-Ok.ensures)) (s_close {e = (mem X0 T0 N0 J3 L4 H3 S4)} {x = X0} {t = T0} {n = N0} {j = J3} {l = L3} {h = H3} {s = S3} {s' = S4} {l' = L4} (c.close.ensures) s_end))))
+    let L4 = c.close_node.new.scratch in
+    let S4 = c.close_node.result in
+    in_steps {m = (mem X0 T0 N0 J0 L0 H0 S0)} {m' = (mem X0 T0 N0 J3 L4 H3 S4)} (c.requires.0) (s_false {a = (mem X0 T0 N0 J0 L0 H0 S0)} {e = (mem X0 T0 N0 J3 L4 H3 S4)} _ _ (kind_not (c.if-k-eq-ABSTYPE_KW.false)) (s_false {a = (mem X0 T0 N0 J0 L0 H0 S0)} {e = (mem X0 T0 N0 J3 L4 H3 S4)} _ _ (kind_not (c.if-k-eq-LOCAL_KW.false)) (s_run {a = (mem X0 T0 N0 J0 L0 H0 S0)} {c = (mem X0 T0 N0 J3 L3 H3 S3)} {e = (mem X0 T0 N0 J3 L4 H3 S4)} (runs_in {a = (mem X0 T0 N0 J0 L0 H0 S0)} {c = (mem X0 T0 N0 J3 L3 H3 S3)} (c.in-Ok.ensures)) (s_close {e = (mem X0 T0 N0 J3 L4 H3 S4)} {x = X0} {t = T0} {n = N0} {j = J3} {l = L3} {h = H3} {s = S3} {s' = S4} {l' = L4} (c.close_node.ensures) s_end))))
 
 pub pa-at-requires : goal.pa-at-requires
 pa-at-requires t c =
     let pre0 = c.requires in
     pre0.reads
 
-pub pa-refuse-requires : goal.pa-refuse-requires
-pa-refuse-requires t c =
+pub pa-refuse_for-requires : goal.pa-refuse_for-requires
+pa-refuse_for-requires t c =
     tt
 
 pub pa-returns-then-left-eq0 : goal.pa-returns-then-left-eq0
@@ -2690,8 +2690,8 @@ pa-returns-then-left-eq0 t c =
     let L0 = c.args.scratch.now in
     let H0 = c.args.finds.now in
     let S0 = c.args.s in
-    let S4 = c.refuse.result in
-    by_steps {m = (mem X0 T0 N0 J0 L0 H0 S0)} {m' = (mem X0 T0 N0 J0 L0 H0 S4)} (c.requires) (λ b. s_kind {a = (mem X0 T0 N0 J0 L0 H0 S0)} {e = (mem X0 T0 N0 J0 L0 H0 S4)} (s_true {a = (mem X0 T0 N0 J0 L0 H0 S0)} {e = (mem X0 T0 N0 J0 L0 H0 S4)} _ _ (kind_at _ _ (mem X0 T0 N0 J0 L0 H0 S0) _ (c.at.ensures) (c.if-at.true)) (s_shut (c.if-left-eq0.true) (c.refuse.ensures) (λ k l. refl))))
+    let S4 = c.refuse_for.result in
+    by_steps {m = (mem X0 T0 N0 J0 L0 H0 S0)} {m' = (mem X0 T0 N0 J0 L0 H0 S4)} (c.requires) (λ b. s_kind {a = (mem X0 T0 N0 J0 L0 H0 S0)} {e = (mem X0 T0 N0 J0 L0 H0 S4)} (s_true {a = (mem X0 T0 N0 J0 L0 H0 S0)} {e = (mem X0 T0 N0 J0 L0 H0 S4)} _ _ (kind_at _ _ (mem X0 T0 N0 J0 L0 H0 S0) _ (c.at.ensures) (c.if-at.true)) (s_shut (c.if-left-eq0.true) (c.refuse_for.ensures) (λ k l. refl))))
 
 pub pa-mark-s1-requires : goal.pa-mark-s1-requires
 pa-mark-s1-requires t c =
@@ -2724,8 +2724,8 @@ pa-sgm-s4-requires t c =
     let bump_ascription_ok = ok_takes bump_ascription bump_ok in
     (omega arith, bump_ascription_ok)
 
-pub pa-close-requires : goal.pa-close-requires
-pa-close-requires t c =
+pub pa-close_node-requires : goal.pa-close_node-requires
+pa-close_node-requires t c =
     let pre0 = c.requires in
     let mark = c.mark-s1.ensures in
     let mark_ok = ok_marks mark pre0 in
@@ -2752,9 +2752,9 @@ pa-returns-then-at t c =
     let L7 = c.sgm-s4.new.scratch in
     let H7 = c.sgm-s4.new.finds in
     let S7 = c.sgm-s4.result in
-    let L8 = c.close.new.scratch in
-    let S8 = c.close.result in
-    by_steps {m = (mem X0 T0 N0 J0 L0 H0 S0)} {m' = (mem X0 T0 N0 J7 L8 H7 S8)} (c.requires) (λ b. s_kind {a = (mem X0 T0 N0 J0 L0 H0 S0)} {e = (mem X0 T0 N0 J7 L8 H7 S8)} (s_true {a = (mem X0 T0 N0 J0 L0 H0 S0)} {e = (mem X0 T0 N0 J7 L8 H7 S8)} _ _ (kind_at _ _ (mem X0 T0 N0 J0 L0 H0 S0) _ (c.at.ensures) (c.if-at.true)) (s_mark {e = (mem X0 T0 N0 J7 L8 H7 S8)} {x = X0} {t = T0} {n = N0} {j = J0} {l = L0} {h = H0} {s = S0} {s' = S4} (c.if-left-eq0.false) (c.mark-s1.ensures) (s_bump {e = (mem X0 T0 N0 J7 L8 H7 S8)} {x = X0} {t = T0} {n = N0} {j = J0} {l = L0} {h = H0} {s = S4} {s' = S5} {l' = L5} (c.bump-s2.ensures) (s_takes _ _ {x = X0} {t = T0} {n = N0} {j = J0} {l = L5} {h = H0} {l' = L6} {s = S5} {s' = S6} {e = (mem X0 T0 N0 J7 L8 H7 S8)} _ (c.bump_ascription-s3.ensures) (s_by {a = (mem X0 T0 N0 J0 L6 H0 S6)} {c = (mem X0 T0 N0 J7 L7 H7 S7)} {e = (mem X0 T0 N0 J7 L8 H7 S8)} _ (runs_in {a = (mem X0 T0 N0 J0 L6 H0 S6)} {c = (mem X0 T0 N0 J7 L7 H7 S7)} (c.sgm-s4.ensures)) (s_close {e = (mem X0 T0 N0 J7 L8 H7 S8)} {x = X0} {t = T0} {n = N0} {j = J7} {l = L7} {h = H7} {s = S7} {s' = S8} {l' = L8} (c.close.ensures) s_end)))))))
+    let L8 = c.close_node.new.scratch in
+    let S8 = c.close_node.result in
+    by_steps {m = (mem X0 T0 N0 J0 L0 H0 S0)} {m' = (mem X0 T0 N0 J7 L8 H7 S8)} (c.requires) (λ b. s_kind {a = (mem X0 T0 N0 J0 L0 H0 S0)} {e = (mem X0 T0 N0 J7 L8 H7 S8)} (s_true {a = (mem X0 T0 N0 J0 L0 H0 S0)} {e = (mem X0 T0 N0 J7 L8 H7 S8)} _ _ (kind_at _ _ (mem X0 T0 N0 J0 L0 H0 S0) _ (c.at.ensures) (c.if-at.true)) (s_mark {e = (mem X0 T0 N0 J7 L8 H7 S8)} {x = X0} {t = T0} {n = N0} {j = J0} {l = L0} {h = H0} {s = S0} {s' = S4} (c.if-left-eq0.false) (c.mark-s1.ensures) (s_bump {e = (mem X0 T0 N0 J7 L8 H7 S8)} {x = X0} {t = T0} {n = N0} {j = J0} {l = L0} {h = H0} {s = S4} {s' = S5} {l' = L5} (c.bump-s2.ensures) (s_takes _ _ {x = X0} {t = T0} {n = N0} {j = J0} {l = L5} {h = H0} {l' = L6} {s = S5} {s' = S6} {e = (mem X0 T0 N0 J7 L8 H7 S8)} _ (c.bump_ascription-s3.ensures) (s_by {a = (mem X0 T0 N0 J0 L6 H0 S6)} {c = (mem X0 T0 N0 J7 L7 H7 S7)} {e = (mem X0 T0 N0 J7 L8 H7 S8)} _ (runs_in {a = (mem X0 T0 N0 J0 L6 H0 S6)} {c = (mem X0 T0 N0 J7 L7 H7 S7)} (c.sgm-s4.ensures)) (s_close {e = (mem X0 T0 N0 J7 L8 H7 S8)} {x = X0} {t = T0} {n = N0} {j = J7} {l = L7} {h = H7} {s = S7} {s' = S8} {l' = L8} (c.close_node.ensures) s_end)))))))
 
 pub pa-dec-got-requires : goal.pa-dec-got-requires
 pa-dec-got-requires t c =
@@ -2794,8 +2794,8 @@ pre-returns-in_default t c =
     let peek = c.in_default.ensures in
     by_steps pre0 (λ b. s_rule (s_look peek s_end))
 
-pub pre-refuse-requires : goal.pre-refuse-requires
-pre-refuse-requires t c =
+pub pre-refuse_for-requires : goal.pre-refuse_for-requires
+pre-refuse_for-requires t c =
     tt
 
 pub pre-returns-then-left-eq0 : goal.pre-returns-then-left-eq0
@@ -2808,8 +2808,8 @@ pre-returns-then-left-eq0 t c =
     let L0 = c.args.scratch.now in
     let H0 = c.args.finds.now in
     let S0 = c.args.s in
-    let S3 = c.refuse.result in
-    by_steps {m = (mem X0 T0 N0 J0 L0 H0 S0)} {m' = (mem X0 T0 N0 J0 L0 H0 S3)} (c.requires) (λ b. s_rule {a = (mem X0 T0 N0 J0 L0 H0 S0)} {e = (mem X0 T0 N0 J0 L0 H0 S3)} (s_look {a = (mem X0 T0 N0 J0 L0 H0 S0)} {e = (mem X0 T0 N0 J0 L0 H0 S3)} (c.in-Some.ensures) (s_shut (c.if-left-eq0.true) (c.refuse.ensures) (λ k l. refl))))
+    let S3 = c.refuse_for.result in
+    by_steps {m = (mem X0 T0 N0 J0 L0 H0 S0)} {m' = (mem X0 T0 N0 J0 L0 H0 S3)} (c.requires) (λ b. s_rule {a = (mem X0 T0 N0 J0 L0 H0 S0)} {e = (mem X0 T0 N0 J0 L0 H0 S3)} (s_look {a = (mem X0 T0 N0 J0 L0 H0 S0)} {e = (mem X0 T0 N0 J0 L0 H0 S3)} (c.in-Some.ensures) (s_shut (c.if-left-eq0.true) (c.refuse_for.ensures) (λ k l. refl))))
 
 pub pre-mark-s1-requires : goal.pre-mark-s1-requires
 pre-mark-s1-requires t c =
@@ -2910,8 +2910,8 @@ rhs-ty_must-s1-requires t c =
     let pre0 = c.requires.0 in
     pre0
 
-pub rhs-close-requires : goal.rhs-close-requires
-rhs-close-requires t c =
+pub rhs-close_node-requires : goal.rhs-close_node-requires
+rhs-close_node-requires t c =
     let pre1 = c.requires.1 in
     let ty_must = c.ty_must-s1.ensures in
     let ty_must_ok = ty_must.ok in
@@ -2924,8 +2924,8 @@ rhs-returns-then-is_ascribed t c =
     let is_ascribed = c.is_ascribed.ensures in
     let if1 = c.if-is_ascribed.true in
     let ty_must = c.ty_must-s1.ensures in
-    let close = c.close.ensures in
-    in_steps pre0 (s_true _ _ (test_true is_ascribed if1) (s_by _ (runs_in ty_must) (s_close close s_end)))
+    let close_node = c.close_node.ensures in
+    in_steps pre0 (s_true _ _ (test_true is_ascribed if1) (s_by _ (runs_in ty_must) (s_close close_node s_end)))
 
 pub rhs-is_handle-requires : goal.rhs-is_handle-requires
 rhs-is_handle-requires t c =
@@ -2936,8 +2936,8 @@ rhs-mat-s1-requires t c =
     let pre0 = c.requires.0 in
     (omega arith, pre0)
 
-pub rhs-close-requires-then-is_handle : goal.rhs-close-requires-then-is_handle
-rhs-close-requires-then-is_handle t c =
+pub rhs-close_node-requires-then-is_handle : goal.rhs-close_node-requires-then-is_handle
+rhs-close_node-requires-then-is_handle t c =
     let pre1 = c.requires.1 in
     let mat = c.mat-s1.ensures in
     let mat_ok = mat.ok in
@@ -2952,8 +2952,8 @@ rhs-returns-then-is_handle t c =
     let is_handle = c.is_handle.ensures in
     let if2 = c.if-is_handle.true in
     let mat = c.mat-s1.ensures in
-    let close2 = c.close-then-is_handle.ensures in
-    in_steps pre0 (s_false _ _ (test_false is_ascribed if1) (s_true _ _ (test_true is_handle if2) (s_by _ (runs_in mat) (s_close close2 s_end))))
+    let close_node2 = c.close_node-then-is_handle.ensures in
+    in_steps pre0 (s_false _ _ (test_false is_ascribed if1) (s_true _ _ (test_true is_handle if2) (s_by _ (runs_in mat) (s_close close_node2 s_end))))
 
 pub rhs-exp-s1-requires : goal.rhs-exp-s1-requires
 rhs-exp-s1-requires t c =
@@ -2964,8 +2964,8 @@ pub rhs-node_of-node-requires : goal.rhs-node_of-node-requires
 rhs-node_of-node-requires t c =
     tt
 
-pub rhs-close-requires-2 : goal.rhs-close-requires-2
-rhs-close-requires-2 t c =
+pub rhs-close_node-requires-2 : goal.rhs-close_node-requires-2
+rhs-close_node-requires-2 t c =
     let pre1 = c.requires.1 in
     let exp = c.exp-s1.ensures in
     let exp_ok = exp.ok in
@@ -2981,8 +2981,8 @@ rhs-returns t c =
     let if2 = c.if-is_handle.false in
     let exp = c.exp-s1.ensures in
     let node_of = c.node_of-node.ensures in
-    let close3 = c.close-2.ensures in
-    rw (sym node_of) (in_steps pre0 (s_false _ _ (test_false is_ascribed if1) (s_false _ _ (test_false is_handle if2) (s_by _ (runs_in exp) (s_close close3 s_end)))))
+    let close_node3 = c.close_node-2.ensures in
+    rw (sym node_of) (in_steps pre0 (s_false _ _ (test_false is_ascribed if1) (s_false _ _ (test_false is_handle if2) (s_by _ (runs_in exp) (s_close close_node3 s_end)))))
 
 pub rnd-at-requires : goal.rnd-at-requires
 rnd-at-requires t c =
@@ -2994,8 +2994,8 @@ rnd-bump-s1-requires t c =
     let pre0 = c.requires.0 in
     (pre0.reads, pre0.logs)
 
-pub rnd-close-requires : goal.rnd-close-requires
-rnd-close-requires t c =
+pub rnd-close_node-requires : goal.rnd-close_node-requires
+rnd-close_node-requires t c =
     let pre0 = c.requires.0 in
     let pre1 = c.requires.1 in
     let bump = c.bump-s1.ensures in
@@ -3014,12 +3014,12 @@ rnd-returns-then-at t c =
     let S0 = c.args.s in
     let L3 = c.bump-s1.new.scratch in
     let S3 = c.bump-s1.result in
-    let L4 = c.close.new.scratch in
-    let S4 = c.close.result in
-    in_steps {m = (mem X0 T0 N0 J0 L0 H0 S0)} {m' = (mem X0 T0 N0 J0 L4 H0 S4)} (c.requires.0) (s_kind {a = (mem X0 T0 N0 J0 L0 H0 S0)} {e = (mem X0 T0 N0 J0 L4 H0 S4)} (s_true {a = (mem X0 T0 N0 J0 L0 H0 S0)} {e = (mem X0 T0 N0 J0 L4 H0 S4)} _ _ (kind_at _ _ (mem X0 T0 N0 J0 L0 H0 S0) _ (c.at.ensures) (c.if-at.true)) (s_bump {e = (mem X0 T0 N0 J0 L4 H0 S4)} {x = X0} {t = T0} {n = N0} {j = J0} {l = L0} {h = H0} {s = S0} {s' = S3} {l' = L3} (c.bump-s1.ensures) (s_close {e = (mem X0 T0 N0 J0 L4 H0 S4)} {x = X0} {t = T0} {n = N0} {j = J0} {l = L3} {h = H0} {s = S3} {s' = S4} {l' = L4} (c.close.ensures) s_end))))
+    let L4 = c.close_node.new.scratch in
+    let S4 = c.close_node.result in
+    in_steps {m = (mem X0 T0 N0 J0 L0 H0 S0)} {m' = (mem X0 T0 N0 J0 L4 H0 S4)} (c.requires.0) (s_kind {a = (mem X0 T0 N0 J0 L0 H0 S0)} {e = (mem X0 T0 N0 J0 L4 H0 S4)} (s_true {a = (mem X0 T0 N0 J0 L0 H0 S0)} {e = (mem X0 T0 N0 J0 L4 H0 S4)} _ _ (kind_at _ _ (mem X0 T0 N0 J0 L0 H0 S0) _ (c.at.ensures) (c.if-at.true)) (s_bump {e = (mem X0 T0 N0 J0 L4 H0 S4)} {x = X0} {t = T0} {n = N0} {j = J0} {l = L0} {h = H0} {s = S0} {s' = S3} {l' = L3} (c.bump-s1.ensures) (s_close {e = (mem X0 T0 N0 J0 L4 H0 S4)} {x = X0} {t = T0} {n = N0} {j = J0} {l = L3} {h = H0} {s = S3} {s' = S4} {l' = L4} (c.close_node.ensures) s_end))))
 
-pub rnd-refuse-requires : goal.rnd-refuse-requires
-rnd-refuse-requires t c =
+pub rnd-refuse_for-requires : goal.rnd-refuse_for-requires
+rnd-refuse_for-requires t c =
     tt
 
 pub rnd-returns-then-left-eq0 : goal.rnd-returns-then-left-eq0
@@ -3032,8 +3032,8 @@ rnd-returns-then-left-eq0 t c =
     let L0 = c.args.scratch.now in
     let H0 = c.args.finds.now in
     let S0 = c.args.s in
-    let S4 = c.refuse.result in
-    in_steps {m = (mem X0 T0 N0 J0 L0 H0 S0)} {m' = (mem X0 T0 N0 J0 L0 H0 S4)} (c.requires.0) (s_kind {a = (mem X0 T0 N0 J0 L0 H0 S0)} {e = (mem X0 T0 N0 J0 L0 H0 S4)} (s_false {a = (mem X0 T0 N0 J0 L0 H0 S0)} {e = (mem X0 T0 N0 J0 L0 H0 S4)} _ _ (kind_off _ _ (mem X0 T0 N0 J0 L0 H0 S0) _ (c.at.ensures) (c.if-at.false)) (s_shut (c.if-left-eq0.true) (c.refuse.ensures) (λ k l. refl))))
+    let S4 = c.refuse_for.result in
+    in_steps {m = (mem X0 T0 N0 J0 L0 H0 S0)} {m' = (mem X0 T0 N0 J0 L0 H0 S4)} (c.requires.0) (s_kind {a = (mem X0 T0 N0 J0 L0 H0 S0)} {e = (mem X0 T0 N0 J0 L0 H0 S4)} (s_false {a = (mem X0 T0 N0 J0 L0 H0 S0)} {e = (mem X0 T0 N0 J0 L0 H0 S4)} _ _ (kind_off _ _ (mem X0 T0 N0 J0 L0 H0 S0) _ (c.at.ensures) (c.if-at.false)) (s_shut (c.if-left-eq0.true) (c.refuse_for.ensures) (λ k l. refl))))
 
 pub rnd-mark-s1-requires : goal.rnd-mark-s1-requires
 rnd-mark-s1-requires t c =
@@ -3078,8 +3078,8 @@ rnd-bump-s3-requires t c =
     let exp_ok = exp.ok in
     (exp_ok.reads, exp_ok.logs)
 
-pub rnd-close-s4-requires : goal.rnd-close-s4-requires
-rnd-close-s4-requires t c =
+pub rnd-close_node-s4-requires : goal.rnd-close_node-s4-requires
+rnd-close_node-s4-requires t c =
     let pre0 = c.requires.0 in
     let mark = c.mark-s1.ensures in
     let mark_ok = ok_marks mark pre0 in
@@ -3096,9 +3096,9 @@ rnd-cl-s5-requires t c =
     let exp_ok = exp.ok in
     let bump2 = c.bump-s3.ensures in
     let bump2_ok = ok_bumps bump2 exp_ok in
-    let close2 = c.close-s4.ensures in
-    let close2_ok = ok_adds close2 bump2_ok in
-    (omega arith, (close2_ok, pre1, omega arith))
+    let close_node2 = c.close_node-s4.ensures in
+    let close_node2_ok = ok_adds close_node2 bump2_ok in
+    (omega arith, (close_node2_ok, pre1, omega arith))
 
 pub rnd-returns-then-k-eq-SEMICOLON : goal.rnd-returns-then-k-eq-SEMICOLON
 unfolding expr.at_exp_l_round expr.end_closure util.choose plan choose chosen
@@ -3117,13 +3117,13 @@ rnd-returns-then-k-eq-SEMICOLON t c =
     let S5 = c.exp-s2.result in
     let L8 = c.bump-s3.new.scratch in
     let S8 = c.bump-s3.result in
-    let L9 = c.close-s4.new.scratch in
-    let S9 = c.close-s4.result in
+    let L9 = c.close_node-s4.new.scratch in
+    let S9 = c.close_node-s4.result in
     let J10 = c.cl-s5.new.table in
     let L10 = c.cl-s5.new.scratch in
     let H10 = c.cl-s5.new.finds in
     let S10 = c.cl-s5.result in
-    in_steps {m = (mem X0 T0 N0 J0 L0 H0 S0)} {m' = (mem X0 T0 N0 J10 L10 H10 S10)} (c.requires.0) (s_kind {a = (mem X0 T0 N0 J0 L0 H0 S0)} {e = (mem X0 T0 N0 J10 L10 H10 S10)} (s_false {a = (mem X0 T0 N0 J0 L0 H0 S0)} {e = (mem X0 T0 N0 J10 L10 H10 S10)} _ _ (kind_off _ _ (mem X0 T0 N0 J0 L0 H0 S0) _ (c.at.ensures) (c.if-at.false)) (s_mark {e = (mem X0 T0 N0 J10 L10 H10 S10)} {x = X0} {t = T0} {n = N0} {j = J0} {l = L0} {h = H0} {s = S0} {s' = S4} (c.if-left-eq0.false) (c.mark-s1.ensures) (s_by {a = (mem X0 T0 N0 J0 L0 H0 S4)} {c = (mem X0 T0 N0 J5 L5 H5 S5)} {e = (mem X0 T0 N0 J10 L10 H10 S10)} _ (runs_in {a = (mem X0 T0 N0 J0 L0 H0 S4)} {c = (mem X0 T0 N0 J5 L5 H5 S5)} (c.exp-s2.ensures)) (s_look {a = (mem X0 T0 N0 J5 L5 H5 S5)} {e = (mem X0 T0 N0 J10 L10 H10 S10)} (c.in-Some.ensures) (s_true {a = (mem X0 T0 N0 J5 L5 H5 S5)} {e = (mem X0 T0 N0 J10 L10 H10 S10)} _ _ (kind_is (c.if-k-eq-SEMICOLON.true)) (s_bump {e = (mem X0 T0 N0 J10 L10 H10 S10)} {x = X0} {t = T0} {n = N0} {j = J5} {l = L5} {h = H5} {s = S5} {s' = S8} {l' = L8} (c.bump-s3.ensures) (s_close {e = (mem X0 T0 N0 J10 L10 H10 S10)} {x = X0} {t = T0} {n = N0} {j = J5} {l = L8} {h = H5} {s = S8} {s' = S9} {l' = L9} (c.close-s4.ensures) (s_by {a = (mem X0 T0 N0 J5 L9 H5 S9)} {c = (mem X0 T0 N0 J10 L10 H10 S10)} {e = (mem X0 T0 N0 J10 L10 H10 S10)} _ (c.cl-s5.ensures) s_end)))))))))
+    in_steps {m = (mem X0 T0 N0 J0 L0 H0 S0)} {m' = (mem X0 T0 N0 J10 L10 H10 S10)} (c.requires.0) (s_kind {a = (mem X0 T0 N0 J0 L0 H0 S0)} {e = (mem X0 T0 N0 J10 L10 H10 S10)} (s_false {a = (mem X0 T0 N0 J0 L0 H0 S0)} {e = (mem X0 T0 N0 J10 L10 H10 S10)} _ _ (kind_off _ _ (mem X0 T0 N0 J0 L0 H0 S0) _ (c.at.ensures) (c.if-at.false)) (s_mark {e = (mem X0 T0 N0 J10 L10 H10 S10)} {x = X0} {t = T0} {n = N0} {j = J0} {l = L0} {h = H0} {s = S0} {s' = S4} (c.if-left-eq0.false) (c.mark-s1.ensures) (s_by {a = (mem X0 T0 N0 J0 L0 H0 S4)} {c = (mem X0 T0 N0 J5 L5 H5 S5)} {e = (mem X0 T0 N0 J10 L10 H10 S10)} _ (runs_in {a = (mem X0 T0 N0 J0 L0 H0 S4)} {c = (mem X0 T0 N0 J5 L5 H5 S5)} (c.exp-s2.ensures)) (s_look {a = (mem X0 T0 N0 J5 L5 H5 S5)} {e = (mem X0 T0 N0 J10 L10 H10 S10)} (c.in-Some.ensures) (s_true {a = (mem X0 T0 N0 J5 L5 H5 S5)} {e = (mem X0 T0 N0 J10 L10 H10 S10)} _ _ (kind_is (c.if-k-eq-SEMICOLON.true)) (s_bump {e = (mem X0 T0 N0 J10 L10 H10 S10)} {x = X0} {t = T0} {n = N0} {j = J5} {l = L5} {h = H5} {s = S5} {s' = S8} {l' = L8} (c.bump-s3.ensures) (s_close {e = (mem X0 T0 N0 J10 L10 H10 S10)} {x = X0} {t = T0} {n = N0} {j = J5} {l = L8} {h = H5} {s = S8} {s' = S9} {l' = L9} (c.close_node-s4.ensures) (s_by {a = (mem X0 T0 N0 J5 L9 H5 S9)} {c = (mem X0 T0 N0 J10 L10 H10 S10)} {e = (mem X0 T0 N0 J10 L10 H10 S10)} _ (c.cl-s5.ensures) s_end)))))))))
 
 pub rnd-bump-s3-requires-then-k-eq-COMMA : goal.rnd-bump-s3-requires-then-k-eq-COMMA
 rnd-bump-s3-requires-then-k-eq-COMMA t c =
@@ -3131,8 +3131,8 @@ rnd-bump-s3-requires-then-k-eq-COMMA t c =
     let exp_ok = exp.ok in
     (exp_ok.reads, exp_ok.logs)
 
-pub rnd-close-s4-requires-then-k-eq-COMMA : goal.rnd-close-s4-requires-then-k-eq-COMMA
-rnd-close-s4-requires-then-k-eq-COMMA t c =
+pub rnd-close_node-s4-requires-then-k-eq-COMMA : goal.rnd-close_node-s4-requires-then-k-eq-COMMA
+rnd-close_node-s4-requires-then-k-eq-COMMA t c =
     let pre0 = c.requires.0 in
     let mark = c.mark-s1.ensures in
     let mark_ok = ok_marks mark pre0 in
@@ -3149,9 +3149,9 @@ rnd-cl-s5-requires-then-k-eq-COMMA t c =
     let exp_ok = exp.ok in
     let bump3 = c.bump-s3-then-k-eq-COMMA.ensures in
     let bump3_ok = ok_bumps bump3 exp_ok in
-    let close3 = c.close-s4-then-k-eq-COMMA.ensures in
-    let close3_ok = ok_adds close3 bump3_ok in
-    (omega arith, (close3_ok, pre1, omega arith))
+    let close_node3 = c.close_node-s4-then-k-eq-COMMA.ensures in
+    let close_node3_ok = ok_adds close_node3 bump3_ok in
+    (omega arith, (close_node3_ok, pre1, omega arith))
 
 pub rnd-returns-then-k-eq-COMMA : goal.rnd-returns-then-k-eq-COMMA
 unfolding expr.at_exp_l_round expr.end_closure util.choose plan choose chosen
@@ -3170,13 +3170,13 @@ rnd-returns-then-k-eq-COMMA t c =
     let S5 = c.exp-s2.result in
     let L9 = c.bump-s3-then-k-eq-COMMA.new.scratch in
     let S9 = c.bump-s3-then-k-eq-COMMA.result in
-    let L10 = c.close-s4-then-k-eq-COMMA.new.scratch in
-    let S10 = c.close-s4-then-k-eq-COMMA.result in
+    let L10 = c.close_node-s4-then-k-eq-COMMA.new.scratch in
+    let S10 = c.close_node-s4-then-k-eq-COMMA.result in
     let J11 = c.cl-s5-then-k-eq-COMMA.new.table in
     let L11 = c.cl-s5-then-k-eq-COMMA.new.scratch in
     let H11 = c.cl-s5-then-k-eq-COMMA.new.finds in
     let S11 = c.cl-s5-then-k-eq-COMMA.result in
-    in_steps {m = (mem X0 T0 N0 J0 L0 H0 S0)} {m' = (mem X0 T0 N0 J11 L11 H11 S11)} (c.requires.0) (s_kind {a = (mem X0 T0 N0 J0 L0 H0 S0)} {e = (mem X0 T0 N0 J11 L11 H11 S11)} (s_false {a = (mem X0 T0 N0 J0 L0 H0 S0)} {e = (mem X0 T0 N0 J11 L11 H11 S11)} _ _ (kind_off _ _ (mem X0 T0 N0 J0 L0 H0 S0) _ (c.at.ensures) (c.if-at.false)) (s_mark {e = (mem X0 T0 N0 J11 L11 H11 S11)} {x = X0} {t = T0} {n = N0} {j = J0} {l = L0} {h = H0} {s = S0} {s' = S4} (c.if-left-eq0.false) (c.mark-s1.ensures) (s_by {a = (mem X0 T0 N0 J0 L0 H0 S4)} {c = (mem X0 T0 N0 J5 L5 H5 S5)} {e = (mem X0 T0 N0 J11 L11 H11 S11)} _ (runs_in {a = (mem X0 T0 N0 J0 L0 H0 S4)} {c = (mem X0 T0 N0 J5 L5 H5 S5)} (c.exp-s2.ensures)) (s_look {a = (mem X0 T0 N0 J5 L5 H5 S5)} {e = (mem X0 T0 N0 J11 L11 H11 S11)} (c.in-Some.ensures) (s_false {a = (mem X0 T0 N0 J5 L5 H5 S5)} {e = (mem X0 T0 N0 J11 L11 H11 S11)} _ _ (kind_not (c.if-k-eq-SEMICOLON.false)) (s_true {a = (mem X0 T0 N0 J5 L5 H5 S5)} {e = (mem X0 T0 N0 J11 L11 H11 S11)} _ _ (kind_is (c.if-k-eq-COMMA.true)) (s_bump {e = (mem X0 T0 N0 J11 L11 H11 S11)} {x = X0} {t = T0} {n = N0} {j = J5} {l = L5} {h = H5} {s = S5} {s' = S9} {l' = L9} (c.bump-s3-then-k-eq-COMMA.ensures) (s_close {e = (mem X0 T0 N0 J11 L11 H11 S11)} {x = X0} {t = T0} {n = N0} {j = J5} {l = L9} {h = H5} {s = S9} {s' = S10} {l' = L10} (c.close-s4-then-k-eq-COMMA.ensures) (s_by {a = (mem X0 T0 N0 J5 L10 H5 S10)} {c = (mem X0 T0 N0 J11 L11 H11 S11)} {e = (mem X0 T0 N0 J11 L11 H11 S11)} _ (c.cl-s5-then-k-eq-COMMA.ensures) s_end))))))))))
+    in_steps {m = (mem X0 T0 N0 J0 L0 H0 S0)} {m' = (mem X0 T0 N0 J11 L11 H11 S11)} (c.requires.0) (s_kind {a = (mem X0 T0 N0 J0 L0 H0 S0)} {e = (mem X0 T0 N0 J11 L11 H11 S11)} (s_false {a = (mem X0 T0 N0 J0 L0 H0 S0)} {e = (mem X0 T0 N0 J11 L11 H11 S11)} _ _ (kind_off _ _ (mem X0 T0 N0 J0 L0 H0 S0) _ (c.at.ensures) (c.if-at.false)) (s_mark {e = (mem X0 T0 N0 J11 L11 H11 S11)} {x = X0} {t = T0} {n = N0} {j = J0} {l = L0} {h = H0} {s = S0} {s' = S4} (c.if-left-eq0.false) (c.mark-s1.ensures) (s_by {a = (mem X0 T0 N0 J0 L0 H0 S4)} {c = (mem X0 T0 N0 J5 L5 H5 S5)} {e = (mem X0 T0 N0 J11 L11 H11 S11)} _ (runs_in {a = (mem X0 T0 N0 J0 L0 H0 S4)} {c = (mem X0 T0 N0 J5 L5 H5 S5)} (c.exp-s2.ensures)) (s_look {a = (mem X0 T0 N0 J5 L5 H5 S5)} {e = (mem X0 T0 N0 J11 L11 H11 S11)} (c.in-Some.ensures) (s_false {a = (mem X0 T0 N0 J5 L5 H5 S5)} {e = (mem X0 T0 N0 J11 L11 H11 S11)} _ _ (kind_not (c.if-k-eq-SEMICOLON.false)) (s_true {a = (mem X0 T0 N0 J5 L5 H5 S5)} {e = (mem X0 T0 N0 J11 L11 H11 S11)} _ _ (kind_is (c.if-k-eq-COMMA.true)) (s_bump {e = (mem X0 T0 N0 J11 L11 H11 S11)} {x = X0} {t = T0} {n = N0} {j = J5} {l = L5} {h = H5} {s = S5} {s' = S9} {l' = L9} (c.bump-s3-then-k-eq-COMMA.ensures) (s_close {e = (mem X0 T0 N0 J11 L11 H11 S11)} {x = X0} {t = T0} {n = N0} {j = J5} {l = L9} {h = H5} {s = S9} {s' = S10} {l' = L10} (c.close_node-s4-then-k-eq-COMMA.ensures) (s_by {a = (mem X0 T0 N0 J5 L10 H5 S10)} {c = (mem X0 T0 N0 J11 L11 H11 S11)} {e = (mem X0 T0 N0 J11 L11 H11 S11)} _ (c.cl-s5-then-k-eq-COMMA.ensures) s_end))))))))))
 
 pub rnd-paren_end-requires-2 : goal.rnd-paren_end-requires-2
 rnd-paren_end-requires-2 t c =
@@ -3217,8 +3217,8 @@ rst-returns-in_default t c =
     let peek = c.in_default.ensures in
     in_steps pre0 (s_look peek s_end)
 
-pub rst-refuse-requires : goal.rst-refuse-requires
-rst-refuse-requires t c =
+pub rst-refuse_for-requires : goal.rst-refuse_for-requires
+rst-refuse_for-requires t c =
     tt
 
 pub rst-returns-then-left-eq0 : goal.rst-returns-then-left-eq0
@@ -3231,8 +3231,8 @@ rst-returns-then-left-eq0 t c =
     let L0 = c.args.scratch.now in
     let H0 = c.args.finds.now in
     let S0 = c.args.s in
-    let S3 = c.refuse.result in
-    in_steps {m = (mem X0 T0 N0 J0 L0 H0 S0)} {m' = (mem X0 T0 N0 J0 L0 H0 S3)} (c.requires.0) (s_look {a = (mem X0 T0 N0 J0 L0 H0 S0)} {e = (mem X0 T0 N0 J0 L0 H0 S3)} (c.in-Some.ensures) (s_shut (c.if-left-eq0.true) (c.refuse.ensures) (λ k l. refl)))
+    let S3 = c.refuse_for.result in
+    in_steps {m = (mem X0 T0 N0 J0 L0 H0 S0)} {m' = (mem X0 T0 N0 J0 L0 H0 S3)} (c.requires.0) (s_look {a = (mem X0 T0 N0 J0 L0 H0 S0)} {e = (mem X0 T0 N0 J0 L0 H0 S3)} (c.in-Some.ensures) (s_shut (c.if-left-eq0.true) (c.refuse_for.ensures) (λ k l. refl)))
 
 pub rst-mark-s1-requires : goal.rst-mark-s1-requires
 rst-mark-s1-requires t c =
@@ -3290,8 +3290,8 @@ rst-returns-in-Ok t c =
     let S5 = c.ops-s3.result in
     in_steps {m = (mem X0 T0 N0 J0 L0 H0 S0)} {m' = (mem X0 T0 N0 J5 L5 H5 S5)} (c.requires.0) (s_look {a = (mem X0 T0 N0 J0 L0 H0 S0)} {e = (mem X0 T0 N0 J5 L5 H5 S5)} (c.in-Some.ensures) (s_mark {e = (mem X0 T0 N0 J5 L5 H5 S5)} {x = X0} {t = T0} {n = N0} {j = J0} {l = L0} {h = H0} {s = S0} {s' = S3} (c.if-left-eq0.false) (c.mark-s1.ensures) (s_by {a = (mem X0 T0 N0 J0 L0 H0 S3)} {c = (mem X0 T0 N0 J4 L4 H4 S4)} {e = (mem X0 T0 N0 J5 L5 H5 S5)} _ (c.in-Ok.ensures) (s_run {a = (mem X0 T0 N0 J4 L4 H4 S4)} {c = (mem X0 T0 N0 J5 L5 H5 S5)} {e = (mem X0 T0 N0 J5 L5 H5 S5)} (c.ops-s3.ensures) s_end))))
 
-pub sem-refuse-requires : goal.sem-refuse-requires
-sem-refuse-requires t c =
+pub sem-refuse_for-requires : goal.sem-refuse_for-requires
+sem-refuse_for-requires t c =
     tt
 
 pub sem-returns-then-left-eq0 : goal.sem-returns-then-left-eq0
@@ -3299,8 +3299,8 @@ unfolding util.semi_turn plan choose chosen hushed
 sem-returns-then-left-eq0 t c =
     let pre0 = c.requires in
     let if1 = c.if-left-eq0.true in
-    let refuse = c.refuse.ensures in
-    λ g. by_steps pre0 (λ b. s_shut if1 refuse (λ k l. refl))
+    let refuse_for = c.refuse_for.ensures in
+    λ g. by_steps pre0 (λ b. s_shut if1 refuse_for (λ k l. refl))
 
 pub sem-mark-s1-requires : goal.sem-mark-s1-requires
 sem-mark-s1-requires t c =
@@ -3319,8 +3319,8 @@ sem-bump_if-s3-requires t c =
     let pt_ok = pt.ok in
     (pt_ok.reads, pt_ok.logs)
 
-pub sem-close-requires : goal.sem-close-requires
-sem-close-requires t c =
+pub sem-close_node-requires : goal.sem-close_node-requires
+sem-close_node-requires t c =
     let pre0 = c.requires in
     let mark = c.mark-s1.ensures in
     let mark_ok = ok_marks mark pre0 in
@@ -3347,8 +3347,8 @@ sem-returns-in-Ok t c =
     let mark = c.mark-s1.ensures in
     let pt = c.in-Ok.ensures in
     let bump_if = c.bump_if-s3.ensures in
-    let close = c.close.ensures in
-    λ g. by_steps pre0 (λ b. s_mark if1 mark (s_by _ (runs_in pt) (s_takes _ _ _ bump_if (s_close close s_end))))
+    let close_node = c.close_node.ensures in
+    λ g. by_steps pre0 (λ b. s_mark if1 mark (s_by _ (runs_in pt) (s_takes _ _ _ bump_if (s_close close_node s_end))))
 
 pub sep-loop-q-init : goal.sep-loop-q-init
 sep-loop-q-init t c =
@@ -3375,16 +3375,16 @@ sep-returns-then-at t c =
     let bump = c.bump.ensures in
     loop_ends (end_turn_advances true _ _ _ _ _ _) inv (in_steps inv.ok {n = c.args.left} {b = c.args.b} (s_kind (s_true _ _ (kind_at _ _ _ _ at if1) (s_bump bump s_end))))
 
-pub sep-refuse-s2-requires : goal.sep-refuse-s2-requires
-sep-refuse-s2-requires t c =
+pub sep-refuse_for-s2-requires : goal.sep-refuse_for-s2-requires
+sep-refuse_for-s2-requires t c =
     tt
 
 pub sep-eat-got-requires : goal.sep-eat-got-requires
 sep-eat-got-requires t c =
     let inv = c.loop-q.invariant.ok in
-    let refuse = c.refuse-s2.ensures in
-    let refuse_ok = ok_refused _ refuse inv in
-    (refuse_ok.reads, refuse_ok.logs, refuse_ok.holds, omega arith)
+    let refuse_for = c.refuse_for-s2.ensures in
+    let refuse_for_ok = ok_refused _ refuse_for inv in
+    (refuse_for_ok.reads, refuse_for_ok.logs, refuse_for_ok.holds, omega arith)
 
 pub sep-either-requires : goal.sep-either-requires
 sep-either-requires t c =
@@ -3397,10 +3397,10 @@ sep-returns-then-left-eq0 t c =
     let at = c.at.ensures in
     let if1 = c.if-at.false in
     let if2 = c.if-left-eq0.true in
-    let refuse = c.refuse-s2.ensures in
+    let refuse_for = c.refuse_for-s2.ensures in
     let eat = c.eat-got.ensures in
     let either = c.either.ensures in
-    loop_ends (end_turn_advances true _ _ _ _ _ _) inv (in_steps inv.ok {n = c.args.left} {b = c.args.b} (s_kind (s_false _ _ (kind_off _ _ _ _ at if1) (s_deep if2 refuse (s_eats _ _ _ (eats_settled either eat) s_end)))))
+    loop_ends (end_turn_advances true _ _ _ _ _ _) inv (in_steps inv.ok {n = c.args.left} {b = c.args.b} (s_kind (s_false _ _ (kind_off _ _ _ _ at if1) (s_deep if2 refuse_for (s_eats _ _ _ (eats_settled either eat) s_end)))))
 
 pub sep-mark-s2-requires : goal.sep-mark-s2-requires
 sep-mark-s2-requires t c =
@@ -3425,8 +3425,8 @@ sep-bump-s4-requires t c =
     let cel_ok = cel.ok in
     (cel_ok.reads, cel_ok.logs)
 
-pub sep-close-s1-requires : goal.sep-close-s1-requires
-sep-close-s1-requires t c =
+pub sep-close_node-s1-requires : goal.sep-close_node-s1-requires
+sep-close_node-s1-requires t c =
     let inv = c.loop-q.invariant.ok in
     let mark = c.mark-s2.ensures in
     let mark_ok = ok_marks mark inv in
@@ -3448,8 +3448,8 @@ sep-loop-q-smaller t c =
     let at2 = c.at-in-loop-q.ensures in
     let if3 = c.if-at-2.true in
     let bump2 = c.bump-s4.ensures in
-    let close = c.close-s1.ensures in
-    loop_falls {p = (util.end_turn {g = true} (node_number c.args.q.wrap) c.args.q.sep c.args.q.end (expr.end_closure (node_number c.args.q.wrap)))} (end_turn_advances true _ _ _ _ _ _) (in_steps inv.ok {n = c.args.left} {b = c.args.b} (s_kind (s_false _ _ (kind_off _ _ _ _ at if1) (s_mark if2 mark (s_by _ (runs_in cel) (s_kind (s_true _ _ (kind_at _ _ _ _ at2 if3) (s_bump bump2 (s_close close s_end)))))))))
+    let close_node = c.close_node-s1.ensures in
+    loop_falls {p = (util.end_turn {g = true} (node_number c.args.q.wrap) c.args.q.sep c.args.q.end (expr.end_closure (node_number c.args.q.wrap)))} (end_turn_advances true _ _ _ _ _ _) (in_steps inv.ok {n = c.args.left} {b = c.args.b} (s_kind (s_false _ _ (kind_off _ _ _ _ at if1) (s_mark if2 mark (s_by _ (runs_in cel) (s_kind (s_true _ _ (kind_at _ _ _ _ at2 if3) (s_bump bump2 (s_close close_node s_end)))))))))
 
 pub sep-loop-q-preserved : goal.sep-loop-q-preserved
 unfolding util.end_turn util.end_item plan choose chosen
@@ -3463,11 +3463,11 @@ sep-loop-q-preserved t c =
     let at2 = c.at-in-loop-q.ensures in
     let if3 = c.if-at-2.true in
     let bump2 = c.bump-s4.ensures in
-    let close = c.close-s1.ensures in
-    loop_goes (end_turn_advances true _ _ _ _ _ _) inv (in_steps inv.ok {n = c.args.left} {b = c.args.b} (s_kind (s_false _ _ (kind_off _ _ _ _ at if1) (s_mark if2 mark (s_by _ (runs_in cel) (s_kind (s_true _ _ (kind_at _ _ _ _ at2 if3) (s_bump bump2 (s_close close s_end)))))))))
+    let close_node = c.close_node-s1.ensures in
+    loop_goes (end_turn_advances true _ _ _ _ _ _) inv (in_steps inv.ok {n = c.args.left} {b = c.args.b} (s_kind (s_false _ _ (kind_off _ _ _ _ at if1) (s_mark if2 mark (s_by _ (runs_in cel) (s_kind (s_true _ _ (kind_at _ _ _ _ at2 if3) (s_bump bump2 (s_close close_node s_end)))))))))
 
-pub sep-close-s4-requires : goal.sep-close-s4-requires
-sep-close-s4-requires t c =
+pub sep-close_node-s4-requires : goal.sep-close_node-s4-requires
+sep-close_node-s4-requires t c =
     let inv = c.loop-q.invariant.ok in
     let mark = c.mark-s2.ensures in
     let mark_ok = ok_marks mark inv in
@@ -3479,9 +3479,9 @@ pub sep-eat-got-requires-in-loop-q : goal.sep-eat-got-requires-in-loop-q
 sep-eat-got-requires-in-loop-q t c =
     let cel = c.cel-s3.ensures in
     let cel_ok = cel.ok in
-    let close2 = c.close-s4.ensures in
-    let close2_ok = ok_adds close2 cel_ok in
-    (close2_ok.reads, close2_ok.logs, close2_ok.holds, omega arith)
+    let close_node2 = c.close_node-s4.ensures in
+    let close_node2_ok = ok_adds close_node2 cel_ok in
+    (close_node2_ok.reads, close_node2_ok.logs, close_node2_ok.holds, omega arith)
 
 pub sep-either-requires-in-loop-q : goal.sep-either-requires-in-loop-q
 sep-either-requires-in-loop-q t c =
@@ -3498,10 +3498,10 @@ sep-returns-in-loop-q t c =
     let cel = c.cel-s3.ensures in
     let at2 = c.at-in-loop-q.ensures in
     let if3 = c.if-at-2.false in
-    let close2 = c.close-s4.ensures in
+    let close_node2 = c.close_node-s4.ensures in
     let eat2 = c.eat-got-in-loop-q.ensures in
     let either2 = c.either-in-loop-q.ensures in
-    loop_ends (end_turn_advances true _ _ _ _ _ _) inv (in_steps inv.ok {n = c.args.left} {b = c.args.b} (s_kind (s_false _ _ (kind_off _ _ _ _ at if1) (s_mark if2 mark (s_by _ (runs_in cel) (s_kind (s_false _ _ (kind_off _ _ _ _ at2 if3) (s_close close2 (s_eats _ _ _ (eats_settled either2 eat2) s_end)))))))))
+    loop_ends (end_turn_advances true _ _ _ _ _ _) inv (in_steps inv.ok {n = c.args.left} {b = c.args.b} (s_kind (s_false _ _ (kind_off _ _ _ _ at if1) (s_mark if2 mark (s_by _ (runs_in cel) (s_kind (s_false _ _ (kind_off _ _ _ _ at2 if3) (s_close close_node2 (s_eats _ _ _ (eats_settled either2 eat2) s_end)))))))))
 
 pub seq-loop-s2-init : goal.seq-loop-s2-init
 seq-loop-s2-init t c =
@@ -3593,8 +3593,8 @@ sgm-sgx-got-requires t c =
     let pre0 = c.requires in
     (omega arith, pre0)
 
-pub sgm-report-requires : goal.sgm-report-requires
-sgm-report-requires t c =
+pub sgm-report_error-requires : goal.sgm-report_error-requires
+sgm-report_error-requires t c =
     let sgx = c.in-Err.ensures in
     let sgx_ok = sgx.ok in
     (sgx_ok.holds, (let few = sgx_ok.reads.few in let inside = sgx_ok.reads.inside in omega arith), omega arith)
@@ -3629,9 +3629,9 @@ sgm-returns-in-Err t c =
     let L1 = c.sgx-got.new.scratch in
     let H1 = c.sgx-got.new.finds in
     let S1 = c.in-Err.s1 in
-    let H2 = c.report.new.finds in
-    let S2 = c.report.result in
-    by_steps {m = (mem X0 T0 N0 J0 L0 H0 S0)} {m' = (mem X0 T0 N0 J1 L1 H2 S2)} (c.requires) (λ b. s_run {a = (mem X0 T0 N0 J0 L0 H0 S0)} {c = (mem X0 T0 N0 J1 L1 H1 S1)} {e = (mem X0 T0 N0 J1 L1 H2 S2)} (runs_in {a = (mem X0 T0 N0 J0 L0 H0 S0)} {c = (mem X0 T0 N0 J1 L1 H1 S1)} (c.in-Err.ensures)) (s_report {e = (mem X0 T0 N0 J1 L1 H2 S2)} {x = X0} {t = T0} {n = N0} {j = J1} {l = L1} {h = H1} {s = S1} {s' = S2} {h' = H2} (c.report.ensures) s_end))
+    let H2 = c.report_error.new.finds in
+    let S2 = c.report_error.result in
+    by_steps {m = (mem X0 T0 N0 J0 L0 H0 S0)} {m' = (mem X0 T0 N0 J1 L1 H2 S2)} (c.requires) (λ b. s_run {a = (mem X0 T0 N0 J0 L0 H0 S0)} {c = (mem X0 T0 N0 J1 L1 H1 S1)} {e = (mem X0 T0 N0 J1 L1 H2 S2)} (runs_in {a = (mem X0 T0 N0 J0 L0 H0 S0)} {c = (mem X0 T0 N0 J1 L1 H1 S1)} (c.in-Err.ensures)) (s_report {e = (mem X0 T0 N0 J1 L1 H2 S2)} {x = X0} {t = T0} {n = N0} {j = J1} {l = L1} {h = H1} {s = S1} {s' = S2} {h' = H2} (c.report_error.ensures) s_end))
 
 pub sgx-peek-requires : goal.sgx-peek-requires
 sgx-peek-requires t c =
@@ -3645,8 +3645,8 @@ sgx-returns-in_default t c =
     let peek = c.in_default.ensures in
     by_steps pre0 (λ b. s_rule (s_look peek s_end))
 
-pub sgx-refuse-requires : goal.sgx-refuse-requires
-sgx-refuse-requires t c =
+pub sgx-refuse_for-requires : goal.sgx-refuse_for-requires
+sgx-refuse_for-requires t c =
     tt
 
 pub sgx-returns-then-left-eq0 : goal.sgx-returns-then-left-eq0
@@ -3659,8 +3659,8 @@ sgx-returns-then-left-eq0 t c =
     let L0 = c.args.scratch.now in
     let H0 = c.args.finds.now in
     let S0 = c.args.s in
-    let S3 = c.refuse.result in
-    by_steps {m = (mem X0 T0 N0 J0 L0 H0 S0)} {m' = (mem X0 T0 N0 J0 L0 H0 S3)} (c.requires) (λ b. s_rule {a = (mem X0 T0 N0 J0 L0 H0 S0)} {e = (mem X0 T0 N0 J0 L0 H0 S3)} (s_look {a = (mem X0 T0 N0 J0 L0 H0 S0)} {e = (mem X0 T0 N0 J0 L0 H0 S3)} (c.in-Some.ensures) (s_shut (c.if-left-eq0.true) (c.refuse.ensures) (λ k l. refl))))
+    let S3 = c.refuse_for.result in
+    by_steps {m = (mem X0 T0 N0 J0 L0 H0 S0)} {m' = (mem X0 T0 N0 J0 L0 H0 S3)} (c.requires) (λ b. s_rule {a = (mem X0 T0 N0 J0 L0 H0 S0)} {e = (mem X0 T0 N0 J0 L0 H0 S3)} (s_look {a = (mem X0 T0 N0 J0 L0 H0 S0)} {e = (mem X0 T0 N0 J0 L0 H0 S3)} (c.in-Some.ensures) (s_shut (c.if-left-eq0.true) (c.refuse_for.ensures) (λ k l. refl))))
 
 pub sgx-mark-s1-requires : goal.sgx-mark-s1-requires
 sgx-mark-s1-requires t c =
@@ -3744,8 +3744,8 @@ sgx-bump-s2-requires-then-k-eq-NAME t c =
     let mark_ok = ok_marks mark pre0 in
     (mark_ok.reads, mark_ok.logs)
 
-pub sgx-close-s3-requires : goal.sgx-close-s3-requires
-sgx-close-s3-requires t c =
+pub sgx-close_node-s3-requires : goal.sgx-close_node-s3-requires
+sgx-close_node-s3-requires t c =
     let pre0 = c.requires in
     let mark = c.mark-s1.ensures in
     let mark_ok = ok_marks mark pre0 in
@@ -3760,9 +3760,9 @@ sgx-wheres-requires-then-k-eq-NAME t c =
     let mark_ok = ok_marks mark pre0 in
     let bump2 = c.bump-s2-then-k-eq-NAME.ensures in
     let bump2_ok = ok_bumps bump2 mark_ok in
-    let close = c.close-s3.ensures in
-    let close_ok = ok_adds close bump2_ok in
-    (close_ok, small_len pre0)
+    let close_node = c.close_node-s3.ensures in
+    let close_node_ok = ok_adds close_node bump2_ok in
+    (close_node_ok, small_len pre0)
 
 pub sgx-returns-then-k-eq-NAME : goal.sgx-returns-then-k-eq-NAME
 unfolding root.body decl.sig_scope decl.sig_head plan choose chosen
@@ -3777,12 +3777,12 @@ sgx-returns-then-k-eq-NAME t c =
     let S3 = c.mark-s1.result in
     let L6 = c.bump-s2-then-k-eq-NAME.new.scratch in
     let S6 = c.bump-s2-then-k-eq-NAME.result in
-    let L7 = c.close-s3.new.scratch in
-    let S7 = c.close-s3.result in
+    let L7 = c.close_node-s3.new.scratch in
+    let S7 = c.close_node-s3.result in
     let L8 = c.wheres-then-k-eq-NAME.new.scratch in
     let H8 = c.wheres-then-k-eq-NAME.new.finds in
     let S8 = c.wheres-then-k-eq-NAME.result in
-    by_steps {m = (mem X0 T0 N0 J0 L0 H0 S0)} {m' = (mem X0 T0 N0 J0 L8 H8 S8)} (c.requires) (λ b. s_rule {a = (mem X0 T0 N0 J0 L0 H0 S0)} {e = (mem X0 T0 N0 J0 L8 H8 S8)} (s_look {a = (mem X0 T0 N0 J0 L0 H0 S0)} {e = (mem X0 T0 N0 J0 L8 H8 S8)} (c.in-Some.ensures) (s_mark {e = (mem X0 T0 N0 J0 L8 H8 S8)} {x = X0} {t = T0} {n = N0} {j = J0} {l = L0} {h = H0} {s = S0} {s' = S3} (c.if-left-eq0.false) (c.mark-s1.ensures) (s_false {a = (mem X0 T0 N0 J0 L0 H0 S3)} {e = (mem X0 T0 N0 J0 L8 H8 S8)} _ _ (kind_not (c.if-k-eq-SIG_KW.false)) (s_true {a = (mem X0 T0 N0 J0 L0 H0 S3)} {e = (mem X0 T0 N0 J0 L8 H8 S8)} _ _ (kind_is (c.if-k-eq-NAME.true)) (s_bump {e = (mem X0 T0 N0 J0 L8 H8 S8)} {x = X0} {t = T0} {n = N0} {j = J0} {l = L0} {h = H0} {s = S3} {s' = S6} {l' = L6} (c.bump-s2-then-k-eq-NAME.ensures) (s_close {e = (mem X0 T0 N0 J0 L8 H8 S8)} {x = X0} {t = T0} {n = N0} {j = J0} {l = L6} {h = H0} {s = S6} {s' = S7} {l' = L7} (c.close-s3.ensures) (s_by {a = (mem X0 T0 N0 J0 L7 H0 S7)} {c = (mem X0 T0 N0 J0 L8 H8 S8)} {e = (mem X0 T0 N0 J0 L8 H8 S8)} _ (c.wheres-then-k-eq-NAME.ensures) s_end))))))))
+    by_steps {m = (mem X0 T0 N0 J0 L0 H0 S0)} {m' = (mem X0 T0 N0 J0 L8 H8 S8)} (c.requires) (λ b. s_rule {a = (mem X0 T0 N0 J0 L0 H0 S0)} {e = (mem X0 T0 N0 J0 L8 H8 S8)} (s_look {a = (mem X0 T0 N0 J0 L0 H0 S0)} {e = (mem X0 T0 N0 J0 L8 H8 S8)} (c.in-Some.ensures) (s_mark {e = (mem X0 T0 N0 J0 L8 H8 S8)} {x = X0} {t = T0} {n = N0} {j = J0} {l = L0} {h = H0} {s = S0} {s' = S3} (c.if-left-eq0.false) (c.mark-s1.ensures) (s_false {a = (mem X0 T0 N0 J0 L0 H0 S3)} {e = (mem X0 T0 N0 J0 L8 H8 S8)} _ _ (kind_not (c.if-k-eq-SIG_KW.false)) (s_true {a = (mem X0 T0 N0 J0 L0 H0 S3)} {e = (mem X0 T0 N0 J0 L8 H8 S8)} _ _ (kind_is (c.if-k-eq-NAME.true)) (s_bump {e = (mem X0 T0 N0 J0 L8 H8 S8)} {x = X0} {t = T0} {n = N0} {j = J0} {l = L0} {h = H0} {s = S3} {s' = S6} {l' = L6} (c.bump-s2-then-k-eq-NAME.ensures) (s_close {e = (mem X0 T0 N0 J0 L8 H8 S8)} {x = X0} {t = T0} {n = N0} {j = J0} {l = L6} {h = H0} {s = S6} {s' = S7} {l' = L7} (c.close_node-s3.ensures) (s_by {a = (mem X0 T0 N0 J0 L7 H0 S7)} {c = (mem X0 T0 N0 J0 L8 H8 S8)} {e = (mem X0 T0 N0 J0 L8 H8 S8)} _ (c.wheres-then-k-eq-NAME.ensures) s_end))))))))
 
 pub sgx-returns : goal.sgx-returns
 unfolding root.body decl.sig_scope decl.sig_head plan choose chosen
@@ -3866,8 +3866,8 @@ stb-at-requires t c =
     let aso_ok = aso.ok in
     aso_ok.reads
 
-pub stb-refuse-requires : goal.stb-refuse-requires
-stb-refuse-requires t c =
+pub stb-refuse_for-requires : goal.stb-refuse_for-requires
+stb-refuse_for-requires t c =
     tt
 
 pub stb-returns-then-left-eq0 : goal.stb-returns-then-left-eq0
@@ -3887,8 +3887,8 @@ stb-returns-then-left-eq0 t c =
     let L2 = c.aso-s2.new.scratch in
     let H2 = c.aso-s2.new.finds in
     let S2 = c.aso-s2.result in
-    let S6 = c.refuse.result in
-    by_steps {m = (mem X0 T0 N0 J0 L0 H0 S0)} {m' = (mem X0 T0 N0 J2 L2 H2 S6)} (c.requires) (λ b. s_eats _ _ {x = X0} {t = T0} {n = N0} {j = J0} {l = L0} {h = H0} {l' = L1} {s = S0} {s' = S1} {e = (mem X0 T0 N0 J2 L2 H2 S6)} _ {h' = H1} (c.in-Ok.ensures) (s_by {a = (mem X0 T0 N0 J0 L1 H1 S1)} {c = (mem X0 T0 N0 J2 L2 H2 S2)} {e = (mem X0 T0 N0 J2 L2 H2 S6)} _ (runs_in {a = (mem X0 T0 N0 J0 L1 H1 S1)} {c = (mem X0 T0 N0 J2 L2 H2 S2)} (c.aso-s2.ensures)) (s_kind {a = (mem X0 T0 N0 J2 L2 H2 S2)} {e = (mem X0 T0 N0 J2 L2 H2 S6)} (s_true {a = (mem X0 T0 N0 J2 L2 H2 S2)} {e = (mem X0 T0 N0 J2 L2 H2 S6)} _ _ (kind_at _ _ (mem X0 T0 N0 J2 L2 H2 S2) _ (c.at.ensures) (c.if-at.true)) (s_shut (c.if-left-eq0.true) (c.refuse.ensures) (λ k l. refl))))))
+    let S6 = c.refuse_for.result in
+    by_steps {m = (mem X0 T0 N0 J0 L0 H0 S0)} {m' = (mem X0 T0 N0 J2 L2 H2 S6)} (c.requires) (λ b. s_eats _ _ {x = X0} {t = T0} {n = N0} {j = J0} {l = L0} {h = H0} {l' = L1} {s = S0} {s' = S1} {e = (mem X0 T0 N0 J2 L2 H2 S6)} _ {h' = H1} (c.in-Ok.ensures) (s_by {a = (mem X0 T0 N0 J0 L1 H1 S1)} {c = (mem X0 T0 N0 J2 L2 H2 S2)} {e = (mem X0 T0 N0 J2 L2 H2 S6)} _ (runs_in {a = (mem X0 T0 N0 J0 L1 H1 S1)} {c = (mem X0 T0 N0 J2 L2 H2 S2)} (c.aso-s2.ensures)) (s_kind {a = (mem X0 T0 N0 J2 L2 H2 S2)} {e = (mem X0 T0 N0 J2 L2 H2 S6)} (s_true {a = (mem X0 T0 N0 J2 L2 H2 S2)} {e = (mem X0 T0 N0 J2 L2 H2 S6)} _ _ (kind_at _ _ (mem X0 T0 N0 J2 L2 H2 S2) _ (c.at.ensures) (c.if-at.true)) (s_shut (c.if-left-eq0.true) (c.refuse_for.ensures) (λ k l. refl))))))
 
 pub stb-mark-s3-requires : goal.stb-mark-s3-requires
 stb-mark-s3-requires t c =
@@ -3912,8 +3912,8 @@ stb-stm-s5-requires t c =
     let bump_ok = ok_bumps bump mark_ok in
     (omega arith, bump_ok)
 
-pub stb-close-requires : goal.stb-close-requires
-stb-close-requires t c =
+pub stb-close_node-requires : goal.stb-close_node-requires
+stb-close_node-requires t c =
     let aso = c.aso-s2.ensures in
     let aso_ok = aso.ok in
     let mark = c.mark-s3.ensures in
@@ -3946,9 +3946,9 @@ stb-returns-then-at t c =
     let L8 = c.stm-s5.new.scratch in
     let H8 = c.stm-s5.new.finds in
     let S8 = c.stm-s5.result in
-    let L9 = c.close.new.scratch in
-    let S9 = c.close.result in
-    by_steps {m = (mem X0 T0 N0 J0 L0 H0 S0)} {m' = (mem X0 T0 N0 J8 L9 H8 S9)} (c.requires) (λ b. s_eats _ _ {x = X0} {t = T0} {n = N0} {j = J0} {l = L0} {h = H0} {l' = L1} {s = S0} {s' = S1} {e = (mem X0 T0 N0 J8 L9 H8 S9)} _ {h' = H1} (c.in-Ok.ensures) (s_by {a = (mem X0 T0 N0 J0 L1 H1 S1)} {c = (mem X0 T0 N0 J2 L2 H2 S2)} {e = (mem X0 T0 N0 J8 L9 H8 S9)} _ (runs_in {a = (mem X0 T0 N0 J0 L1 H1 S1)} {c = (mem X0 T0 N0 J2 L2 H2 S2)} (c.aso-s2.ensures)) (s_kind {a = (mem X0 T0 N0 J2 L2 H2 S2)} {e = (mem X0 T0 N0 J8 L9 H8 S9)} (s_true {a = (mem X0 T0 N0 J2 L2 H2 S2)} {e = (mem X0 T0 N0 J8 L9 H8 S9)} _ _ (kind_at _ _ (mem X0 T0 N0 J2 L2 H2 S2) _ (c.at.ensures) (c.if-at.true)) (s_mark {e = (mem X0 T0 N0 J8 L9 H8 S9)} {x = X0} {t = T0} {n = N0} {j = J2} {l = L2} {h = H2} {s = S2} {s' = S6} (c.if-left-eq0.false) (c.mark-s3.ensures) (s_bump {e = (mem X0 T0 N0 J8 L9 H8 S9)} {x = X0} {t = T0} {n = N0} {j = J2} {l = L2} {h = H2} {s = S6} {s' = S7} {l' = L7} (c.bump-s4.ensures) (s_by {a = (mem X0 T0 N0 J2 L7 H2 S7)} {c = (mem X0 T0 N0 J8 L8 H8 S8)} {e = (mem X0 T0 N0 J8 L9 H8 S9)} _ (runs_in {a = (mem X0 T0 N0 J2 L7 H2 S7)} {c = (mem X0 T0 N0 J8 L8 H8 S8)} (c.stm-s5.ensures)) (s_close {e = (mem X0 T0 N0 J8 L9 H8 S9)} {x = X0} {t = T0} {n = N0} {j = J8} {l = L8} {h = H8} {s = S8} {s' = S9} {l' = L9} (c.close.ensures) s_end))))))))
+    let L9 = c.close_node.new.scratch in
+    let S9 = c.close_node.result in
+    by_steps {m = (mem X0 T0 N0 J0 L0 H0 S0)} {m' = (mem X0 T0 N0 J8 L9 H8 S9)} (c.requires) (λ b. s_eats _ _ {x = X0} {t = T0} {n = N0} {j = J0} {l = L0} {h = H0} {l' = L1} {s = S0} {s' = S1} {e = (mem X0 T0 N0 J8 L9 H8 S9)} _ {h' = H1} (c.in-Ok.ensures) (s_by {a = (mem X0 T0 N0 J0 L1 H1 S1)} {c = (mem X0 T0 N0 J2 L2 H2 S2)} {e = (mem X0 T0 N0 J8 L9 H8 S9)} _ (runs_in {a = (mem X0 T0 N0 J0 L1 H1 S1)} {c = (mem X0 T0 N0 J2 L2 H2 S2)} (c.aso-s2.ensures)) (s_kind {a = (mem X0 T0 N0 J2 L2 H2 S2)} {e = (mem X0 T0 N0 J8 L9 H8 S9)} (s_true {a = (mem X0 T0 N0 J2 L2 H2 S2)} {e = (mem X0 T0 N0 J8 L9 H8 S9)} _ _ (kind_at _ _ (mem X0 T0 N0 J2 L2 H2 S2) _ (c.at.ensures) (c.if-at.true)) (s_mark {e = (mem X0 T0 N0 J8 L9 H8 S9)} {x = X0} {t = T0} {n = N0} {j = J2} {l = L2} {h = H2} {s = S2} {s' = S6} (c.if-left-eq0.false) (c.mark-s3.ensures) (s_bump {e = (mem X0 T0 N0 J8 L9 H8 S9)} {x = X0} {t = T0} {n = N0} {j = J2} {l = L2} {h = H2} {s = S6} {s' = S7} {l' = L7} (c.bump-s4.ensures) (s_by {a = (mem X0 T0 N0 J2 L7 H2 S7)} {c = (mem X0 T0 N0 J8 L8 H8 S8)} {e = (mem X0 T0 N0 J8 L9 H8 S9)} _ (runs_in {a = (mem X0 T0 N0 J2 L7 H2 S7)} {c = (mem X0 T0 N0 J8 L8 H8 S8)} (c.stm-s5.ensures)) (s_close {e = (mem X0 T0 N0 J8 L9 H8 S9)} {x = X0} {t = T0} {n = N0} {j = J8} {l = L8} {h = H8} {s = S8} {s' = S9} {l' = L9} (c.close_node.ensures) s_end))))))))
 
 pub stb-returns-in-Err : goal.stb-returns-in-Err
 unfolding decl.str_bind plan choose chosen
@@ -4150,8 +4150,8 @@ stm-stx-got-requires t c =
     let pre0 = c.requires in
     (omega arith, pre0)
 
-pub stm-report-requires : goal.stm-report-requires
-stm-report-requires t c =
+pub stm-report_error-requires : goal.stm-report_error-requires
+stm-report_error-requires t c =
     let stx = c.in-Err.ensures in
     let stx_ok = stx.ok in
     (stx_ok.holds, (let few = stx_ok.reads.few in let inside = stx_ok.reads.inside in omega arith), omega arith)
@@ -4186,9 +4186,9 @@ stm-returns-in-Err t c =
     let L1 = c.stx-got.new.scratch in
     let H1 = c.stx-got.new.finds in
     let S1 = c.in-Err.s1 in
-    let H2 = c.report.new.finds in
-    let S2 = c.report.result in
-    by_steps {m = (mem X0 T0 N0 J0 L0 H0 S0)} {m' = (mem X0 T0 N0 J1 L1 H2 S2)} (c.requires) (λ b. s_run {a = (mem X0 T0 N0 J0 L0 H0 S0)} {c = (mem X0 T0 N0 J1 L1 H1 S1)} {e = (mem X0 T0 N0 J1 L1 H2 S2)} (runs_in {a = (mem X0 T0 N0 J0 L0 H0 S0)} {c = (mem X0 T0 N0 J1 L1 H1 S1)} (c.in-Err.ensures)) (s_report {e = (mem X0 T0 N0 J1 L1 H2 S2)} {x = X0} {t = T0} {n = N0} {j = J1} {l = L1} {h = H1} {s = S1} {s' = S2} {h' = H2} (c.report.ensures) s_end))
+    let H2 = c.report_error.new.finds in
+    let S2 = c.report_error.result in
+    by_steps {m = (mem X0 T0 N0 J0 L0 H0 S0)} {m' = (mem X0 T0 N0 J1 L1 H2 S2)} (c.requires) (λ b. s_run {a = (mem X0 T0 N0 J0 L0 H0 S0)} {c = (mem X0 T0 N0 J1 L1 H1 S1)} {e = (mem X0 T0 N0 J1 L1 H2 S2)} (runs_in {a = (mem X0 T0 N0 J0 L0 H0 S0)} {c = (mem X0 T0 N0 J1 L1 H1 S1)} (c.in-Err.ensures)) (s_report {e = (mem X0 T0 N0 J1 L1 H2 S2)} {x = X0} {t = T0} {n = N0} {j = J1} {l = L1} {h = H1} {s = S1} {s' = S2} {h' = H2} (c.report_error.ensures) s_end))
 
 pub stp-peek-requires : goal.stp-peek-requires
 stp-peek-requires t c =
@@ -4380,8 +4380,8 @@ pub stt-ascription-requires : goal.stt-ascription-requires
 stt-ascription-requires t c =
     tt
 
-pub stt-refuse-s1-requires : goal.stt-refuse-s1-requires
-stt-refuse-s1-requires t c =
+pub stt-refuse_for-s1-requires : goal.stt-refuse_for-s1-requires
+stt-refuse_for-s1-requires t c =
     tt
 
 pub stt-loop-k-smaller-then-left-eq0 : goal.stt-loop-k-smaller-then-left-eq0
@@ -4392,8 +4392,8 @@ stt-loop-k-smaller-then-left-eq0 t c =
     let ascription = c.ascription.ensures in
     let if1 = c.if-ascription.true in
     let if2 = c.if-left-eq0.true in
-    let refuse = c.refuse-s1.ensures in
-    loop_falls (str_step_advances _ _) (in_steps inv.ok {n = c.args.left} {b = c.args.b} (s_look peek (s_true _ _ (test_true ascription if1) (s_shut if2 refuse (λ k l. refl)))))
+    let refuse_for = c.refuse_for-s1.ensures in
+    loop_falls (str_step_advances _ _) (in_steps inv.ok {n = c.args.left} {b = c.args.b} (s_look peek (s_true _ _ (test_true ascription if1) (s_shut if2 refuse_for (λ k l. refl)))))
 
 pub stt-loop-k-preserved-then-left-eq0 : goal.stt-loop-k-preserved-then-left-eq0
 unfolding decl.str_step plan choose chosen hushed
@@ -4403,8 +4403,8 @@ stt-loop-k-preserved-then-left-eq0 t c =
     let ascription = c.ascription.ensures in
     let if1 = c.if-ascription.true in
     let if2 = c.if-left-eq0.true in
-    let refuse = c.refuse-s1.ensures in
-    loop_goes (str_step_advances _ _) inv (in_steps inv.ok {n = c.args.left} {b = c.args.b} (s_look peek (s_true _ _ (test_true ascription if1) (s_shut if2 refuse (λ k l. refl)))))
+    let refuse_for = c.refuse_for-s1.ensures in
+    loop_goes (str_step_advances _ _) inv (in_steps inv.ok {n = c.args.left} {b = c.args.b} (s_look peek (s_true _ _ (test_true ascription if1) (s_shut if2 refuse_for (λ k l. refl)))))
 
 pub stt-mark-s2-requires : goal.stt-mark-s2-requires
 stt-mark-s2-requires t c =
@@ -4417,8 +4417,8 @@ stt-asc-s3-requires t c =
     let mark_ok = ok_marks mark inv in
     (omega arith, mark_ok)
 
-pub stt-close-s1-requires : goal.stt-close-s1-requires
-stt-close-s1-requires t c =
+pub stt-close_node-s1-requires : goal.stt-close_node-s1-requires
+stt-close_node-s1-requires t c =
     let pre1 = c.requires.1 in
     let asc = c.asc-s3.ensures in
     let asc_ok = asc.ok in
@@ -4434,8 +4434,8 @@ stt-loop-k-smaller t c =
     let if2 = c.if-left-eq0.false in
     let mark = c.mark-s2.ensures in
     let asc = c.asc-s3.ensures in
-    let close = c.close-s1.ensures in
-    loop_falls (str_step_advances _ _) (in_steps inv.ok {n = c.args.left} {b = c.args.b} (s_look peek (s_true _ _ (test_true ascription if1) (s_mark if2 mark (s_by _ (runs_in asc) (s_close close s_end))))))
+    let close_node = c.close_node-s1.ensures in
+    loop_falls (str_step_advances _ _) (in_steps inv.ok {n = c.args.left} {b = c.args.b} (s_look peek (s_true _ _ (test_true ascription if1) (s_mark if2 mark (s_by _ (runs_in asc) (s_close close_node s_end))))))
 
 pub stt-loop-k-preserved : goal.stt-loop-k-preserved
 unfolding decl.str_step plan choose chosen
@@ -4447,8 +4447,8 @@ stt-loop-k-preserved t c =
     let if2 = c.if-left-eq0.false in
     let mark = c.mark-s2.ensures in
     let asc = c.asc-s3.ensures in
-    let close = c.close-s1.ensures in
-    loop_goes (str_step_advances _ _) inv (in_steps inv.ok {n = c.args.left} {b = c.args.b} (s_look peek (s_true _ _ (test_true ascription if1) (s_mark if2 mark (s_by _ (runs_in asc) (s_close close s_end))))))
+    let close_node = c.close_node-s1.ensures in
+    loop_goes (str_step_advances _ _) inv (in_steps inv.ok {n = c.args.left} {b = c.args.b} (s_look peek (s_true _ _ (test_true ascription if1) (s_mark if2 mark (s_by _ (runs_in asc) (s_close close_node s_end))))))
 
 pub stt-returns-in-loop-k : goal.stt-returns-in-loop-k
 unfolding decl.str_step plan choose chosen
@@ -4471,8 +4471,8 @@ stx-returns-in_default t c =
     let peek = c.in_default.ensures in
     by_steps pre0 (λ b. s_rule (s_look peek s_end))
 
-pub stx-refuse-requires : goal.stx-refuse-requires
-stx-refuse-requires t c =
+pub stx-refuse_for-requires : goal.stx-refuse_for-requires
+stx-refuse_for-requires t c =
     tt
 
 pub stx-returns-then-left-eq0 : goal.stx-returns-then-left-eq0
@@ -4485,8 +4485,8 @@ stx-returns-then-left-eq0 t c =
     let L0 = c.args.scratch.now in
     let H0 = c.args.finds.now in
     let S0 = c.args.s in
-    let S3 = c.refuse.result in
-    by_steps {m = (mem X0 T0 N0 J0 L0 H0 S0)} {m' = (mem X0 T0 N0 J0 L0 H0 S3)} (c.requires) (λ b. s_rule {a = (mem X0 T0 N0 J0 L0 H0 S0)} {e = (mem X0 T0 N0 J0 L0 H0 S3)} (s_look {a = (mem X0 T0 N0 J0 L0 H0 S0)} {e = (mem X0 T0 N0 J0 L0 H0 S3)} (c.in-Some.ensures) (s_shut (c.if-left-eq0.true) (c.refuse.ensures) (λ k l. refl))))
+    let S3 = c.refuse_for.result in
+    by_steps {m = (mem X0 T0 N0 J0 L0 H0 S0)} {m' = (mem X0 T0 N0 J0 L0 H0 S3)} (c.requires) (λ b. s_rule {a = (mem X0 T0 N0 J0 L0 H0 S0)} {e = (mem X0 T0 N0 J0 L0 H0 S3)} (s_look {a = (mem X0 T0 N0 J0 L0 H0 S0)} {e = (mem X0 T0 N0 J0 L0 H0 S3)} (c.in-Some.ensures) (s_shut (c.if-left-eq0.true) (c.refuse_for.ensures) (λ k l. refl))))
 
 pub stx-mark-s1-requires : goal.stx-mark-s1-requires
 stx-mark-s1-requires t c =
@@ -4544,8 +4544,8 @@ stx-returns-in-Ok t c =
     let S5 = c.stt-s3.result in
     by_steps {m = (mem X0 T0 N0 J0 L0 H0 S0)} {m' = (mem X0 T0 N0 J5 L5 H5 S5)} (c.requires) (λ b. s_rule {a = (mem X0 T0 N0 J0 L0 H0 S0)} {e = (mem X0 T0 N0 J5 L5 H5 S5)} (s_look {a = (mem X0 T0 N0 J0 L0 H0 S0)} {e = (mem X0 T0 N0 J5 L5 H5 S5)} (c.in-Some.ensures) (s_mark {e = (mem X0 T0 N0 J5 L5 H5 S5)} {x = X0} {t = T0} {n = N0} {j = J0} {l = L0} {h = H0} {s = S0} {s' = S3} (c.if-left-eq0.false) (c.mark-s1.ensures) (s_by {a = (mem X0 T0 N0 J0 L0 H0 S3)} {c = (mem X0 T0 N0 J4 L4 H4 S4)} {e = (mem X0 T0 N0 J5 L5 H5 S5)} _ (c.in-Ok.ensures) (s_run {a = (mem X0 T0 N0 J4 L4 H4 S4)} {c = (mem X0 T0 N0 J5 L5 H5 S5)} {e = (mem X0 T0 N0 J5 L5 H5 S5)} (c.stt-s3.ensures) s_end)))))
 
-pub tl-refuse-requires : goal.tl-refuse-requires
-tl-refuse-requires t c =
+pub tl-refuse_for-requires : goal.tl-refuse_for-requires
+tl-refuse_for-requires t c =
     tt
 
 pub tl-returns-then-left-eq0 : goal.tl-returns-then-left-eq0
@@ -4558,8 +4558,8 @@ tl-returns-then-left-eq0 t c =
     let L0 = c.args.scratch.now in
     let H0 = c.args.finds.now in
     let S0 = c.args.s in
-    let S2 = c.refuse.result in
-    by_steps {m = (mem X0 T0 N0 J0 L0 H0 S0)} {m' = (mem X0 T0 N0 J0 L0 H0 S2)} (c.requires) (λ b. s_shut (c.if-left-eq0.true) (c.refuse.ensures) (λ k l. refl))
+    let S2 = c.refuse_for.result in
+    by_steps {m = (mem X0 T0 N0 J0 L0 H0 S0)} {m' = (mem X0 T0 N0 J0 L0 H0 S2)} (c.requires) (λ b. s_shut (c.if-left-eq0.true) (c.refuse_for.ensures) (λ k l. refl))
 
 pub tl-mark-s1-requires : goal.tl-mark-s1-requires
 tl-mark-s1-requires t c =

@@ -9,8 +9,8 @@ bump-s1-requires c =
     let pre0 = c.requires.0 in
     (pre0.reads, pre0.logs)
 
-pub close-requires : goal.close-requires
-close-requires c =
+pub close_node-requires : goal.close_node-requires
+close_node-requires c =
     let pre0 = c.requires.0 in
     let pre1 = c.requires.1 in
     let bump = c.bump-s1.ensures in
@@ -23,16 +23,16 @@ returns-then-k-eq-DOT_DOT_DOT c =
     let pre0 = c.requires.0 in
     let if1 = c.if-k-eq-DOT_DOT_DOT.true in
     let bump = c.bump-s1.ensures in
-    let close = c.close.ensures in
-    in_steps pre0 (s_true _ _ (kind_is if1) (s_bump bump (s_close close s_end)))
+    let close_node = c.close_node.ensures in
+    in_steps pre0 (s_true _ _ (kind_is if1) (s_bump bump (s_close close_node s_end)))
 
 pub bump-s1-requires-then-k-eq-UNDERSCORE : goal.bump-s1-requires-then-k-eq-UNDERSCORE
 bump-s1-requires-then-k-eq-UNDERSCORE c =
     let pre0 = c.requires.0 in
     (pre0.reads, pre0.logs)
 
-pub close-requires-then-k-eq-UNDERSCORE : goal.close-requires-then-k-eq-UNDERSCORE
-close-requires-then-k-eq-UNDERSCORE c =
+pub close_node-requires-then-k-eq-UNDERSCORE : goal.close_node-requires-then-k-eq-UNDERSCORE
+close_node-requires-then-k-eq-UNDERSCORE c =
     let pre0 = c.requires.0 in
     let pre1 = c.requires.1 in
     let bump2 = c.bump-s1-then-k-eq-UNDERSCORE.ensures in
@@ -46,8 +46,8 @@ returns-then-k-eq-UNDERSCORE c =
     let if1 = c.if-k-eq-DOT_DOT_DOT.false in
     let if2 = c.if-k-eq-UNDERSCORE.true in
     let bump2 = c.bump-s1-then-k-eq-UNDERSCORE.ensures in
-    let close2 = c.close-then-k-eq-UNDERSCORE.ensures in
-    in_steps pre0 (s_false _ _ (kind_not if1) (s_true _ _ (kind_is if2) (s_bump bump2 (s_close close2 s_end))))
+    let close_node2 = c.close_node-then-k-eq-UNDERSCORE.ensures in
+    in_steps pre0 (s_false _ _ (kind_not if1) (s_true _ _ (kind_is if2) (s_bump bump2 (s_close close_node2 s_end))))
 
 pub s_con-requires : goal.s_con-requires
 s_con-requires c =
@@ -58,8 +58,8 @@ bump-s1-requires-then-s_con c =
     let pre0 = c.requires.0 in
     (pre0.reads, pre0.logs)
 
-pub close-requires-then-s_con : goal.close-requires-then-s_con
-close-requires-then-s_con c =
+pub close_node-requires-then-s_con : goal.close_node-requires-then-s_con
+close_node-requires-then-s_con c =
     let pre0 = c.requires.0 in
     let pre1 = c.requires.1 in
     let bump3 = c.bump-s1-then-s_con.ensures in
@@ -75,8 +75,8 @@ returns-then-s_con c =
     let s_con = c.s_con.ensures in
     let if3 = c.if-s_con.true in
     let bump3 = c.bump-s1-then-s_con.ensures in
-    let close3 = c.close-then-s_con.ensures in
-    in_steps pre0 (s_false _ _ (kind_not if1) (s_false _ _ (kind_not if2) (s_true _ _ (test_true s_con if3) (s_bump bump3 (s_close close3 s_end)))))
+    let close_node3 = c.close_node-then-s_con.ensures in
+    in_steps pre0 (s_false _ _ (kind_not if1) (s_false _ _ (kind_not if2) (s_true _ _ (test_true s_con if3) (s_bump bump3 (s_close close_node3 s_end)))))
 
 pub op_exp-requires : goal.op_exp-requires
 op_exp-requires c =
@@ -109,8 +109,8 @@ pub either-s1-requires : goal.either-s1-requires
 either-s1-requires c =
     tt
 
-pub close-requires-then-name_star_eq : goal.close-requires-then-name_star_eq
-close-requires-then-name_star_eq c =
+pub close_node-requires-then-name_star_eq : goal.close_node-requires-then-name_star_eq
+close_node-requires-then-name_star_eq c =
     let pre1 = c.requires.1 in
     let path_no_infix = c.path_no_infix-got.ensures in
     let path_no_infix_ok = path_no_infix.ok in
@@ -131,8 +131,8 @@ returns-then-name_star_eq c =
     let if5 = c.if-name_star_eq.true in
     let path_no_infix = c.path_no_infix-got.ensures in
     let either = c.either-s1.ensures in
-    let close4 = c.close-then-name_star_eq.ensures in
-    in_steps pre0 (s_false _ _ (kind_not if1) (s_false _ _ (kind_not if2) (s_false _ _ (test_false s_con if3) (s_false _ _ (kind_not if4) (s_true _ _ (test_true name_star_eq if5) (s_by _ (settled either (runs_in path_no_infix)) (s_close close4 s_end)))))))
+    let close_node4 = c.close_node-then-name_star_eq.ensures in
+    in_steps pre0 (s_false _ _ (kind_not if1) (s_false _ _ (kind_not if2) (s_false _ _ (test_false s_con if3) (s_false _ _ (kind_not if4) (s_true _ _ (test_true name_star_eq if5) (s_by _ (settled either (runs_in path_no_infix)) (s_close close_node4 s_end)))))))
 
 pub returns : goal.returns
 unfolding expr.at_exp_leaf plan choose chosen

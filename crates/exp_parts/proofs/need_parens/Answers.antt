@@ -5,8 +5,8 @@ use Rattle.parser.specs.Plans.{plan, choose, chosen, always, s_true, s_false, s_
 use native.Mathlib.Omega.{arith}
 use Rattle.exp_parts.proofs.need_parens.Goals as goal
 
-pub report-requires : goal.report-requires
-report-requires c =
+pub report_error-requires : goal.report_error-requires
+report_error-requires c =
     let pre0 = c.requires in
     (pre0.holds, (let few = pre0.reads.few in let inside = pre0.reads.inside in omega arith), omega arith)
 
@@ -15,11 +15,11 @@ unfolding expr.need_parens plan choose chosen
 returns-then-k-eq-RAISE_KW c =
     let pre0 = c.requires in
     let if1 = c.if-k-eq-RAISE_KW.true in
-    let report = c.report.ensures in
-    always pre0 (λ n b. s_true _ _ (kind_is if1) (s_report report s_end))
+    let report_error = c.report_error.ensures in
+    always pre0 (λ n b. s_true _ _ (kind_is if1) (s_report report_error s_end))
 
-pub report-requires-then-k-eq-IF_KW : goal.report-requires-then-k-eq-IF_KW
-report-requires-then-k-eq-IF_KW c =
+pub report_error-requires-then-k-eq-IF_KW : goal.report_error-requires-then-k-eq-IF_KW
+report_error-requires-then-k-eq-IF_KW c =
     let pre0 = c.requires in
     (pre0.holds, (let few = pre0.reads.few in let inside = pre0.reads.inside in omega arith), omega arith)
 
@@ -29,11 +29,11 @@ returns-then-k-eq-IF_KW c =
     let pre0 = c.requires in
     let if1 = c.if-k-eq-RAISE_KW.false in
     let if2 = c.if-k-eq-IF_KW.true in
-    let report2 = c.report-then-k-eq-IF_KW.ensures in
-    always pre0 (λ n b. s_false _ _ (kind_not if1) (s_true _ _ (kind_is if2) (s_report report2 s_end)))
+    let report_error2 = c.report_error-then-k-eq-IF_KW.ensures in
+    always pre0 (λ n b. s_false _ _ (kind_not if1) (s_true _ _ (kind_is if2) (s_report report_error2 s_end)))
 
-pub report-requires-then-k-eq-WHILE_KW : goal.report-requires-then-k-eq-WHILE_KW
-report-requires-then-k-eq-WHILE_KW c =
+pub report_error-requires-then-k-eq-WHILE_KW : goal.report_error-requires-then-k-eq-WHILE_KW
+report_error-requires-then-k-eq-WHILE_KW c =
     let pre0 = c.requires in
     (pre0.holds, (let few = pre0.reads.few in let inside = pre0.reads.inside in omega arith), omega arith)
 
@@ -44,11 +44,11 @@ returns-then-k-eq-WHILE_KW c =
     let if1 = c.if-k-eq-RAISE_KW.false in
     let if2 = c.if-k-eq-IF_KW.false in
     let if3 = c.if-k-eq-WHILE_KW.true in
-    let report3 = c.report-then-k-eq-WHILE_KW.ensures in
-    always pre0 (λ n b. s_false _ _ (kind_not if1) (s_false _ _ (kind_not if2) (s_true _ _ (kind_is if3) (s_report report3 s_end))))
+    let report_error3 = c.report_error-then-k-eq-WHILE_KW.ensures in
+    always pre0 (λ n b. s_false _ _ (kind_not if1) (s_false _ _ (kind_not if2) (s_true _ _ (kind_is if3) (s_report report_error3 s_end))))
 
-pub report-requires-then-k-eq-CASE_KW : goal.report-requires-then-k-eq-CASE_KW
-report-requires-then-k-eq-CASE_KW c =
+pub report_error-requires-then-k-eq-CASE_KW : goal.report_error-requires-then-k-eq-CASE_KW
+report_error-requires-then-k-eq-CASE_KW c =
     let pre0 = c.requires in
     (pre0.holds, (let few = pre0.reads.few in let inside = pre0.reads.inside in omega arith), omega arith)
 
@@ -60,11 +60,11 @@ returns-then-k-eq-CASE_KW c =
     let if2 = c.if-k-eq-IF_KW.false in
     let if3 = c.if-k-eq-WHILE_KW.false in
     let if4 = c.if-k-eq-CASE_KW.true in
-    let report4 = c.report-then-k-eq-CASE_KW.ensures in
-    always pre0 (λ n b. s_false _ _ (kind_not if1) (s_false _ _ (kind_not if2) (s_false _ _ (kind_not if3) (s_true _ _ (kind_is if4) (s_report report4 s_end)))))
+    let report_error4 = c.report_error-then-k-eq-CASE_KW.ensures in
+    always pre0 (λ n b. s_false _ _ (kind_not if1) (s_false _ _ (kind_not if2) (s_false _ _ (kind_not if3) (s_true _ _ (kind_is if4) (s_report report_error4 s_end)))))
 
-pub report-requires-2 : goal.report-requires-2
-report-requires-2 c =
+pub report_error-requires-2 : goal.report_error-requires-2
+report_error-requires-2 c =
     let pre0 = c.requires in
     (pre0.holds, (let few = pre0.reads.few in let inside = pre0.reads.inside in omega arith), omega arith)
 
@@ -76,5 +76,5 @@ returns c =
     let if2 = c.if-k-eq-IF_KW.false in
     let if3 = c.if-k-eq-WHILE_KW.false in
     let if4 = c.if-k-eq-CASE_KW.false in
-    let report5 = c.report-2.ensures in
-    always pre0 (λ n b. s_false _ _ (kind_not if1) (s_false _ _ (kind_not if2) (s_false _ _ (kind_not if3) (s_false _ _ (kind_not if4) (s_report report5 s_end)))))
+    let report_error5 = c.report_error-2.ensures in
+    always pre0 (λ n b. s_false _ _ (kind_not if1) (s_false _ _ (kind_not if2) (s_false _ _ (kind_not if3) (s_false _ _ (kind_not if4) (s_report report_error5 s_end)))))

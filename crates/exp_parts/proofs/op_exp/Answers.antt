@@ -18,8 +18,8 @@ pub either-s1-requires : goal.either-s1-requires
 either-s1-requires c =
     tt
 
-pub close-requires : goal.close-requires
-close-requires c =
+pub close_node-requires : goal.close_node-requires
+close_node-requires c =
     let pre1 = c.requires.1 in
     let path_infix = c.path_infix-got.ensures in
     let path_infix_ok = path_infix.ok in
@@ -34,8 +34,8 @@ returns-in_default c =
     let peek_n = c.in_default.ensures in
     let path_infix = c.path_infix-got.ensures in
     let either = c.either-s1.ensures in
-    let close = c.close.ensures in
-    in_steps pre0 (s_look peek_n (s_by _ (settled either (runs_in path_infix)) (s_close close s_end)))
+    let close_node = c.close_node.ensures in
+    in_steps pre0 (s_look peek_n (s_by _ (settled either (runs_in path_infix)) (s_close close_node s_end)))
 
 pub bump-s1-requires : goal.bump-s1-requires
 bump-s1-requires c =
@@ -49,8 +49,8 @@ bump-s2-requires c =
     let bump_ok = ok_bumps bump pre0 in
     (bump_ok.reads, bump_ok.logs)
 
-pub close-requires-then-k-eq-ANDALSO_KW : goal.close-requires-then-k-eq-ANDALSO_KW
-close-requires-then-k-eq-ANDALSO_KW c =
+pub close_node-requires-then-k-eq-ANDALSO_KW : goal.close_node-requires-then-k-eq-ANDALSO_KW
+close_node-requires-then-k-eq-ANDALSO_KW c =
     let pre0 = c.requires.0 in
     let pre1 = c.requires.1 in
     let bump = c.bump-s1.ensures in
@@ -67,8 +67,8 @@ returns-then-k-eq-ANDALSO_KW c =
     let if1 = c.if-k-eq-ANDALSO_KW.true in
     let bump = c.bump-s1.ensures in
     let bump2 = c.bump-s2.ensures in
-    let close2 = c.close-then-k-eq-ANDALSO_KW.ensures in
-    in_steps pre0 (s_look peek_n (s_true _ _ (kind_is if1) (s_bump bump (s_bump bump2 (s_close close2 s_end)))))
+    let close_node2 = c.close_node-then-k-eq-ANDALSO_KW.ensures in
+    in_steps pre0 (s_look peek_n (s_true _ _ (kind_is if1) (s_bump bump (s_bump bump2 (s_close close_node2 s_end)))))
 
 pub bump-s1-requires-then-k-eq-ORELSE_KW : goal.bump-s1-requires-then-k-eq-ORELSE_KW
 bump-s1-requires-then-k-eq-ORELSE_KW c =
@@ -82,8 +82,8 @@ bump-s2-requires-then-k-eq-ORELSE_KW c =
     let bump3_ok = ok_bumps bump3 pre0 in
     (bump3_ok.reads, bump3_ok.logs)
 
-pub close-requires-then-k-eq-ORELSE_KW : goal.close-requires-then-k-eq-ORELSE_KW
-close-requires-then-k-eq-ORELSE_KW c =
+pub close_node-requires-then-k-eq-ORELSE_KW : goal.close_node-requires-then-k-eq-ORELSE_KW
+close_node-requires-then-k-eq-ORELSE_KW c =
     let pre0 = c.requires.0 in
     let pre1 = c.requires.1 in
     let bump3 = c.bump-s1-then-k-eq-ORELSE_KW.ensures in
@@ -101,8 +101,8 @@ returns-then-k-eq-ORELSE_KW c =
     let if2 = c.if-k-eq-ORELSE_KW.true in
     let bump3 = c.bump-s1-then-k-eq-ORELSE_KW.ensures in
     let bump4 = c.bump-s2-then-k-eq-ORELSE_KW.ensures in
-    let close3 = c.close-then-k-eq-ORELSE_KW.ensures in
-    in_steps pre0 (s_look peek_n (s_false _ _ (kind_not if1) (s_true _ _ (kind_is if2) (s_bump bump3 (s_bump bump4 (s_close close3 s_end))))))
+    let close_node3 = c.close_node-then-k-eq-ORELSE_KW.ensures in
+    in_steps pre0 (s_look peek_n (s_false _ _ (kind_not if1) (s_true _ _ (kind_is if2) (s_bump bump3 (s_bump bump4 (s_close close_node3 s_end))))))
 
 pub path_infix-got-requires-2 : goal.path_infix-got-requires-2
 path_infix-got-requires-2 c =
@@ -113,8 +113,8 @@ pub either-s1-requires-2 : goal.either-s1-requires-2
 either-s1-requires-2 c =
     tt
 
-pub close-requires-2 : goal.close-requires-2
-close-requires-2 c =
+pub close_node-requires-2 : goal.close_node-requires-2
+close_node-requires-2 c =
     let pre1 = c.requires.1 in
     let path_infix2 = c.path_infix-got-2.ensures in
     let path_infix2_ok = path_infix2.ok in
@@ -131,5 +131,5 @@ returns c =
     let if2 = c.if-k-eq-ORELSE_KW.false in
     let path_infix2 = c.path_infix-got-2.ensures in
     let either2 = c.either-s1-2.ensures in
-    let close4 = c.close-2.ensures in
-    in_steps pre0 (s_look peek_n (s_false _ _ (kind_not if1) (s_false _ _ (kind_not if2) (s_by _ (settled either2 (runs_in path_infix2)) (s_close close4 s_end)))))
+    let close_node4 = c.close_node-2.ensures in
+    in_steps pre0 (s_look peek_n (s_false _ _ (kind_not if1) (s_false _ _ (kind_not if2) (s_by _ (settled either2 (runs_in path_infix2)) (s_close close_node4 s_end)))))

@@ -15,8 +15,8 @@ bump-s1-requires c =
     let pre0 = c.requires.0 in
     (pre0.reads, pre0.logs)
 
-pub close-requires : goal.close-requires
-close-requires c =
+pub close_node-requires : goal.close_node-requires
+close_node-requires c =
     let pre0 = c.requires.0 in
     let pre1 = c.requires.1 in
     let bump = c.bump-s1.ensures in
@@ -30,21 +30,21 @@ returns-then-at c =
     let at = c.at.ensures in
     let if1 = c.if-at.true in
     let bump = c.bump-s1.ensures in
-    let close = c.close.ensures in
-    in_steps pre0 (s_kind (s_true _ _ (kind_at _ _ _ _ at if1) (s_bump bump (s_close close s_end))))
+    let close_node = c.close_node.ensures in
+    in_steps pre0 (s_kind (s_true _ _ (kind_at _ _ _ _ at if1) (s_bump bump (s_close close_node s_end))))
 
-pub report-s1-requires : goal.report-s1-requires
-report-s1-requires c =
+pub report_error-s1-requires : goal.report_error-s1-requires
+report_error-s1-requires c =
     let pre0 = c.requires.0 in
     (pre0.holds, (let few = pre0.reads.few in let inside = pre0.reads.inside in omega arith), omega arith)
 
-pub close-requires-2 : goal.close-requires-2
-close-requires-2 c =
+pub close_node-requires-2 : goal.close_node-requires-2
+close_node-requires-2 c =
     let pre0 = c.requires.0 in
     let pre1 = c.requires.1 in
-    let report = c.report-s1.ensures in
-    let report_ok = ok_tells report pre0 in
-    (report_ok.logs, pre1)
+    let report_error = c.report_error-s1.ensures in
+    let report_error_ok = ok_tells report_error pre0 in
+    (report_error_ok.logs, pre1)
 
 pub returns : goal.returns
 unfolding expr.paren_end plan choose chosen
@@ -52,6 +52,6 @@ returns c =
     let pre0 = c.requires.0 in
     let at = c.at.ensures in
     let if1 = c.if-at.false in
-    let report = c.report-s1.ensures in
-    let close2 = c.close-2.ensures in
-    in_steps pre0 (s_kind (s_false _ _ (kind_off _ _ _ _ at if1) (s_report report (s_close close2 s_end))))
+    let report_error = c.report_error-s1.ensures in
+    let close_node2 = c.close_node-2.ensures in
+    in_steps pre0 (s_kind (s_false _ _ (kind_off _ _ _ _ at if1) (s_report report_error (s_close close_node2 s_end))))

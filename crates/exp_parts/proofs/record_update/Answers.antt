@@ -15,8 +15,8 @@ at_n-requires c =
     let pre0 = c.requires in
     pre0.reads
 
-pub refuse-requires : goal.refuse-requires
-refuse-requires c =
+pub refuse_for-requires : goal.refuse_for-requires
+refuse_for-requires c =
     tt
 
 pub returns-then-left-eq0 : goal.returns-then-left-eq0
@@ -28,8 +28,8 @@ returns-then-left-eq0 c =
     let at_n = c.at_n.ensures in
     let if2 = c.if-at_n.true in
     let if3 = c.if-left-eq0.true in
-    let refuse = c.refuse.ensures in
-    by_steps pre0 (λ b. s_kind (s_true _ _ (kind_at _ _ _ _ at if1) (s_kind (s_true _ _ (kind_at _ _ _ _ at_n if2) (s_shut if3 refuse (λ k l. refl))))))
+    let refuse_for = c.refuse_for.ensures in
+    by_steps pre0 (λ b. s_kind (s_true _ _ (kind_at _ _ _ _ at if1) (s_kind (s_true _ _ (kind_at _ _ _ _ at_n if2) (s_shut if3 refuse_for (λ k l. refl))))))
 
 pub mark-s1-requires : goal.mark-s1-requires
 mark-s1-requires c =
@@ -48,8 +48,8 @@ bump-s3-requires c =
     let update_path_ok = update_path.ok in
     (update_path_ok.reads, update_path_ok.logs)
 
-pub close-requires : goal.close-requires
-close-requires c =
+pub close_node-requires : goal.close_node-requires
+close_node-requires c =
     let pre0 = c.requires in
     let mark = c.mark-s1.ensures in
     let mark_ok = ok_marks mark pre0 in
@@ -71,8 +71,8 @@ returns-then-at_n c =
     let mark = c.mark-s1.ensures in
     let update_path = c.update_path-s2.ensures in
     let bump = c.bump-s3.ensures in
-    let close = c.close.ensures in
-    by_steps pre0 (λ b. s_kind (s_true _ _ (kind_at _ _ _ _ at if1) (s_kind (s_true _ _ (kind_at _ _ _ _ at_n if2) (s_mark if3 mark (s_by _ (runs_in update_path) (s_bump bump (s_close close s_end))))))))
+    let close_node = c.close_node.ensures in
+    by_steps pre0 (λ b. s_kind (s_true _ _ (kind_at _ _ _ _ at if1) (s_kind (s_true _ _ (kind_at _ _ _ _ at_n if2) (s_mark if3 mark (s_by _ (runs_in update_path) (s_bump bump (s_close close_node s_end))))))))
 
 pub returns-then-at : goal.returns-then-at
 unfolding expr.record_update plan choose chosen

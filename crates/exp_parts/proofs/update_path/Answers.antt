@@ -5,8 +5,8 @@ use Rattle.parser.specs.Plans.{plan, choose, chosen, by_steps, s_close, s_mark, 
 use mathlib.Core.Path.{refl}
 use Rattle.exp_parts.proofs.update_path.Goals as goal
 
-pub refuse-requires : goal.refuse-requires
-refuse-requires c =
+pub refuse_for-requires : goal.refuse_for-requires
+refuse_for-requires c =
     tt
 
 pub returns-then-left-eq0 : goal.returns-then-left-eq0
@@ -14,8 +14,8 @@ unfolding expr.update_path plan choose chosen hushed
 returns-then-left-eq0 c =
     let pre0 = c.requires in
     let if1 = c.if-left-eq0.true in
-    let refuse = c.refuse.ensures in
-    by_steps pre0 (λ b. s_shut if1 refuse (λ k l. refl))
+    let refuse_for = c.refuse_for.ensures in
+    by_steps pre0 (λ b. s_shut if1 refuse_for (λ k l. refl))
 
 pub mark-s1-requires : goal.mark-s1-requires
 mark-s1-requires c =
@@ -32,8 +32,8 @@ pub either-s2-requires : goal.either-s2-requires
 either-s2-requires c =
     tt
 
-pub close-requires : goal.close-requires
-close-requires c =
+pub close_node-requires : goal.close_node-requires
+close_node-requires c =
     let pre0 = c.requires in
     let mark = c.mark-s1.ensures in
     let mark_ok = ok_marks mark pre0 in
@@ -51,5 +51,5 @@ returns c =
     let mark = c.mark-s1.ensures in
     let path_no_infix = c.path_no_infix-got.ensures in
     let either = c.either-s2.ensures in
-    let close = c.close.ensures in
-    by_steps pre0 (λ b. s_mark if1 mark (s_by _ (settled either (runs_in path_no_infix)) (s_close close s_end)))
+    let close_node = c.close_node.ensures in
+    by_steps pre0 (λ b. s_mark if1 mark (s_by _ (settled either (runs_in path_no_infix)) (s_close close_node s_end)))

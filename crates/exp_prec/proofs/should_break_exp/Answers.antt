@@ -9,8 +9,8 @@ pub judge-what-requires : goal.judge-what-requires
 judge-what-requires c =
     tt
 
-pub refuse-requires : goal.refuse-requires
-refuse-requires c =
+pub refuse_for-requires : goal.refuse_for-requires
+refuse_for-requires c =
     tt
 
 pub should_break-requires : goal.should_break-requires
@@ -23,8 +23,8 @@ unfolding expr.decide plan choose chosen
 returns-in-Unreachable c =
     let pre0 = c.requires in
     let judge = c.in-Unreachable.ensures in
-    let refuse = c.refuse.ensures in
-    rw (sym judge) (always pre0 (λ n b. s_refuse refuse s_end))
+    let refuse_for = c.refuse_for.ensures in
+    rw (sym judge) (always pre0 (λ n b. s_refuse refuse_for s_end))
 
 pub returns-in-GoesOn : goal.returns-in-GoesOn
 unfolding expr.decide plan choose chosen

@@ -10,8 +10,8 @@ peek-requires c =
     let pre0 = c.requires in
     pre0.reads
 
-pub report-s1-requires : goal.report-s1-requires
-report-s1-requires c =
+pub report_error-s1-requires : goal.report_error-s1-requires
+report_error-s1-requires c =
     let pre0 = c.requires in
     (pre0.holds, (let few = pre0.reads.few in let inside = pre0.reads.inside in omega arith), omega arith)
 
@@ -20,8 +20,8 @@ unfolding decl.fixity plan choose chosen
 returns-in_default c =
     let pre0 = c.requires in
     let peek = c.in_default.ensures in
-    let report = c.report-s1.ensures in
-    always pre0 (λ n b. s_look peek (s_report report s_end))
+    let report_error = c.report_error-s1.ensures in
+    always pre0 (λ n b. s_look peek (s_report report_error s_end))
 
 pub fixity_number-requires : goal.fixity_number-requires
 fixity_number-requires c =
@@ -51,8 +51,8 @@ returns-then-name_star_eq c =
     let if2 = c.if-name_star_eq.true in
     always pre0 (λ n b. s_look peek (s_false _ _ (kind_not if1) (s_true _ _ (test_true name_star_eq if2) s_end)))
 
-pub report-s1-requires-2 : goal.report-s1-requires-2
-report-s1-requires-2 c =
+pub report_error-s1-requires-2 : goal.report_error-s1-requires-2
+report_error-s1-requires-2 c =
     let pre0 = c.requires in
     (pre0.holds, (let few = pre0.reads.few in let inside = pre0.reads.inside in omega arith), omega arith)
 
@@ -64,5 +64,5 @@ returns c =
     let if1 = c.if-k-eq-INT_LIT.false in
     let name_star_eq = c.name_star_eq.ensures in
     let if2 = c.if-name_star_eq.false in
-    let report2 = c.report-s1-2.ensures in
-    always pre0 (λ n b. s_look peek (s_false _ _ (kind_not if1) (s_false _ _ (test_false name_star_eq if2) (s_report report2 s_end))))
+    let report_error2 = c.report_error-s1-2.ensures in
+    always pre0 (λ n b. s_look peek (s_false _ _ (kind_not if1) (s_false _ _ (test_false name_star_eq if2) (s_report report_error2 s_end))))

@@ -24,34 +24,34 @@ itself n = omega arith
 pub bump-s2-requires : goal.bump-s2-requires
 bump-s2-requires c =
     let pre0 = c.requires in
-    let report = c.report-s1.ensures in
-    let report-ok = ok_tells report pre0 in
-    (report-ok.reads, report-ok.logs)
+    let report_error = c.report_error-s1.ensures in
+    let report_error-ok = ok_tells report_error pre0 in
+    (report_error-ok.reads, report_error-ok.logs)
 
 pub bump-s2-requires-in-Err-Invalid : goal.bump-s2-requires-in-Err-Invalid
 bump-s2-requires-in-Err-Invalid c =
     let pre0 = c.requires in
-    let report2 = c.report-s1-in-Err-Invalid.ensures in
-    let report2-ok = ok_tells report2 pre0 in
-    (report2-ok.reads, report2-ok.logs)
+    let report_error2 = c.report_error-s1-in-Err-Invalid.ensures in
+    let report_error2-ok = ok_tells report_error2 pre0 in
+    (report_error2-ok.reads, report_error2-ok.logs)
 
 pub returns-in-Err-Negative : goal.returns-in-Err-Negative
 unfolding decl.fixity_number plan choose chosen
 returns-in-Err-Negative c =
     let pre0 = c.requires in
     let number_at = rw c.in-Err-Negative.field-0-is at c.in-Err-Negative.ensures in
-    let report = c.report-s1.ensures in
+    let report_error = c.report_error-s1.ensures in
     let bump = c.bump-s2.ensures in
-    always pre0 (λ n b. s_says number_at (s_report report (s_bump bump s_end)))
+    always pre0 (λ n b. s_says number_at (s_report report_error (s_bump bump s_end)))
 
 pub returns-in-Err-Invalid : goal.returns-in-Err-Invalid
 unfolding decl.fixity_number plan choose chosen
 returns-in-Err-Invalid c =
     let pre0 = c.requires in
     let number_at = rw c.in-Err-Invalid.field-0-is at c.in-Err-Invalid.ensures in
-    let report2 = c.report-s1-in-Err-Invalid.ensures in
+    let report_error2 = c.report_error-s1-in-Err-Invalid.ensures in
     let bump2 = c.bump-s2-in-Err-Invalid.ensures in
-    always pre0 (λ n b. s_says number_at (s_report report2 (s_bump bump2 s_end)))
+    always pre0 (λ n b. s_says number_at (s_report report_error2 (s_bump bump2 s_end)))
 
 pub returns-in-Ok : goal.returns-in-Ok
 unfolding decl.fixity_number plan choose chosen

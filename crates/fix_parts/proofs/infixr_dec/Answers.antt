@@ -26,8 +26,8 @@ names-s3-requires c =
     let fixity_ok = fixity.ok in
     fixity_ok
 
-pub close-requires : goal.close-requires
-close-requires c =
+pub close_node-requires : goal.close_node-requires
+close_node-requires c =
     let pre1 = c.requires.1 in
     let names = c.names-s3.ensures in
     let names_ok = names.ok in
@@ -41,5 +41,5 @@ returns c =
     let fixity = c.fixity-got.ensures in
     let right = c.right.ensures in
     let names = rw right at c.names-s3.ensures in
-    let close = c.close.ensures in
-    in_steps pre0 (s_bump bump (s_by _ (runs_always fixity) (s_run names (s_close close s_end))))
+    let close_node = c.close_node.ensures in
+    in_steps pre0 (s_bump bump (s_by _ (runs_always fixity) (s_run names (s_close close_node s_end))))

@@ -13,8 +13,8 @@ pub is_large-requires : goal.is_large-requires
 is_large-requires c =
     tt
 
-pub report-requires : goal.report-requires
-report-requires c =
+pub report_error-requires : goal.report_error-requires
+report_error-requires c =
     let pre0 = c.requires in
     (pre0.holds, (let few = pre0.reads.few in let inside = pre0.reads.inside in omega arith), omega arith)
 
@@ -25,8 +25,8 @@ returns-then-is_large c =
     let mode = c.mode-m.ensures in
     let is_large = c.is_large.ensures in
     let if1 = c.if-is_large.true in
-    let report = c.report.ensures in
-    always pre0 (λ n b. s_look mode (s_true _ _ (test_true is_large if1) (s_report report s_end)))
+    let report_error = c.report_error.ensures in
+    always pre0 (λ n b. s_look mode (s_true _ _ (test_true is_large if1) (s_report report_error s_end)))
 
 pub returns : goal.returns
 unfolding decl.large_fixity plan choose chosen

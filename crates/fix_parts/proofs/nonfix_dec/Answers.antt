@@ -16,8 +16,8 @@ names-s2-requires c =
     let bump_ok = ok_bumps bump pre0 in
     bump_ok
 
-pub close-requires : goal.close-requires
-close-requires c =
+pub close_node-requires : goal.close_node-requires
+close_node-requires c =
     let pre1 = c.requires.1 in
     let names = c.names-s2.ensures in
     let names_ok = names.ok in
@@ -29,5 +29,5 @@ returns c =
     let pre0 = c.requires.0 in
     let bump = c.bump-s1.ensures in
     let names = c.names-s2.ensures in
-    let close = c.close.ensures in
-    in_steps pre0 (s_bump bump (s_run names (s_close close s_end)))
+    let close_node = c.close_node.ensures in
+    in_steps pre0 (s_bump bump (s_run names (s_close close_node s_end)))

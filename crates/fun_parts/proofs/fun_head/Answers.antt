@@ -23,8 +23,8 @@ other_head-s3-requires c =
     let ok_since_ok = ok_since_lem (runs_in {b = 0} infix_head) ok_since pre0 in
     (ok_since_ok, pre1)
 
-pub close-requires : goal.close-requires
-close-requires c =
+pub close_node-requires : goal.close_node-requires
+close_node-requires c =
     let pre0 = c.requires.0 in
     let pre1 = c.requires.1 in
     let infix_head = c.infix_head-s1.ensures in
@@ -47,5 +47,5 @@ returns-in-Ok c =
     let pre0 = c.requires.0 in
     let infix_head = c.infix_head-s1.ensures in
     let ok_since = c.in-Ok.ensures in
-    let close = c.close.ensures in
-    in_steps pre0 (s_attempt (runs_in infix_head) ok_since (s_close close s_end))
+    let close_node = c.close_node.ensures in
+    in_steps pre0 (s_attempt (runs_in infix_head) ok_since (s_close close_node s_end))

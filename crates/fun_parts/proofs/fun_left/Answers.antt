@@ -5,25 +5,25 @@ use Rattle.parser.specs.Runs.{ok_marks, ok_refused, small_len}
 use Rattle.parser.specs.Plans.{plan, choose, chosen, by_steps, s_mark, s_deep, s_by, s_run, s_end}
 use Rattle.fun_parts.proofs.fun_left.Goals as goal
 
-pub refuse-s1-requires : goal.refuse-s1-requires
-refuse-s1-requires c =
+pub refuse_for-s1-requires : goal.refuse_for-s1-requires
+refuse_for-s1-requires c =
     tt
 
 pub at_pats-requires : goal.at_pats-requires
 at_pats-requires c =
     let pre0 = c.requires in
-    let refuse = c.refuse-s1.ensures in
-    let refuse_ok = ok_refused _ refuse pre0 in
-    refuse_ok
+    let refuse_for = c.refuse_for-s1.ensures in
+    let refuse_for_ok = ok_refused _ refuse_for pre0 in
+    refuse_for_ok
 
 pub returns-then-left-eq0 : goal.returns-then-left-eq0
 unfolding decl.fun_left plan choose chosen
 returns-then-left-eq0 c =
     let pre0 = c.requires in
     let if1 = c.if-left-eq0.true in
-    let refuse = c.refuse-s1.ensures in
+    let refuse_for = c.refuse_for-s1.ensures in
     let at_pats = c.at_pats.ensures in
-    by_steps pre0 (λ b. s_deep if1 refuse (s_run at_pats s_end))
+    by_steps pre0 (λ b. s_deep if1 refuse_for (s_run at_pats s_end))
 
 pub mark-s1-requires : goal.mark-s1-requires
 mark-s1-requires c =

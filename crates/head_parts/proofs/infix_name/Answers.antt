@@ -10,8 +10,8 @@ peek-requires c =
     let pre0 = c.requires in
     pre0.reads
 
-pub report-requires : goal.report-requires
-report-requires c =
+pub report_error-requires : goal.report_error-requires
+report_error-requires c =
     let pre0 = c.requires in
     (pre0.holds, (let few = pre0.reads.few in let inside = pre0.reads.inside in omega arith), omega arith)
 
@@ -20,8 +20,8 @@ unfolding decl.infix_name plan choose chosen
 returns-in_default c =
     let pre0 = c.requires in
     let peek = c.in_default.ensures in
-    let report = c.report.ensures in
-    always pre0 (λ n b. s_look peek (s_report report s_end))
+    let report_error = c.report_error.ensures in
+    always pre0 (λ n b. s_look peek (s_report report_error s_end))
 
 pub name_star-requires : goal.name_star-requires
 name_star-requires c =
@@ -41,8 +41,8 @@ bump-s1-requires c =
     let pre0 = c.requires in
     (pre0.reads, pre0.logs)
 
-pub report-requires-in-None : goal.report-requires-in-None
-report-requires-in-None c =
+pub report_error-requires-in-None : goal.report_error-requires-in-None
+report_error-requires-in-None c =
     let pre0 = c.requires in
     let index = c.index-i.ensures in
     let index_small = small_index index pre0 in
@@ -60,8 +60,8 @@ returns-in-None c =
     let fixity_at = c.in-None.ensures in
     let index = c.index-i.ensures in
     let bump = c.bump-s1.ensures in
-    let report2 = c.report-in-None.ensures in
-    always pre0 (λ n b. s_look peek (s_true _ _ (test_true name_star if1) (s_fixed fixity_at (s_index index (s_bump bump (s_report report2 s_end))))))
+    let report_error2 = c.report_error-in-None.ensures in
+    always pre0 (λ n b. s_look peek (s_true _ _ (test_true name_star if1) (s_fixed fixity_at (s_index index (s_bump bump (s_report report_error2 s_end))))))
 
 pub bump-requires : goal.bump-requires
 bump-requires c =
@@ -79,8 +79,8 @@ returns-in-Some-fix c =
     let bump2 = c.bump.ensures in
     always pre0 (λ n b. s_look peek (s_true _ _ (test_true name_star if1) (s_fixed fixity_at (s_bump bump2 s_end))))
 
-pub report-requires-2 : goal.report-requires-2
-report-requires-2 c =
+pub report_error-requires-2 : goal.report_error-requires-2
+report_error-requires-2 c =
     let pre0 = c.requires in
     (pre0.holds, (let few = pre0.reads.few in let inside = pre0.reads.inside in omega arith), omega arith)
 
@@ -91,5 +91,5 @@ returns c =
     let peek = c.in-Some.ensures in
     let name_star = c.name_star.ensures in
     let if1 = c.if-name_star.false in
-    let report3 = c.report-2.ensures in
-    always pre0 (λ n b. s_look peek (s_false _ _ (test_false name_star if1) (s_report report3 s_end)))
+    let report_error3 = c.report_error-2.ensures in
+    always pre0 (λ n b. s_look peek (s_false _ _ (test_false name_star if1) (s_report report_error3 s_end)))

@@ -10,8 +10,8 @@ peek-requires c =
     let pre0 = c.requires in
     pre0.reads
 
-pub report-requires : goal.report-requires
-report-requires c =
+pub report_error-requires : goal.report_error-requires
+report_error-requires c =
     let pre0 = c.requires in
     (pre0.holds, (let few = pre0.reads.few in let inside = pre0.reads.inside in omega arith), omega arith)
 
@@ -20,8 +20,8 @@ unfolding decl.prefix_name plan choose chosen
 returns-in_default c =
     let pre0 = c.requires in
     let peek = c.in_default.ensures in
-    let report = c.report.ensures in
-    always pre0 (λ n b. s_look peek (s_report report s_end))
+    let report_error = c.report_error.ensures in
+    always pre0 (λ n b. s_look peek (s_report report_error s_end))
 
 pub name_star-requires : goal.name_star-requires
 name_star-requires c =
@@ -52,8 +52,8 @@ pub index-i-requires : goal.index-i-requires
 index-i-requires c =
     tt
 
-pub report-s1-requires : goal.report-s1-requires
-report-s1-requires c =
+pub report_error-s1-requires : goal.report_error-s1-requires
+report_error-s1-requires c =
     let pre0 = c.requires in
     let index = c.index-i.ensures in
     let index_small = small_index index pre0 in
@@ -62,9 +62,9 @@ report-s1-requires c =
 pub bump-requires-in-Some-fix : goal.bump-requires-in-Some-fix
 bump-requires-in-Some-fix c =
     let pre0 = c.requires in
-    let report2 = c.report-s1.ensures in
-    let report2_ok = ok_tells report2 pre0 in
-    (report2_ok.reads, report2_ok.logs)
+    let report_error2 = c.report_error-s1.ensures in
+    let report_error2_ok = ok_tells report_error2 pre0 in
+    (report_error2_ok.reads, report_error2_ok.logs)
 
 pub returns-in-Some-fix : goal.returns-in-Some-fix
 unfolding decl.prefix_name plan choose chosen
@@ -75,12 +75,12 @@ returns-in-Some-fix c =
     let if1 = c.if-name_star.true in
     let fixity_at = c.in-Some-fix.ensures in
     let index = c.index-i.ensures in
-    let report2 = c.report-s1.ensures in
+    let report_error2 = c.report_error-s1.ensures in
     let bump2 = c.bump-in-Some-fix.ensures in
-    always pre0 (λ n b. s_look peek (s_true _ _ (test_true name_star if1) (s_fixed fixity_at (s_index index (s_report report2 (s_bump bump2 s_end))))))
+    always pre0 (λ n b. s_look peek (s_true _ _ (test_true name_star if1) (s_fixed fixity_at (s_index index (s_report report_error2 (s_bump bump2 s_end))))))
 
-pub report-requires-2 : goal.report-requires-2
-report-requires-2 c =
+pub report_error-requires-2 : goal.report_error-requires-2
+report_error-requires-2 c =
     let pre0 = c.requires in
     (pre0.holds, (let few = pre0.reads.few in let inside = pre0.reads.inside in omega arith), omega arith)
 
@@ -91,5 +91,5 @@ returns c =
     let peek = c.in-Some.ensures in
     let name_star = c.name_star.ensures in
     let if1 = c.if-name_star.false in
-    let report3 = c.report-2.ensures in
-    always pre0 (λ n b. s_look peek (s_false _ _ (test_false name_star if1) (s_report report3 s_end)))
+    let report_error3 = c.report_error-2.ensures in
+    always pre0 (λ n b. s_look peek (s_false _ _ (test_false name_star if1) (s_report report_error3 s_end)))

@@ -15,8 +15,8 @@ bump-s1-requires c =
     let pre0 = c.requires in
     (pre0.reads, pre0.logs)
 
-pub report-requires : goal.report-requires
-report-requires c =
+pub report_error-requires : goal.report_error-requires
+report_error-requires c =
     let pre0 = c.requires in
     let bump = c.bump-s1.ensures in
     let bump_ok = ok_bumps bump pre0 in
@@ -28,8 +28,8 @@ returns-in_default c =
     let pre0 = c.requires in
     let peek_n = c.in_default.ensures in
     let bump = c.bump-s1.ensures in
-    let report = c.report.ensures in
-    always pre0 (λ n b. s_look peek_n (s_bump bump (s_report report s_end)))
+    let report_error = c.report_error.ensures in
+    always pre0 (λ n b. s_look peek_n (s_bump bump (s_report report_error s_end)))
 
 pub name_star-requires : goal.name_star-requires
 name_star-requires c =
@@ -40,25 +40,25 @@ fixity_at-fix-requires c =
     let pre0 = c.requires in
     (pre0.reads, pre0.names, pre0.stands)
 
-pub report-s1-requires : goal.report-s1-requires
-report-s1-requires c =
+pub report_error-s1-requires : goal.report_error-s1-requires
+report_error-s1-requires c =
     let pre0 = c.requires in
     (pre0.holds, (let few = pre0.reads.few in let inside = pre0.reads.inside in omega arith), omega arith)
 
 pub bump-s2-requires : goal.bump-s2-requires
 bump-s2-requires c =
     let pre0 = c.requires in
-    let report2 = c.report-s1.ensures in
-    let report2_ok = ok_tells report2 pre0 in
-    (report2_ok.reads, report2_ok.logs)
+    let report_error2 = c.report_error-s1.ensures in
+    let report_error2_ok = ok_tells report_error2 pre0 in
+    (report_error2_ok.reads, report_error2_ok.logs)
 
 pub bump-requires : goal.bump-requires
 bump-requires c =
     let pre0 = c.requires in
-    let report2 = c.report-s1.ensures in
-    let report2_ok = ok_tells report2 pre0 in
+    let report_error2 = c.report_error-s1.ensures in
+    let report_error2_ok = ok_tells report_error2 pre0 in
     let bump2 = c.bump-s2.ensures in
-    let bump2_ok = ok_bumps bump2 report2_ok in
+    let bump2_ok = ok_bumps bump2 report_error2_ok in
     (bump2_ok.reads, bump2_ok.logs)
 
 pub returns-in-None : goal.returns-in-None
@@ -69,10 +69,10 @@ returns-in-None c =
     let name_star = c.name_star.ensures in
     let if1 = c.if-name_star.true in
     let fixity_at = c.in-None.ensures in
-    let report2 = c.report-s1.ensures in
+    let report_error2 = c.report_error-s1.ensures in
     let bump2 = c.bump-s2.ensures in
     let bump3 = c.bump.ensures in
-    always pre0 (λ n b. s_look peek_n (s_true _ _ (test_true name_star if1) (s_fixed fixity_at (s_report report2 (s_bump bump2 (s_bump bump3 s_end))))))
+    always pre0 (λ n b. s_look peek_n (s_true _ _ (test_true name_star if1) (s_fixed fixity_at (s_report report_error2 (s_bump bump2 (s_bump bump3 s_end))))))
 
 pub bump-s1-requires-in-Some-fix : goal.bump-s1-requires-in-Some-fix
 bump-s1-requires-in-Some-fix c =
@@ -103,8 +103,8 @@ bump-s1-requires-2 c =
     let pre0 = c.requires in
     (pre0.reads, pre0.logs)
 
-pub report-requires-2 : goal.report-requires-2
-report-requires-2 c =
+pub report_error-requires-2 : goal.report_error-requires-2
+report_error-requires-2 c =
     let pre0 = c.requires in
     let bump6 = c.bump-s1-2.ensures in
     let bump6_ok = ok_bumps bump6 pre0 in
@@ -118,5 +118,5 @@ returns c =
     let name_star = c.name_star.ensures in
     let if1 = c.if-name_star.false in
     let bump6 = c.bump-s1-2.ensures in
-    let report3 = c.report-2.ensures in
-    always pre0 (λ n b. s_look peek_n (s_false _ _ (test_false name_star if1) (s_bump bump6 (s_report report3 s_end))))
+    let report_error3 = c.report_error-2.ensures in
+    always pre0 (λ n b. s_look peek_n (s_false _ _ (test_false name_star if1) (s_bump bump6 (s_report report_error3 s_end))))

@@ -37,8 +37,8 @@ bump-s1-requires c =
     let pre0 = c.requires in
     (pre0.reads, pre0.logs)
 
-pub report-requires : goal.report-requires
-report-requires c =
+pub report_error-requires : goal.report_error-requires
+report_error-requires c =
     let pre0 = c.requires in
     let bump2 = c.bump-s1.ensures in
     let bump2_ok = ok_bumps bump2 pre0 in
@@ -53,11 +53,11 @@ returns-then-at c =
     let says = c.says.ensures in
     let if2 = c.if-says.false in
     let bump2 = c.bump-s1.ensures in
-    let report = c.report.ensures in
-    always pre0 (λ n b. s_kind (s_true _ _ (kind_at _ _ _ _ at if1) (s_says (rw if2 at says) (s_bump bump2 (s_report report s_end)))))
+    let report_error = c.report_error.ensures in
+    always pre0 (λ n b. s_kind (s_true _ _ (kind_at _ _ _ _ at if1) (s_says (rw if2 at says) (s_bump bump2 (s_report report_error s_end)))))
 
-pub report-requires-2 : goal.report-requires-2
-report-requires-2 c =
+pub report_error-requires-2 : goal.report_error-requires-2
+report_error-requires-2 c =
     let pre0 = c.requires in
     (pre0.holds, (let few = pre0.reads.few in let inside = pre0.reads.inside in omega arith), omega arith)
 
@@ -67,5 +67,5 @@ returns c =
     let pre0 = c.requires in
     let at = c.at.ensures in
     let if1 = c.if-at.false in
-    let report2 = c.report-2.ensures in
-    always pre0 (λ n b. s_kind (s_false _ _ (kind_off _ _ _ _ at if1) (s_report report2 s_end)))
+    let report_error2 = c.report_error-2.ensures in
+    always pre0 (λ n b. s_kind (s_false _ _ (kind_off _ _ _ _ at if1) (s_report report_error2 s_end)))

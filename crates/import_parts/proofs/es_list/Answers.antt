@@ -33,16 +33,16 @@ returns-then-at c =
     let bump = c.bump.ensures in
     loop_ends (end_turn_advances true SK.EsImportSpecArg SK.Comma SK.RCurly decl.es_import_spec _ _) inv (in_steps inv.ok {n = c.args.left} {b = c.args.b} (s_kind (s_true _ _ (kind_at _ _ _ _ at if1) (s_bump bump s_end))))
 
-pub refuse-s2-requires : goal.refuse-s2-requires
-refuse-s2-requires c =
+pub refuse_for-s2-requires : goal.refuse_for-s2-requires
+refuse_for-s2-requires c =
     tt
 
 pub eat-got-requires : goal.eat-got-requires
 eat-got-requires c =
     let inv = c.loop-scratch.invariant.ok in
-    let refuse = c.refuse-s2.ensures in
-    let refuse_ok = ok_refused _ refuse inv in
-    (refuse_ok.reads, refuse_ok.logs, refuse_ok.holds, omega arith)
+    let refuse_for = c.refuse_for-s2.ensures in
+    let refuse_for_ok = ok_refused _ refuse_for inv in
+    (refuse_for_ok.reads, refuse_for_ok.logs, refuse_for_ok.holds, omega arith)
 
 pub either-requires : goal.either-requires
 either-requires c =
@@ -55,10 +55,10 @@ returns-then-left-eq0 c =
     let at = c.at.ensures in
     let if1 = c.if-at.false in
     let if2 = c.if-left-eq0.true in
-    let refuse = c.refuse-s2.ensures in
+    let refuse_for = c.refuse_for-s2.ensures in
     let eat = c.eat-got.ensures in
     let either = c.either.ensures in
-    loop_ends (end_turn_advances true SK.EsImportSpecArg SK.Comma SK.RCurly decl.es_import_spec _ _) inv (in_steps inv.ok {n = c.args.left} {b = c.args.b} (s_kind (s_false _ _ (kind_off _ _ _ _ at if1) (s_deep if2 refuse (s_eats _ _ _ (eats_settled either eat) s_end)))))
+    loop_ends (end_turn_advances true SK.EsImportSpecArg SK.Comma SK.RCurly decl.es_import_spec _ _) inv (in_steps inv.ok {n = c.args.left} {b = c.args.b} (s_kind (s_false _ _ (kind_off _ _ _ _ at if1) (s_deep if2 refuse_for (s_eats _ _ _ (eats_settled either eat) s_end)))))
 
 pub mark-s2-requires : goal.mark-s2-requires
 mark-s2-requires c =
@@ -83,8 +83,8 @@ bump-s4-requires c =
     let es_spec_ok = es_spec.ok in
     (es_spec_ok.reads, es_spec_ok.logs)
 
-pub close-s1-requires : goal.close-s1-requires
-close-s1-requires c =
+pub close_node-s1-requires : goal.close_node-s1-requires
+close_node-s1-requires c =
     let inv = c.loop-scratch.invariant.ok in
     let mark = c.mark-s2.ensures in
     let mark_ok = ok_marks mark inv in
@@ -106,8 +106,8 @@ loop-scratch-smaller c =
     let at2 = c.at-in-loop-scratch.ensures in
     let if3 = c.if-at-2.true in
     let bump2 = c.bump-s4.ensures in
-    let close = c.close-s1.ensures in
-    loop_falls (end_turn_advances true SK.EsImportSpecArg SK.Comma SK.RCurly decl.es_import_spec _ _) (in_steps inv.ok {n = c.args.left} {b = c.args.b} (s_kind (s_false _ _ (kind_off _ _ _ _ at if1) (s_mark if2 mark (s_by _ (runs_in es_spec) (s_kind (s_true _ _ (kind_at _ _ _ _ at2 if3) (s_bump bump2 (s_close close s_end)))))))))
+    let close_node = c.close_node-s1.ensures in
+    loop_falls (end_turn_advances true SK.EsImportSpecArg SK.Comma SK.RCurly decl.es_import_spec _ _) (in_steps inv.ok {n = c.args.left} {b = c.args.b} (s_kind (s_false _ _ (kind_off _ _ _ _ at if1) (s_mark if2 mark (s_by _ (runs_in es_spec) (s_kind (s_true _ _ (kind_at _ _ _ _ at2 if3) (s_bump bump2 (s_close close_node s_end)))))))))
 
 pub loop-scratch-preserved : goal.loop-scratch-preserved
 unfolding util.end_turn util.end_item plan choose chosen
@@ -121,11 +121,11 @@ loop-scratch-preserved c =
     let at2 = c.at-in-loop-scratch.ensures in
     let if3 = c.if-at-2.true in
     let bump2 = c.bump-s4.ensures in
-    let close = c.close-s1.ensures in
-    loop_goes (end_turn_advances true SK.EsImportSpecArg SK.Comma SK.RCurly decl.es_import_spec _ _) inv (in_steps inv.ok {n = c.args.left} {b = c.args.b} (s_kind (s_false _ _ (kind_off _ _ _ _ at if1) (s_mark if2 mark (s_by _ (runs_in es_spec) (s_kind (s_true _ _ (kind_at _ _ _ _ at2 if3) (s_bump bump2 (s_close close s_end)))))))))
+    let close_node = c.close_node-s1.ensures in
+    loop_goes (end_turn_advances true SK.EsImportSpecArg SK.Comma SK.RCurly decl.es_import_spec _ _) inv (in_steps inv.ok {n = c.args.left} {b = c.args.b} (s_kind (s_false _ _ (kind_off _ _ _ _ at if1) (s_mark if2 mark (s_by _ (runs_in es_spec) (s_kind (s_true _ _ (kind_at _ _ _ _ at2 if3) (s_bump bump2 (s_close close_node s_end)))))))))
 
-pub close-s4-requires : goal.close-s4-requires
-close-s4-requires c =
+pub close_node-s4-requires : goal.close_node-s4-requires
+close_node-s4-requires c =
     let inv = c.loop-scratch.invariant.ok in
     let mark = c.mark-s2.ensures in
     let mark_ok = ok_marks mark inv in
@@ -137,9 +137,9 @@ pub eat-got-requires-in-loop-scratch : goal.eat-got-requires-in-loop-scratch
 eat-got-requires-in-loop-scratch c =
     let es_spec = c.es_spec-s3.ensures in
     let es_spec_ok = es_spec.ok in
-    let close2 = c.close-s4.ensures in
-    let close2_ok = ok_adds close2 es_spec_ok in
-    (close2_ok.reads, close2_ok.logs, close2_ok.holds, omega arith)
+    let close_node2 = c.close_node-s4.ensures in
+    let close_node2_ok = ok_adds close_node2 es_spec_ok in
+    (close_node2_ok.reads, close_node2_ok.logs, close_node2_ok.holds, omega arith)
 
 pub either-requires-in-loop-scratch : goal.either-requires-in-loop-scratch
 either-requires-in-loop-scratch c =
@@ -156,7 +156,7 @@ returns-in-loop-scratch c =
     let es_spec = c.es_spec-s3.ensures in
     let at2 = c.at-in-loop-scratch.ensures in
     let if3 = c.if-at-2.false in
-    let close2 = c.close-s4.ensures in
+    let close_node2 = c.close_node-s4.ensures in
     let eat2 = c.eat-got-in-loop-scratch.ensures in
     let either2 = c.either-in-loop-scratch.ensures in
-    loop_ends (end_turn_advances true SK.EsImportSpecArg SK.Comma SK.RCurly decl.es_import_spec _ _) inv (in_steps inv.ok {n = c.args.left} {b = c.args.b} (s_kind (s_false _ _ (kind_off _ _ _ _ at if1) (s_mark if2 mark (s_by _ (runs_in es_spec) (s_kind (s_false _ _ (kind_off _ _ _ _ at2 if3) (s_close close2 (s_eats _ _ _ (eats_settled either2 eat2) s_end)))))))))
+    loop_ends (end_turn_advances true SK.EsImportSpecArg SK.Comma SK.RCurly decl.es_import_spec _ _) inv (in_steps inv.ok {n = c.args.left} {b = c.args.b} (s_kind (s_false _ _ (kind_off _ _ _ _ at if1) (s_mark if2 mark (s_by _ (runs_in es_spec) (s_kind (s_false _ _ (kind_off _ _ _ _ at2 if3) (s_close close_node2 (s_eats _ _ _ (eats_settled either2 eat2) s_end)))))))))

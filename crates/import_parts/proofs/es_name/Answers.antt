@@ -10,8 +10,8 @@ peek-requires c =
     let pre0 = c.requires in
     pre0.reads
 
-pub report-requires : goal.report-requires
-report-requires c =
+pub report_error-requires : goal.report_error-requires
+report_error-requires c =
     let pre0 = c.requires in
     (pre0.holds, (let few = pre0.reads.few in let inside = pre0.reads.inside in omega arith), omega arith)
 
@@ -20,8 +20,8 @@ unfolding decl.es_import_name plan choose chosen
 returns-in_default c =
     let pre0 = c.requires in
     let peek = c.in_default.ensures in
-    let report = c.report.ensures in
-    always pre0 (λ n b. s_look peek (s_report report s_end))
+    let report_error = c.report_error.ensures in
+    always pre0 (λ n b. s_look peek (s_report report_error s_end))
 
 pub name_or_string-requires : goal.name_or_string-requires
 name_or_string-requires c =
@@ -42,8 +42,8 @@ returns-then-name_or_string c =
     let bump = c.bump.ensures in
     always pre0 (λ n b. s_look peek (s_true _ _ (test_true name_or_string if1) (s_bump bump s_end)))
 
-pub report-requires-2 : goal.report-requires-2
-report-requires-2 c =
+pub report_error-requires-2 : goal.report_error-requires-2
+report_error-requires-2 c =
     let pre0 = c.requires in
     (pre0.holds, (let few = pre0.reads.few in let inside = pre0.reads.inside in omega arith), omega arith)
 
@@ -54,5 +54,5 @@ returns c =
     let peek = c.in-Some.ensures in
     let name_or_string = c.name_or_string.ensures in
     let if1 = c.if-name_or_string.false in
-    let report2 = c.report-2.ensures in
-    always pre0 (λ n b. s_look peek (s_false _ _ (test_false name_or_string if1) (s_report report2 s_end)))
+    let report_error2 = c.report_error-2.ensures in
+    always pre0 (λ n b. s_look peek (s_false _ _ (test_false name_or_string if1) (s_report report_error2 s_end)))

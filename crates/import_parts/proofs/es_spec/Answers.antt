@@ -5,8 +5,8 @@ use Rattle.parser.specs.Plans.{plan, choose, chosen, by_steps, s_close, s_mark, 
 use mathlib.Core.Path.{refl}
 use Rattle.import_parts.proofs.es_spec.Goals as goal
 
-pub refuse-requires : goal.refuse-requires
-refuse-requires c =
+pub refuse_for-requires : goal.refuse_for-requires
+refuse_for-requires c =
     tt
 
 pub returns-then-left-eq0 : goal.returns-then-left-eq0
@@ -14,8 +14,8 @@ unfolding decl.es_import_spec plan choose chosen hushed
 returns-then-left-eq0 c =
     let pre0 = c.requires in
     let if1 = c.if-left-eq0.true in
-    let refuse = c.refuse.ensures in
-    by_steps pre0 (λ b. s_shut if1 refuse (λ k l. refl))
+    let refuse_for = c.refuse_for.ensures in
+    by_steps pre0 (λ b. s_shut if1 refuse_for (λ k l. refl))
 
 pub mark-s1-requires : goal.mark-s1-requires
 mark-s1-requires c =
@@ -50,8 +50,8 @@ pub either-s4-requires : goal.either-s4-requires
 either-s4-requires c =
     tt
 
-pub close-requires : goal.close-requires
-close-requires c =
+pub close_node-requires : goal.close_node-requires
+close_node-requires c =
     let pre0 = c.requires in
     let mark = c.mark-s1.ensures in
     let mark_ok = ok_marks mark pre0 in
@@ -72,5 +72,5 @@ returns c =
     let either = c.either-s3.ensures in
     let ty_annotation = c.ty_annotation-typed.ensures in
     let either2 = c.either-s4.ensures in
-    let close = c.close.ensures in
-    by_steps pre0 (λ b. s_mark if1 mark (s_by _ (runs_always es_name) (s_by _ (settled either (runs_in as_pat_tl)) (s_by _ (settled either2 (runs_in ty_annotation)) (s_close close s_end)))))
+    let close_node = c.close_node.ensures in
+    by_steps pre0 (λ b. s_mark if1 mark (s_by _ (runs_always es_name) (s_by _ (settled either (runs_in as_pat_tl)) (s_by _ (settled either2 (runs_in ty_annotation)) (s_close close_node s_end)))))

@@ -54,8 +54,8 @@ es_import-s1-requires c =
     let pre0 = c.requires.0 in
     pre0
 
-pub close-requires : goal.close-requires
-close-requires c =
+pub close_node-requires : goal.close_node-requires
+close_node-requires c =
     let pre1 = c.requires.1 in
     let es_import = c.es_import-s1.ensures in
     let es_import_ok = es_import.ok in
@@ -70,8 +70,8 @@ returns-then-k-eq-ESIMPORT_KW c =
     let if3 = c.if-k-eq-NONFIX_KW.false in
     let if4 = c.if-k-eq-ESIMPORT_KW.true in
     let es_import = c.es_import-s1.ensures in
-    let close = c.close.ensures in
-    in_steps pre0 (s_false _ _ (kind_not if1) (s_false _ _ (kind_not if2) (s_false _ _ (kind_not if3) (s_true _ _ (kind_is if4) (s_by _ (runs_in es_import) (s_close close s_end))))))
+    let close_node = c.close_node.ensures in
+    in_steps pre0 (s_false _ _ (kind_not if1) (s_false _ _ (kind_not if2) (s_false _ _ (kind_not if3) (s_true _ _ (kind_is if4) (s_by _ (runs_in es_import) (s_close close_node s_end))))))
 
 pub returns : goal.returns
 unfolding decl.fix_dec plan choose chosen

@@ -10,8 +10,8 @@ bump-s1-requires c =
     let pre0 = c.requires.0 in
     (pre0.reads, pre0.logs)
 
-pub close-requires : goal.close-requires
-close-requires c =
+pub close_node-requires : goal.close_node-requires
+close_node-requires c =
     let pre0 = c.requires.0 in
     let pre1 = c.requires.1 in
     let bump = c.bump-s1.ensures in
@@ -24,8 +24,8 @@ returns-then-k-eq-DOT_DOT_DOT c =
     let pre0 = c.requires.0 in
     let if1 = c.if-k-eq-DOT_DOT_DOT.true in
     let bump = c.bump-s1.ensures in
-    let close = c.close.ensures in
-    in_steps pre0 (s_true _ _ (kind_is if1) (s_bump bump (s_close close s_end)))
+    let close_node = c.close_node.ensures in
+    in_steps pre0 (s_true _ _ (kind_is if1) (s_bump bump (s_close close_node s_end)))
 
 pub type_kw-requires : goal.type_kw-requires
 type_kw-requires c =
@@ -43,8 +43,8 @@ ty_binds-s2-requires c =
     let bump2_ok = ok_bumps bump2 pre0 in
     bump2_ok
 
-pub close-requires-then-type_kw : goal.close-requires-then-type_kw
-close-requires-then-type_kw c =
+pub close_node-requires-then-type_kw : goal.close_node-requires-then-type_kw
+close_node-requires-then-type_kw c =
     let pre1 = c.requires.1 in
     let ty_binds = c.ty_binds-s2.ensures in
     let ty_binds_ok = ty_binds.ok in
@@ -59,8 +59,8 @@ returns-then-type_kw c =
     let if2 = c.if-type_kw.true in
     let bump2 = c.bump-s1-then-type_kw.ensures in
     let ty_binds = c.ty_binds-s2.ensures in
-    let close2 = c.close-then-type_kw.ensures in
-    in_steps pre0 (s_false _ _ (kind_not if1) (s_true _ _ (test_true type_kw if2) (s_bump bump2 (s_run ty_binds (s_close close2 s_end)))))
+    let close_node2 = c.close_node-then-type_kw.ensures in
+    in_steps pre0 (s_false _ _ (kind_not if1) (s_true _ _ (test_true type_kw if2) (s_bump bump2 (s_run ty_binds (s_close close_node2 s_end)))))
 
 pub datatype-requires : goal.datatype-requires
 datatype-requires c =
@@ -91,8 +91,8 @@ opens-s2-requires c =
     let bump3_ok = ok_bumps bump3 pre0 in
     bump3_ok
 
-pub close-requires-then-k-eq-OPEN_KW : goal.close-requires-then-k-eq-OPEN_KW
-close-requires-then-k-eq-OPEN_KW c =
+pub close_node-requires-then-k-eq-OPEN_KW : goal.close_node-requires-then-k-eq-OPEN_KW
+close_node-requires-then-k-eq-OPEN_KW c =
     let pre1 = c.requires.1 in
     let opens = c.opens-s2.ensures in
     let opens_ok = opens.ok in
@@ -109,8 +109,8 @@ returns-then-k-eq-OPEN_KW c =
     let if4 = c.if-k-eq-OPEN_KW.true in
     let bump3 = c.bump-s1-then-k-eq-OPEN_KW.ensures in
     let opens = c.opens-s2.ensures in
-    let close3 = c.close-then-k-eq-OPEN_KW.ensures in
-    in_steps pre0 (s_false _ _ (kind_not if1) (s_false _ _ (test_false type_kw if2) (s_false _ _ (kind_not if3) (s_true _ _ (kind_is if4) (s_bump bump3 (s_run opens (s_close close3 s_end)))))))
+    let close_node3 = c.close_node-then-k-eq-OPEN_KW.ensures in
+    in_steps pre0 (s_false _ _ (kind_not if1) (s_false _ _ (test_false type_kw if2) (s_false _ _ (kind_not if3) (s_true _ _ (kind_is if4) (s_bump bump3 (s_run opens (s_close close_node3 s_end)))))))
 
 pub fix_dec-requires : goal.fix_dec-requires
 fix_dec-requires c =

@@ -1,8 +1,13 @@
--- by hand: the numbers of a finding stand in what is promised.
+-- by hand: it writes the findings: an operation that programs are made of, by the laws of `Tells`.
+-- `report` meets its contract: one law for each return.
+use Rattle.parser.proofs.Laws.{tells_off, tells_full, tells_goes}
 use Rattle.parser.proofs.report.Goals as goal
 
-pub hold-requires : goal.hold-requires
-hold-requires c = (c.requires.0, c.requires.1, rw c.name.ensures c.requires.2)
+pub returns-then-is_refused : goal.returns-then-is_refused
+returns-then-is_refused c = search (tells_off, c.if-is_refused.ensures)
+
+pub returns-then-s : goal.returns-then-s
+returns-then-s c = search (tells_full, c.if-is_refused.ensures)
 
 pub returns : goal.returns
-returns c = rw (c.code.ensures, c.detail.ensures, c.name.ensures) at c.hold.ensures
+returns c = search (tells_goes, c.if-is_refused.ensures)

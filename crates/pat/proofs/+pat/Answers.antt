@@ -11,8 +11,8 @@ use mathlib.Core.Path.{refl}
 use mathlib.Core.Bool.{true}
 use Rattle.pat.proofs.+pat.Goals as goal
 
-pub arg_item-refuse-requires : goal.arg_item-refuse-requires
-arg_item-refuse-requires t c =
+pub arg_item-refuse_for-requires : goal.arg_item-refuse_for-requires
+arg_item-refuse_for-requires t c =
     tt
 
 pub arg_item-returns-then-left-eq0 : goal.arg_item-returns-then-left-eq0
@@ -25,8 +25,8 @@ arg_item-returns-then-left-eq0 t c =
     let L0 = c.args.scratch.now in
     let H0 = c.args.finds.now in
     let S0 = c.args.s in
-    let S2 = c.refuse.result in
-    by_steps {m = (mem X0 T0 N0 J0 L0 H0 S0)} {m' = (mem X0 T0 N0 J0 L0 H0 S2)} (c.requires) (λ b. s_shut (c.if-left-eq0.true) (c.refuse.ensures) (λ k l. refl))
+    let S2 = c.refuse_for.result in
+    by_steps {m = (mem X0 T0 N0 J0 L0 H0 S0)} {m' = (mem X0 T0 N0 J0 L0 H0 S2)} (c.requires) (λ b. s_shut (c.if-left-eq0.true) (c.refuse_for.ensures) (λ k l. refl))
 
 pub arg_item-mark-s1-requires : goal.arg_item-mark-s1-requires
 arg_item-mark-s1-requires t c =
@@ -51,8 +51,8 @@ arg_item-bump-s3-requires t c =
     let pat_must_ok = pat_must.ok in
     (pat_must_ok.reads, pat_must_ok.logs)
 
-pub arg_item-close-requires : goal.arg_item-close-requires
-arg_item-close-requires t c =
+pub arg_item-close_node-requires : goal.arg_item-close_node-requires
+arg_item-close_node-requires t c =
     let pre0 = c.requires in
     let mark = c.mark-s1.ensures in
     let mark_ok = ok_marks mark pre0 in
@@ -78,12 +78,12 @@ arg_item-returns-then-at t c =
     let S3 = c.pat_must-s2.result in
     let L6 = c.bump-s3.new.scratch in
     let S6 = c.bump-s3.result in
-    let L7 = c.close.new.scratch in
-    let S7 = c.close.result in
-    by_steps {m = (mem X0 T0 N0 J0 L0 H0 S0)} {m' = (mem X0 T0 N0 J0 L7 H3 S7)} (c.requires) (λ b. s_mark {e = (mem X0 T0 N0 J0 L7 H3 S7)} {x = X0} {t = T0} {n = N0} {j = J0} {l = L0} {h = H0} {s = S0} {s' = S2} (c.if-left-eq0.false) (c.mark-s1.ensures) (s_by {a = (mem X0 T0 N0 J0 L0 H0 S2)} {c = (mem X0 T0 N0 J0 L3 H3 S3)} {e = (mem X0 T0 N0 J0 L7 H3 S7)} _ (runs_in {a = (mem X0 T0 N0 J0 L0 H0 S2)} {c = (mem X0 T0 N0 J0 L3 H3 S3)} (c.pat_must-s2.ensures)) (s_kind {a = (mem X0 T0 N0 J0 L3 H3 S3)} {e = (mem X0 T0 N0 J0 L7 H3 S7)} (s_true {a = (mem X0 T0 N0 J0 L3 H3 S3)} {e = (mem X0 T0 N0 J0 L7 H3 S7)} _ _ (kind_at _ _ (mem X0 T0 N0 J0 L3 H3 S3) _ (c.at.ensures) (c.if-at.true)) (s_bump {e = (mem X0 T0 N0 J0 L7 H3 S7)} {x = X0} {t = T0} {n = N0} {j = J0} {l = L3} {h = H3} {s = S3} {s' = S6} {l' = L6} (c.bump-s3.ensures) (s_close {e = (mem X0 T0 N0 J0 L7 H3 S7)} {x = X0} {t = T0} {n = N0} {j = J0} {l = L6} {h = H3} {s = S6} {s' = S7} {l' = L7} (c.close.ensures) s_end))))))
+    let L7 = c.close_node.new.scratch in
+    let S7 = c.close_node.result in
+    by_steps {m = (mem X0 T0 N0 J0 L0 H0 S0)} {m' = (mem X0 T0 N0 J0 L7 H3 S7)} (c.requires) (λ b. s_mark {e = (mem X0 T0 N0 J0 L7 H3 S7)} {x = X0} {t = T0} {n = N0} {j = J0} {l = L0} {h = H0} {s = S0} {s' = S2} (c.if-left-eq0.false) (c.mark-s1.ensures) (s_by {a = (mem X0 T0 N0 J0 L0 H0 S2)} {c = (mem X0 T0 N0 J0 L3 H3 S3)} {e = (mem X0 T0 N0 J0 L7 H3 S7)} _ (runs_in {a = (mem X0 T0 N0 J0 L0 H0 S2)} {c = (mem X0 T0 N0 J0 L3 H3 S3)} (c.pat_must-s2.ensures)) (s_kind {a = (mem X0 T0 N0 J0 L3 H3 S3)} {e = (mem X0 T0 N0 J0 L7 H3 S7)} (s_true {a = (mem X0 T0 N0 J0 L3 H3 S3)} {e = (mem X0 T0 N0 J0 L7 H3 S7)} _ _ (kind_at _ _ (mem X0 T0 N0 J0 L3 H3 S3) _ (c.at.ensures) (c.if-at.true)) (s_bump {e = (mem X0 T0 N0 J0 L7 H3 S7)} {x = X0} {t = T0} {n = N0} {j = J0} {l = L3} {h = H3} {s = S3} {s' = S6} {l' = L6} (c.bump-s3.ensures) (s_close {e = (mem X0 T0 N0 J0 L7 H3 S7)} {x = X0} {t = T0} {n = N0} {j = J0} {l = L6} {h = H3} {s = S6} {s' = S7} {l' = L7} (c.close_node.ensures) s_end))))))
 
-pub arg_item-close-requires-2 : goal.arg_item-close-requires-2
-arg_item-close-requires-2 t c =
+pub arg_item-close_node-requires-2 : goal.arg_item-close_node-requires-2
+arg_item-close_node-requires-2 t c =
     let pre0 = c.requires in
     let mark = c.mark-s1.ensures in
     let mark_ok = ok_marks mark pre0 in
@@ -105,9 +105,9 @@ arg_item-returns t c =
     let L3 = c.pat_must-s2.new.scratch in
     let H3 = c.pat_must-s2.new.finds in
     let S3 = c.pat_must-s2.result in
-    let L6 = c.close-2.new.scratch in
-    let S6 = c.close-2.result in
-    by_steps {m = (mem X0 T0 N0 J0 L0 H0 S0)} {m' = (mem X0 T0 N0 J0 L6 H3 S6)} (c.requires) (λ b. s_mark {e = (mem X0 T0 N0 J0 L6 H3 S6)} {x = X0} {t = T0} {n = N0} {j = J0} {l = L0} {h = H0} {s = S0} {s' = S2} (c.if-left-eq0.false) (c.mark-s1.ensures) (s_by {a = (mem X0 T0 N0 J0 L0 H0 S2)} {c = (mem X0 T0 N0 J0 L3 H3 S3)} {e = (mem X0 T0 N0 J0 L6 H3 S6)} _ (runs_in {a = (mem X0 T0 N0 J0 L0 H0 S2)} {c = (mem X0 T0 N0 J0 L3 H3 S3)} (c.pat_must-s2.ensures)) (s_kind {a = (mem X0 T0 N0 J0 L3 H3 S3)} {e = (mem X0 T0 N0 J0 L6 H3 S6)} (s_false {a = (mem X0 T0 N0 J0 L3 H3 S3)} {e = (mem X0 T0 N0 J0 L6 H3 S6)} _ _ (kind_off _ _ (mem X0 T0 N0 J0 L3 H3 S3) _ (c.at.ensures) (c.if-at.false)) (s_close {e = (mem X0 T0 N0 J0 L6 H3 S6)} {x = X0} {t = T0} {n = N0} {j = J0} {l = L3} {h = H3} {s = S3} {s' = S6} {l' = L6} (c.close-2.ensures) s_end)))))
+    let L6 = c.close_node-2.new.scratch in
+    let S6 = c.close_node-2.result in
+    by_steps {m = (mem X0 T0 N0 J0 L0 H0 S0)} {m' = (mem X0 T0 N0 J0 L6 H3 S6)} (c.requires) (λ b. s_mark {e = (mem X0 T0 N0 J0 L6 H3 S6)} {x = X0} {t = T0} {n = N0} {j = J0} {l = L0} {h = H0} {s = S0} {s' = S2} (c.if-left-eq0.false) (c.mark-s1.ensures) (s_by {a = (mem X0 T0 N0 J0 L0 H0 S2)} {c = (mem X0 T0 N0 J0 L3 H3 S3)} {e = (mem X0 T0 N0 J0 L6 H3 S6)} _ (runs_in {a = (mem X0 T0 N0 J0 L0 H0 S2)} {c = (mem X0 T0 N0 J0 L3 H3 S3)} (c.pat_must-s2.ensures)) (s_kind {a = (mem X0 T0 N0 J0 L3 H3 S3)} {e = (mem X0 T0 N0 J0 L6 H3 S6)} (s_false {a = (mem X0 T0 N0 J0 L3 H3 S3)} {e = (mem X0 T0 N0 J0 L6 H3 S6)} _ _ (kind_off _ _ (mem X0 T0 N0 J0 L3 H3 S3) _ (c.at.ensures) (c.if-at.false)) (s_close {e = (mem X0 T0 N0 J0 L6 H3 S6)} {x = X0} {t = T0} {n = N0} {j = J0} {l = L3} {h = H3} {s = S3} {s' = S6} {l' = L6} (c.close_node-2.ensures) s_end)))))
 
 pub arg_turn-at-requires : goal.arg_turn-at-requires
 arg_turn-at-requires t c =
@@ -214,8 +214,8 @@ as_pat_tl-at-requires t c =
     let pre0 = c.requires in
     pre0.reads
 
-pub as_pat_tl-refuse-requires : goal.as_pat_tl-refuse-requires
-as_pat_tl-refuse-requires t c =
+pub as_pat_tl-refuse_for-requires : goal.as_pat_tl-refuse_for-requires
+as_pat_tl-refuse_for-requires t c =
     tt
 
 pub as_pat_tl-returns-then-left-eq0 : goal.as_pat_tl-returns-then-left-eq0
@@ -228,8 +228,8 @@ as_pat_tl-returns-then-left-eq0 t c =
     let L0 = c.args.scratch.now in
     let H0 = c.args.finds.now in
     let S0 = c.args.s in
-    let S4 = c.refuse.result in
-    by_steps {m = (mem X0 T0 N0 J0 L0 H0 S0)} {m' = (mem X0 T0 N0 J0 L0 H0 S4)} (c.requires) (λ b. s_kind {a = (mem X0 T0 N0 J0 L0 H0 S0)} {e = (mem X0 T0 N0 J0 L0 H0 S4)} (s_true {a = (mem X0 T0 N0 J0 L0 H0 S0)} {e = (mem X0 T0 N0 J0 L0 H0 S4)} _ _ (kind_at _ _ (mem X0 T0 N0 J0 L0 H0 S0) _ (c.at.ensures) (c.if-at.true)) (s_shut (c.if-left-eq0.true) (c.refuse.ensures) (λ k l. refl))))
+    let S4 = c.refuse_for.result in
+    by_steps {m = (mem X0 T0 N0 J0 L0 H0 S0)} {m' = (mem X0 T0 N0 J0 L0 H0 S4)} (c.requires) (λ b. s_kind {a = (mem X0 T0 N0 J0 L0 H0 S0)} {e = (mem X0 T0 N0 J0 L0 H0 S4)} (s_true {a = (mem X0 T0 N0 J0 L0 H0 S0)} {e = (mem X0 T0 N0 J0 L0 H0 S4)} _ _ (kind_at _ _ (mem X0 T0 N0 J0 L0 H0 S0) _ (c.at.ensures) (c.if-at.true)) (s_shut (c.if-left-eq0.true) (c.refuse_for.ensures) (λ k l. refl))))
 
 pub as_pat_tl-mark-s1-requires : goal.as_pat_tl-mark-s1-requires
 as_pat_tl-mark-s1-requires t c =
@@ -251,8 +251,8 @@ as_pat_tl-pat_must-s3-requires t c =
     let bump_ok = ok_bumps bump mark_ok in
     (omega arith, bump_ok)
 
-pub as_pat_tl-close-requires : goal.as_pat_tl-close-requires
-as_pat_tl-close-requires t c =
+pub as_pat_tl-close_node-requires : goal.as_pat_tl-close_node-requires
+as_pat_tl-close_node-requires t c =
     let pre0 = c.requires in
     let mark = c.mark-s1.ensures in
     let mark_ok = ok_marks mark pre0 in
@@ -276,9 +276,9 @@ as_pat_tl-returns-then-at t c =
     let L6 = c.pat_must-s3.new.scratch in
     let H6 = c.pat_must-s3.new.finds in
     let S6 = c.pat_must-s3.result in
-    let L7 = c.close.new.scratch in
-    let S7 = c.close.result in
-    by_steps {m = (mem X0 T0 N0 J0 L0 H0 S0)} {m' = (mem X0 T0 N0 J0 L7 H6 S7)} (c.requires) (λ b. s_kind {a = (mem X0 T0 N0 J0 L0 H0 S0)} {e = (mem X0 T0 N0 J0 L7 H6 S7)} (s_true {a = (mem X0 T0 N0 J0 L0 H0 S0)} {e = (mem X0 T0 N0 J0 L7 H6 S7)} _ _ (kind_at _ _ (mem X0 T0 N0 J0 L0 H0 S0) _ (c.at.ensures) (c.if-at.true)) (s_mark {e = (mem X0 T0 N0 J0 L7 H6 S7)} {x = X0} {t = T0} {n = N0} {j = J0} {l = L0} {h = H0} {s = S0} {s' = S4} (c.if-left-eq0.false) (c.mark-s1.ensures) (s_bump {e = (mem X0 T0 N0 J0 L7 H6 S7)} {x = X0} {t = T0} {n = N0} {j = J0} {l = L0} {h = H0} {s = S4} {s' = S5} {l' = L5} (c.bump-s2.ensures) (s_by {a = (mem X0 T0 N0 J0 L5 H0 S5)} {c = (mem X0 T0 N0 J0 L6 H6 S6)} {e = (mem X0 T0 N0 J0 L7 H6 S7)} _ (runs_in {a = (mem X0 T0 N0 J0 L5 H0 S5)} {c = (mem X0 T0 N0 J0 L6 H6 S6)} (c.pat_must-s3.ensures)) (s_close {e = (mem X0 T0 N0 J0 L7 H6 S7)} {x = X0} {t = T0} {n = N0} {j = J0} {l = L6} {h = H6} {s = S6} {s' = S7} {l' = L7} (c.close.ensures) s_end))))))
+    let L7 = c.close_node.new.scratch in
+    let S7 = c.close_node.result in
+    by_steps {m = (mem X0 T0 N0 J0 L0 H0 S0)} {m' = (mem X0 T0 N0 J0 L7 H6 S7)} (c.requires) (λ b. s_kind {a = (mem X0 T0 N0 J0 L0 H0 S0)} {e = (mem X0 T0 N0 J0 L7 H6 S7)} (s_true {a = (mem X0 T0 N0 J0 L0 H0 S0)} {e = (mem X0 T0 N0 J0 L7 H6 S7)} _ _ (kind_at _ _ (mem X0 T0 N0 J0 L0 H0 S0) _ (c.at.ensures) (c.if-at.true)) (s_mark {e = (mem X0 T0 N0 J0 L7 H6 S7)} {x = X0} {t = T0} {n = N0} {j = J0} {l = L0} {h = H0} {s = S0} {s' = S4} (c.if-left-eq0.false) (c.mark-s1.ensures) (s_bump {e = (mem X0 T0 N0 J0 L7 H6 S7)} {x = X0} {t = T0} {n = N0} {j = J0} {l = L0} {h = H0} {s = S4} {s' = S5} {l' = L5} (c.bump-s2.ensures) (s_by {a = (mem X0 T0 N0 J0 L5 H0 S5)} {c = (mem X0 T0 N0 J0 L6 H6 S6)} {e = (mem X0 T0 N0 J0 L7 H6 S7)} _ (runs_in {a = (mem X0 T0 N0 J0 L5 H0 S5)} {c = (mem X0 T0 N0 J0 L6 H6 S6)} (c.pat_must-s3.ensures)) (s_close {e = (mem X0 T0 N0 J0 L7 H6 S7)} {x = X0} {t = T0} {n = N0} {j = J0} {l = L6} {h = H6} {s = S6} {s' = S7} {l' = L7} (c.close_node.ensures) s_end))))))
 
 pub as_pat_tl-returns : goal.as_pat_tl-returns
 unfolding pat.as_pat_tl plan choose chosen
@@ -308,8 +308,8 @@ as_step-returns-then-is_infix t c =
     let S0 = c.args.s in
     in_steps {m = (mem X0 T0 N0 J0 L0 H0 S0)} {m' = (mem X0 T0 N0 J0 L0 H0 S0)} (c.requires.0) (s_true {a = (mem X0 T0 N0 J0 L0 H0 S0)} {e = (mem X0 T0 N0 J0 L0 H0 S0)} _ _ (test_true (c.is_infix.ensures) (c.if-is_infix.true)) s_end)
 
-pub as_step-refuse-requires : goal.as_step-refuse-requires
-as_step-refuse-requires t c =
+pub as_step-refuse_for-requires : goal.as_step-refuse_for-requires
+as_step-refuse_for-requires t c =
     tt
 
 pub as_step-returns-then-left-eq0 : goal.as_step-returns-then-left-eq0
@@ -322,8 +322,8 @@ as_step-returns-then-left-eq0 t c =
     let L0 = c.args.scratch.now in
     let H0 = c.args.finds.now in
     let S0 = c.args.s in
-    let S4 = c.refuse.result in
-    in_steps {m = (mem X0 T0 N0 J0 L0 H0 S0)} {m' = (mem X0 T0 N0 J0 L0 H0 S4)} (c.requires.0) (s_false {a = (mem X0 T0 N0 J0 L0 H0 S0)} {e = (mem X0 T0 N0 J0 L0 H0 S4)} _ _ (test_false (c.is_infix.ensures) (c.if-is_infix.false)) (s_shut (c.if-left-eq0.true) (c.refuse.ensures) (λ k l. refl)))
+    let S4 = c.refuse_for.result in
+    in_steps {m = (mem X0 T0 N0 J0 L0 H0 S0)} {m' = (mem X0 T0 N0 J0 L0 H0 S4)} (c.requires.0) (s_false {a = (mem X0 T0 N0 J0 L0 H0 S0)} {e = (mem X0 T0 N0 J0 L0 H0 S4)} _ _ (test_false (c.is_infix.ensures) (c.if-is_infix.false)) (s_shut (c.if-left-eq0.true) (c.refuse_for.ensures) (λ k l. refl)))
 
 pub as_step-mark-s1-requires : goal.as_step-mark-s1-requires
 as_step-mark-s1-requires t c =
@@ -336,27 +336,27 @@ as_step-as_pat_tl-got-requires t c =
     let mark_ok = ok_marks mark pre0 in
     (omega arith, mark_ok)
 
-pub as_step-close-requires : goal.as_step-close-requires
-as_step-close-requires t c =
+pub as_step-close_node-requires : goal.as_step-close_node-requires
+as_step-close_node-requires t c =
     let pre1 = c.requires.1 in
     let as_pat_tl = c.in-Ok.ensures in
     let as_pat_tl_ok = as_pat_tl.ok in
     (as_pat_tl_ok.logs, pre1)
 
-pub as_step-report-s3-requires : goal.as_step-report-s3-requires
-as_step-report-s3-requires t c =
+pub as_step-report_error-s3-requires : goal.as_step-report_error-s3-requires
+as_step-report_error-s3-requires t c =
     let as_pat_tl = c.in-Err.ensures in
     let as_pat_tl_ok = as_pat_tl.ok in
     (as_pat_tl_ok.holds, (let few = as_pat_tl_ok.reads.few in let inside = as_pat_tl_ok.reads.inside in omega arith), omega arith)
 
-pub as_step-close-requires-in-Err : goal.as_step-close-requires-in-Err
-as_step-close-requires-in-Err t c =
+pub as_step-close_node-requires-in-Err : goal.as_step-close_node-requires-in-Err
+as_step-close_node-requires-in-Err t c =
     let pre1 = c.requires.1 in
     let as_pat_tl = c.in-Err.ensures in
     let as_pat_tl_ok = as_pat_tl.ok in
-    let report = c.report-s3.ensures in
-    let report_ok = ok_tells report as_pat_tl_ok in
-    (report_ok.logs, pre1)
+    let report_error = c.report_error-s3.ensures in
+    let report_error_ok = ok_tells report_error as_pat_tl_ok in
+    (report_error_ok.logs, pre1)
 
 pub as_step-returns-in-Ok : goal.as_step-returns-in-Ok
 unfolding pat.as_step plan choose chosen
@@ -372,9 +372,9 @@ as_step-returns-in-Ok t c =
     let L5 = c.as_pat_tl-got.new.scratch in
     let H5 = c.as_pat_tl-got.new.finds in
     let S5 = c.in-Ok.s2 in
-    let L6 = c.close.new.scratch in
-    let S6 = c.close.result in
-    in_steps {m = (mem X0 T0 N0 J0 L0 H0 S0)} {m' = (mem X0 T0 N0 J0 L6 H5 S6)} (c.requires.0) (s_false {a = (mem X0 T0 N0 J0 L0 H0 S0)} {e = (mem X0 T0 N0 J0 L6 H5 S6)} _ _ (test_false (c.is_infix.ensures) (c.if-is_infix.false)) (s_mark {e = (mem X0 T0 N0 J0 L6 H5 S6)} {x = X0} {t = T0} {n = N0} {j = J0} {l = L0} {h = H0} {s = S0} {s' = S4} (c.if-left-eq0.false) (c.mark-s1.ensures) (s_by {a = (mem X0 T0 N0 J0 L0 H0 S4)} {c = (mem X0 T0 N0 J0 L5 H5 S5)} {e = (mem X0 T0 N0 J0 L6 H5 S6)} _ (runs_in {a = (mem X0 T0 N0 J0 L0 H0 S4)} {c = (mem X0 T0 N0 J0 L5 H5 S5)} (c.in-Ok.ensures)) (s_close {e = (mem X0 T0 N0 J0 L6 H5 S6)} {x = X0} {t = T0} {n = N0} {j = J0} {l = L5} {h = H5} {s = S5} {s' = S6} {l' = L6} (c.close.ensures) s_end))))
+    let L6 = c.close_node.new.scratch in
+    let S6 = c.close_node.result in
+    in_steps {m = (mem X0 T0 N0 J0 L0 H0 S0)} {m' = (mem X0 T0 N0 J0 L6 H5 S6)} (c.requires.0) (s_false {a = (mem X0 T0 N0 J0 L0 H0 S0)} {e = (mem X0 T0 N0 J0 L6 H5 S6)} _ _ (test_false (c.is_infix.ensures) (c.if-is_infix.false)) (s_mark {e = (mem X0 T0 N0 J0 L6 H5 S6)} {x = X0} {t = T0} {n = N0} {j = J0} {l = L0} {h = H0} {s = S0} {s' = S4} (c.if-left-eq0.false) (c.mark-s1.ensures) (s_by {a = (mem X0 T0 N0 J0 L0 H0 S4)} {c = (mem X0 T0 N0 J0 L5 H5 S5)} {e = (mem X0 T0 N0 J0 L6 H5 S6)} _ (runs_in {a = (mem X0 T0 N0 J0 L0 H0 S4)} {c = (mem X0 T0 N0 J0 L5 H5 S5)} (c.in-Ok.ensures)) (s_close {e = (mem X0 T0 N0 J0 L6 H5 S6)} {x = X0} {t = T0} {n = N0} {j = J0} {l = L5} {h = H5} {s = S5} {s' = S6} {l' = L6} (c.close_node.ensures) s_end))))
 
 pub as_step-returns-in-Err : goal.as_step-returns-in-Err
 unfolding pat.as_step plan choose chosen
@@ -390,11 +390,11 @@ as_step-returns-in-Err t c =
     let L5 = c.as_pat_tl-got.new.scratch in
     let H5 = c.as_pat_tl-got.new.finds in
     let S5 = c.in-Err.s2 in
-    let H6 = c.report-s3.new.finds in
-    let S6 = c.report-s3.result in
-    let L7 = c.close-in-Err.new.scratch in
-    let S7 = c.close-in-Err.result in
-    in_steps {m = (mem X0 T0 N0 J0 L0 H0 S0)} {m' = (mem X0 T0 N0 J0 L7 H6 S7)} (c.requires.0) (s_false {a = (mem X0 T0 N0 J0 L0 H0 S0)} {e = (mem X0 T0 N0 J0 L7 H6 S7)} _ _ (test_false (c.is_infix.ensures) (c.if-is_infix.false)) (s_mark {e = (mem X0 T0 N0 J0 L7 H6 S7)} {x = X0} {t = T0} {n = N0} {j = J0} {l = L0} {h = H0} {s = S0} {s' = S4} (c.if-left-eq0.false) (c.mark-s1.ensures) (s_by {a = (mem X0 T0 N0 J0 L0 H0 S4)} {c = (mem X0 T0 N0 J0 L5 H5 S5)} {e = (mem X0 T0 N0 J0 L7 H6 S7)} _ (runs_in {a = (mem X0 T0 N0 J0 L0 H0 S4)} {c = (mem X0 T0 N0 J0 L5 H5 S5)} (c.in-Err.ensures)) (s_report {e = (mem X0 T0 N0 J0 L7 H6 S7)} {x = X0} {t = T0} {n = N0} {j = J0} {l = L5} {h = H5} {s = S5} {s' = S6} {h' = H6} (c.report-s3.ensures) (s_close {e = (mem X0 T0 N0 J0 L7 H6 S7)} {x = X0} {t = T0} {n = N0} {j = J0} {l = L5} {h = H6} {s = S6} {s' = S7} {l' = L7} (c.close-in-Err.ensures) s_end)))))
+    let H6 = c.report_error-s3.new.finds in
+    let S6 = c.report_error-s3.result in
+    let L7 = c.close_node-in-Err.new.scratch in
+    let S7 = c.close_node-in-Err.result in
+    in_steps {m = (mem X0 T0 N0 J0 L0 H0 S0)} {m' = (mem X0 T0 N0 J0 L7 H6 S7)} (c.requires.0) (s_false {a = (mem X0 T0 N0 J0 L0 H0 S0)} {e = (mem X0 T0 N0 J0 L7 H6 S7)} _ _ (test_false (c.is_infix.ensures) (c.if-is_infix.false)) (s_mark {e = (mem X0 T0 N0 J0 L7 H6 S7)} {x = X0} {t = T0} {n = N0} {j = J0} {l = L0} {h = H0} {s = S0} {s' = S4} (c.if-left-eq0.false) (c.mark-s1.ensures) (s_by {a = (mem X0 T0 N0 J0 L0 H0 S4)} {c = (mem X0 T0 N0 J0 L5 H5 S5)} {e = (mem X0 T0 N0 J0 L7 H6 S7)} _ (runs_in {a = (mem X0 T0 N0 J0 L0 H0 S4)} {c = (mem X0 T0 N0 J0 L5 H5 S5)} (c.in-Err.ensures)) (s_report {e = (mem X0 T0 N0 J0 L7 H6 S7)} {x = X0} {t = T0} {n = N0} {j = J0} {l = L5} {h = H5} {s = S5} {s' = S6} {h' = H6} (c.report_error-s3.ensures) (s_close {e = (mem X0 T0 N0 J0 L7 H6 S7)} {x = X0} {t = T0} {n = N0} {j = J0} {l = L5} {h = H6} {s = S6} {s' = S7} {l' = L7} (c.close_node-in-Err.ensures) s_end)))))
 
 pub at_head-s_con-requires : goal.at_head-s_con-requires
 at_head-s_con-requires t c =
@@ -405,8 +405,8 @@ at_head-bump-s1-requires t c =
     let pre0 = c.requires.0 in
     (pre0.reads, pre0.logs)
 
-pub at_head-close-requires : goal.at_head-close-requires
-at_head-close-requires t c =
+pub at_head-close_node-requires : goal.at_head-close_node-requires
+at_head-close_node-requires t c =
     let pre0 = c.requires.0 in
     let pre1 = c.requires.1 in
     let bump = c.bump-s1.ensures in
@@ -425,17 +425,17 @@ at_head-returns-then-s_con t c =
     let S0 = c.args.s in
     let L3 = c.bump-s1.new.scratch in
     let S3 = c.bump-s1.result in
-    let L4 = c.close.new.scratch in
-    let S4 = c.close.result in
-    in_steps {m = (mem X0 T0 N0 J0 L0 H0 S0)} {m' = (mem X0 T0 N0 J0 L4 H0 S4)} (c.requires.0) (s_true {a = (mem X0 T0 N0 J0 L0 H0 S0)} {e = (mem X0 T0 N0 J0 L4 H0 S4)} _ _ (test_true (c.s_con.ensures) (c.if-s_con.true)) (s_bump {e = (mem X0 T0 N0 J0 L4 H0 S4)} {x = X0} {t = T0} {n = N0} {j = J0} {l = L0} {h = H0} {s = S0} {s' = S3} {l' = L3} (c.bump-s1.ensures) (s_close {e = (mem X0 T0 N0 J0 L4 H0 S4)} {x = X0} {t = T0} {n = N0} {j = J0} {l = L3} {h = H0} {s = S3} {s' = S4} {l' = L4} (c.close.ensures) s_end)))
+    let L4 = c.close_node.new.scratch in
+    let S4 = c.close_node.result in
+    in_steps {m = (mem X0 T0 N0 J0 L0 H0 S0)} {m' = (mem X0 T0 N0 J0 L4 H0 S4)} (c.requires.0) (s_true {a = (mem X0 T0 N0 J0 L0 H0 S0)} {e = (mem X0 T0 N0 J0 L4 H0 S4)} _ _ (test_true (c.s_con.ensures) (c.if-s_con.true)) (s_bump {e = (mem X0 T0 N0 J0 L4 H0 S4)} {x = X0} {t = T0} {n = N0} {j = J0} {l = L0} {h = H0} {s = S0} {s' = S3} {l' = L3} (c.bump-s1.ensures) (s_close {e = (mem X0 T0 N0 J0 L4 H0 S4)} {x = X0} {t = T0} {n = N0} {j = J0} {l = L3} {h = H0} {s = S3} {s' = S4} {l' = L4} (c.close_node.ensures) s_end)))
 
 pub at_head-bump-s1-requires-then-k-eq-UNDERSCORE : goal.at_head-bump-s1-requires-then-k-eq-UNDERSCORE
 at_head-bump-s1-requires-then-k-eq-UNDERSCORE t c =
     let pre0 = c.requires.0 in
     (pre0.reads, pre0.logs)
 
-pub at_head-close-requires-then-k-eq-UNDERSCORE : goal.at_head-close-requires-then-k-eq-UNDERSCORE
-at_head-close-requires-then-k-eq-UNDERSCORE t c =
+pub at_head-close_node-requires-then-k-eq-UNDERSCORE : goal.at_head-close_node-requires-then-k-eq-UNDERSCORE
+at_head-close_node-requires-then-k-eq-UNDERSCORE t c =
     let pre0 = c.requires.0 in
     let pre1 = c.requires.1 in
     let bump2 = c.bump-s1-then-k-eq-UNDERSCORE.ensures in
@@ -454,9 +454,9 @@ at_head-returns-then-k-eq-UNDERSCORE t c =
     let S0 = c.args.s in
     let L4 = c.bump-s1-then-k-eq-UNDERSCORE.new.scratch in
     let S4 = c.bump-s1-then-k-eq-UNDERSCORE.result in
-    let L5 = c.close-then-k-eq-UNDERSCORE.new.scratch in
-    let S5 = c.close-then-k-eq-UNDERSCORE.result in
-    in_steps {m = (mem X0 T0 N0 J0 L0 H0 S0)} {m' = (mem X0 T0 N0 J0 L5 H0 S5)} (c.requires.0) (s_false {a = (mem X0 T0 N0 J0 L0 H0 S0)} {e = (mem X0 T0 N0 J0 L5 H0 S5)} _ _ (test_false (c.s_con.ensures) (c.if-s_con.false)) (s_true {a = (mem X0 T0 N0 J0 L0 H0 S0)} {e = (mem X0 T0 N0 J0 L5 H0 S5)} _ _ (kind_is (c.if-k-eq-UNDERSCORE.true)) (s_bump {e = (mem X0 T0 N0 J0 L5 H0 S5)} {x = X0} {t = T0} {n = N0} {j = J0} {l = L0} {h = H0} {s = S0} {s' = S4} {l' = L4} (c.bump-s1-then-k-eq-UNDERSCORE.ensures) (s_close {e = (mem X0 T0 N0 J0 L5 H0 S5)} {x = X0} {t = T0} {n = N0} {j = J0} {l = L4} {h = H0} {s = S4} {s' = S5} {l' = L5} (c.close-then-k-eq-UNDERSCORE.ensures) s_end))))
+    let L5 = c.close_node-then-k-eq-UNDERSCORE.new.scratch in
+    let S5 = c.close_node-then-k-eq-UNDERSCORE.result in
+    in_steps {m = (mem X0 T0 N0 J0 L0 H0 S0)} {m' = (mem X0 T0 N0 J0 L5 H0 S5)} (c.requires.0) (s_false {a = (mem X0 T0 N0 J0 L0 H0 S0)} {e = (mem X0 T0 N0 J0 L5 H0 S5)} _ _ (test_false (c.s_con.ensures) (c.if-s_con.false)) (s_true {a = (mem X0 T0 N0 J0 L0 H0 S0)} {e = (mem X0 T0 N0 J0 L5 H0 S5)} _ _ (kind_is (c.if-k-eq-UNDERSCORE.true)) (s_bump {e = (mem X0 T0 N0 J0 L5 H0 S5)} {x = X0} {t = T0} {n = N0} {j = J0} {l = L0} {h = H0} {s = S0} {s' = S4} {l' = L4} (c.bump-s1-then-k-eq-UNDERSCORE.ensures) (s_close {e = (mem X0 T0 N0 J0 L5 H0 S5)} {x = X0} {t = T0} {n = N0} {j = J0} {l = L4} {h = H0} {s = S4} {s' = S5} {l' = L5} (c.close_node-then-k-eq-UNDERSCORE.ensures) s_end))))
 
 pub at_head-path_infix-got-requires : goal.at_head-path_infix-got-requires
 at_head-path_infix-got-requires t c =
@@ -467,8 +467,8 @@ pub at_head-either-s1-requires : goal.at_head-either-s1-requires
 at_head-either-s1-requires t c =
     tt
 
-pub at_head-close-requires-then-k-eq-OP_KW : goal.at_head-close-requires-then-k-eq-OP_KW
-at_head-close-requires-then-k-eq-OP_KW t c =
+pub at_head-close_node-requires-then-k-eq-OP_KW : goal.at_head-close_node-requires-then-k-eq-OP_KW
+at_head-close_node-requires-then-k-eq-OP_KW t c =
     let pre1 = c.requires.1 in
     let path_infix = c.path_infix-got.ensures in
     let path_infix_ok = path_infix.ok in
@@ -490,9 +490,9 @@ at_head-returns-then-k-eq-OP_KW t c =
     let H5 = c.path_infix-got.new.finds in
     let S5 = out_state c.path_infix-got.result in
     let S6 = c.either-s1.result in
-    let L7 = c.close-then-k-eq-OP_KW.new.scratch in
-    let S7 = c.close-then-k-eq-OP_KW.result in
-    in_steps {m = (mem X0 T0 N0 J0 L0 H0 S0)} {m' = (mem X0 T0 N0 J0 L7 H5 S7)} (c.requires.0) (s_false {a = (mem X0 T0 N0 J0 L0 H0 S0)} {e = (mem X0 T0 N0 J0 L7 H5 S7)} _ _ (test_false (c.s_con.ensures) (c.if-s_con.false)) (s_false {a = (mem X0 T0 N0 J0 L0 H0 S0)} {e = (mem X0 T0 N0 J0 L7 H5 S7)} _ _ (kind_not (c.if-k-eq-UNDERSCORE.false)) (s_true {a = (mem X0 T0 N0 J0 L0 H0 S0)} {e = (mem X0 T0 N0 J0 L7 H5 S7)} _ _ (kind_is (c.if-k-eq-OP_KW.true)) (s_by {a = (mem X0 T0 N0 J0 L0 H0 S0)} {c = (mem X0 T0 N0 J0 L5 H5 S6)} {e = (mem X0 T0 N0 J0 L7 H5 S7)} _ (settled (c.either-s1.ensures) (runs_in {a = (mem X0 T0 N0 J0 L0 H0 S0)} {c = (mem X0 T0 N0 J0 L5 H5 S5)} (c.path_infix-got.ensures))) (s_close {e = (mem X0 T0 N0 J0 L7 H5 S7)} {x = X0} {t = T0} {n = N0} {j = J0} {l = L5} {h = H5} {s = S6} {s' = S7} {l' = L7} (c.close-then-k-eq-OP_KW.ensures) s_end)))))
+    let L7 = c.close_node-then-k-eq-OP_KW.new.scratch in
+    let S7 = c.close_node-then-k-eq-OP_KW.result in
+    in_steps {m = (mem X0 T0 N0 J0 L0 H0 S0)} {m' = (mem X0 T0 N0 J0 L7 H5 S7)} (c.requires.0) (s_false {a = (mem X0 T0 N0 J0 L0 H0 S0)} {e = (mem X0 T0 N0 J0 L7 H5 S7)} _ _ (test_false (c.s_con.ensures) (c.if-s_con.false)) (s_false {a = (mem X0 T0 N0 J0 L0 H0 S0)} {e = (mem X0 T0 N0 J0 L7 H5 S7)} _ _ (kind_not (c.if-k-eq-UNDERSCORE.false)) (s_true {a = (mem X0 T0 N0 J0 L0 H0 S0)} {e = (mem X0 T0 N0 J0 L7 H5 S7)} _ _ (kind_is (c.if-k-eq-OP_KW.true)) (s_by {a = (mem X0 T0 N0 J0 L0 H0 S0)} {c = (mem X0 T0 N0 J0 L5 H5 S6)} {e = (mem X0 T0 N0 J0 L7 H5 S7)} _ (settled (c.either-s1.ensures) (runs_in {a = (mem X0 T0 N0 J0 L0 H0 S0)} {c = (mem X0 T0 N0 J0 L5 H5 S5)} (c.path_infix-got.ensures))) (s_close {e = (mem X0 T0 N0 J0 L7 H5 S7)} {x = X0} {t = T0} {n = N0} {j = J0} {l = L5} {h = H5} {s = S6} {s' = S7} {l' = L7} (c.close_node-then-k-eq-OP_KW.ensures) s_end)))))
 
 pub at_head-name_star-requires : goal.at_head-name_star-requires
 at_head-name_star-requires t c =
@@ -507,8 +507,8 @@ pub at_head-either-s1-requires-then-name_star : goal.at_head-either-s1-requires-
 at_head-either-s1-requires-then-name_star t c =
     tt
 
-pub at_head-close-requires-then-name_star : goal.at_head-close-requires-then-name_star
-at_head-close-requires-then-name_star t c =
+pub at_head-close_node-requires-then-name_star : goal.at_head-close_node-requires-then-name_star
+at_head-close_node-requires-then-name_star t c =
     let pre1 = c.requires.1 in
     let con_path = c.con_path-got.ensures in
     let con_path_ok = con_path.ok in
@@ -530,9 +530,9 @@ at_head-returns-then-name_star t c =
     let H7 = c.con_path-got.new.finds in
     let S7 = out_state c.con_path-got.result in
     let S8 = c.either-s1-then-name_star.result in
-    let L9 = c.close-then-name_star.new.scratch in
-    let S9 = c.close-then-name_star.result in
-    in_steps {m = (mem X0 T0 N0 J0 L0 H0 S0)} {m' = (mem X0 T0 N0 J0 L9 H7 S9)} (c.requires.0) (s_false {a = (mem X0 T0 N0 J0 L0 H0 S0)} {e = (mem X0 T0 N0 J0 L9 H7 S9)} _ _ (test_false (c.s_con.ensures) (c.if-s_con.false)) (s_false {a = (mem X0 T0 N0 J0 L0 H0 S0)} {e = (mem X0 T0 N0 J0 L9 H7 S9)} _ _ (kind_not (c.if-k-eq-UNDERSCORE.false)) (s_false {a = (mem X0 T0 N0 J0 L0 H0 S0)} {e = (mem X0 T0 N0 J0 L9 H7 S9)} _ _ (kind_not (c.if-k-eq-OP_KW.false)) (s_true {a = (mem X0 T0 N0 J0 L0 H0 S0)} {e = (mem X0 T0 N0 J0 L9 H7 S9)} _ _ (test_true (c.name_star.ensures) (c.if-name_star.true)) (s_by {a = (mem X0 T0 N0 J0 L0 H0 S0)} {c = (mem X0 T0 N0 J0 L7 H7 S8)} {e = (mem X0 T0 N0 J0 L9 H7 S9)} _ (settled (c.either-s1-then-name_star.ensures) (runs_in {a = (mem X0 T0 N0 J0 L0 H0 S0)} {c = (mem X0 T0 N0 J0 L7 H7 S7)} (c.con_path-got.ensures))) (s_close {e = (mem X0 T0 N0 J0 L9 H7 S9)} {x = X0} {t = T0} {n = N0} {j = J0} {l = L7} {h = H7} {s = S8} {s' = S9} {l' = L9} (c.close-then-name_star.ensures) s_end))))))
+    let L9 = c.close_node-then-name_star.new.scratch in
+    let S9 = c.close_node-then-name_star.result in
+    in_steps {m = (mem X0 T0 N0 J0 L0 H0 S0)} {m' = (mem X0 T0 N0 J0 L9 H7 S9)} (c.requires.0) (s_false {a = (mem X0 T0 N0 J0 L0 H0 S0)} {e = (mem X0 T0 N0 J0 L9 H7 S9)} _ _ (test_false (c.s_con.ensures) (c.if-s_con.false)) (s_false {a = (mem X0 T0 N0 J0 L0 H0 S0)} {e = (mem X0 T0 N0 J0 L9 H7 S9)} _ _ (kind_not (c.if-k-eq-UNDERSCORE.false)) (s_false {a = (mem X0 T0 N0 J0 L0 H0 S0)} {e = (mem X0 T0 N0 J0 L9 H7 S9)} _ _ (kind_not (c.if-k-eq-OP_KW.false)) (s_true {a = (mem X0 T0 N0 J0 L0 H0 S0)} {e = (mem X0 T0 N0 J0 L9 H7 S9)} _ _ (test_true (c.name_star.ensures) (c.if-name_star.true)) (s_by {a = (mem X0 T0 N0 J0 L0 H0 S0)} {c = (mem X0 T0 N0 J0 L7 H7 S8)} {e = (mem X0 T0 N0 J0 L9 H7 S9)} _ (settled (c.either-s1-then-name_star.ensures) (runs_in {a = (mem X0 T0 N0 J0 L0 H0 S0)} {c = (mem X0 T0 N0 J0 L7 H7 S7)} (c.con_path-got.ensures))) (s_close {e = (mem X0 T0 N0 J0 L9 H7 S9)} {x = X0} {t = T0} {n = N0} {j = J0} {l = L7} {h = H7} {s = S8} {s' = S9} {l' = L9} (c.close_node-then-name_star.ensures) s_end))))))
 
 pub at_head-rest-requires : goal.at_head-rest-requires
 at_head-rest-requires t c =
@@ -560,8 +560,8 @@ at_must-at_pat-got-requires t c =
     let pre0 = c.requires in
     (omega arith, pre0)
 
-pub at_must-report-requires : goal.at_must-report-requires
-at_must-report-requires t c =
+pub at_must-report_error-requires : goal.at_must-report_error-requires
+at_must-report_error-requires t c =
     let at_pat = c.in-Err.ensures in
     let at_pat_ok = (at_pat true).ok in
     (at_pat_ok.holds, (let few = at_pat_ok.reads.few in let inside = at_pat_ok.reads.inside in omega arith), omega arith)
@@ -594,9 +594,9 @@ at_must-returns-in-Err t c =
     let L1 = c.at_pat-got.new.scratch in
     let H1 = c.at_pat-got.new.finds in
     let S1 = c.in-Err.s1 in
-    let H2 = c.report.new.finds in
-    let S2 = c.report.result in
-    by_steps {m = (mem X0 T0 N0 J0 L0 H0 S0)} {m' = (mem X0 T0 N0 J0 L1 H2 S2)} (c.requires) (λ b. s_by {a = (mem X0 T0 N0 J0 L0 H0 S0)} {c = (mem X0 T0 N0 J0 L1 H1 S1)} {e = (mem X0 T0 N0 J0 L1 H2 S2)} _ (runs_in {a = (mem X0 T0 N0 J0 L0 H0 S0)} {c = (mem X0 T0 N0 J0 L1 H1 S1)} ((c.in-Err.ensures) _)) (s_report {e = (mem X0 T0 N0 J0 L1 H2 S2)} {x = X0} {t = T0} {n = N0} {j = J0} {l = L1} {h = H1} {s = S1} {s' = S2} {h' = H2} (c.report.ensures) s_end))
+    let H2 = c.report_error.new.finds in
+    let S2 = c.report_error.result in
+    by_steps {m = (mem X0 T0 N0 J0 L0 H0 S0)} {m' = (mem X0 T0 N0 J0 L1 H2 S2)} (c.requires) (λ b. s_by {a = (mem X0 T0 N0 J0 L0 H0 S0)} {c = (mem X0 T0 N0 J0 L1 H1 S1)} {e = (mem X0 T0 N0 J0 L1 H2 S2)} _ (runs_in {a = (mem X0 T0 N0 J0 L0 H0 S0)} {c = (mem X0 T0 N0 J0 L1 H1 S1)} ((c.in-Err.ensures) _)) (s_report {e = (mem X0 T0 N0 J0 L1 H2 S2)} {x = X0} {t = T0} {n = N0} {j = J0} {l = L1} {h = H1} {s = S1} {s' = S2} {h' = H2} (c.report_error.ensures) s_end))
 
 pub at_pat-peek-requires : goal.at_pat-peek-requires
 at_pat-peek-requires t c =
@@ -610,8 +610,8 @@ at_pat-returns-in_default t c =
     let peek = c.in_default.ensures in
     λ g. by_steps pre0 (λ b. s_look peek s_end)
 
-pub at_pat-refuse-requires : goal.at_pat-refuse-requires
-at_pat-refuse-requires t c =
+pub at_pat-refuse_for-requires : goal.at_pat-refuse_for-requires
+at_pat-refuse_for-requires t c =
     tt
 
 pub at_pat-returns-then-left-eq0 : goal.at_pat-returns-then-left-eq0
@@ -620,8 +620,8 @@ at_pat-returns-then-left-eq0 t c =
     let pre0 = c.requires in
     let peek = c.in-Some.ensures in
     let if1 = c.if-left-eq0.true in
-    let refuse = c.refuse.ensures in
-    λ g. by_steps pre0 (λ b. s_look peek (s_shut if1 refuse (λ k l. refl)))
+    let refuse_for = c.refuse_for.ensures in
+    λ g. by_steps pre0 (λ b. s_look peek (s_shut if1 refuse_for (λ k l. refl)))
 
 pub at_pat-mark-s1-requires : goal.at_pat-mark-s1-requires
 at_pat-mark-s1-requires t c =
@@ -654,8 +654,8 @@ at_round-bump-s1-requires t c =
     let pre0 = c.requires.0 in
     (pre0.reads, pre0.logs)
 
-pub at_round-close-requires : goal.at_round-close-requires
-at_round-close-requires t c =
+pub at_round-close_node-requires : goal.at_round-close_node-requires
+at_round-close_node-requires t c =
     let pre0 = c.requires.0 in
     let pre1 = c.requires.1 in
     let bump = c.bump-s1.ensures in
@@ -674,9 +674,9 @@ at_round-returns-then-at t c =
     let S0 = c.args.s in
     let L3 = c.bump-s1.new.scratch in
     let S3 = c.bump-s1.result in
-    let L4 = c.close.new.scratch in
-    let S4 = c.close.result in
-    in_steps {m = (mem X0 T0 N0 J0 L0 H0 S0)} {m' = (mem X0 T0 N0 J0 L4 H0 S4)} (c.requires.0) (s_kind {a = (mem X0 T0 N0 J0 L0 H0 S0)} {e = (mem X0 T0 N0 J0 L4 H0 S4)} (s_true {a = (mem X0 T0 N0 J0 L0 H0 S0)} {e = (mem X0 T0 N0 J0 L4 H0 S4)} _ _ (kind_at _ _ (mem X0 T0 N0 J0 L0 H0 S0) _ (c.at.ensures) (c.if-at.true)) (s_bump {e = (mem X0 T0 N0 J0 L4 H0 S4)} {x = X0} {t = T0} {n = N0} {j = J0} {l = L0} {h = H0} {s = S0} {s' = S3} {l' = L3} (c.bump-s1.ensures) (s_close {e = (mem X0 T0 N0 J0 L4 H0 S4)} {x = X0} {t = T0} {n = N0} {j = J0} {l = L3} {h = H0} {s = S3} {s' = S4} {l' = L4} (c.close.ensures) s_end))))
+    let L4 = c.close_node.new.scratch in
+    let S4 = c.close_node.result in
+    in_steps {m = (mem X0 T0 N0 J0 L0 H0 S0)} {m' = (mem X0 T0 N0 J0 L4 H0 S4)} (c.requires.0) (s_kind {a = (mem X0 T0 N0 J0 L0 H0 S0)} {e = (mem X0 T0 N0 J0 L4 H0 S4)} (s_true {a = (mem X0 T0 N0 J0 L0 H0 S0)} {e = (mem X0 T0 N0 J0 L4 H0 S4)} _ _ (kind_at _ _ (mem X0 T0 N0 J0 L0 H0 S0) _ (c.at.ensures) (c.if-at.true)) (s_bump {e = (mem X0 T0 N0 J0 L4 H0 S4)} {x = X0} {t = T0} {n = N0} {j = J0} {l = L0} {h = H0} {s = S0} {s' = S3} {l' = L3} (c.bump-s1.ensures) (s_close {e = (mem X0 T0 N0 J0 L4 H0 S4)} {x = X0} {t = T0} {n = N0} {j = J0} {l = L3} {h = H0} {s = S3} {s' = S4} {l' = L4} (c.close_node.ensures) s_end))))
 
 pub at_round-pat_arg-first-requires : goal.at_round-pat_arg-first-requires
 at_round-pat_arg-first-requires t c =
@@ -689,8 +689,8 @@ at_round-args-s2-requires t c =
     let pat_arg_ok = pat_arg.ok in
     (omega arith, (pat_arg_ok, omega arith))
 
-pub at_round-close-requires-in-Err : goal.at_round-close-requires-in-Err
-at_round-close-requires-in-Err t c =
+pub at_round-close_node-requires-in-Err : goal.at_round-close_node-requires-in-Err
+at_round-close_node-requires-in-Err t c =
     let pre1 = c.requires.1 in
     let args2 = c.args-s2.ensures in
     let args2_ok = args2.ok in
@@ -702,8 +702,8 @@ at_round-bump-s2-requires t c =
     let pat_arg_ok = pat_arg.ok in
     (pat_arg_ok.reads, pat_arg_ok.logs)
 
-pub at_round-close-requires-in-Ok : goal.at_round-close-requires-in-Ok
-at_round-close-requires-in-Ok t c =
+pub at_round-close_node-requires-in-Ok : goal.at_round-close_node-requires-in-Ok
+at_round-close_node-requires-in-Ok t c =
     let pre1 = c.requires.1 in
     let pat_arg = c.in-Ok.ensures in
     let pat_arg_ok = pat_arg.ok in
@@ -727,9 +727,9 @@ at_round-returns-in-Err t c =
     let L4 = c.args-s2.new.scratch in
     let H4 = c.args-s2.new.finds in
     let S4 = c.args-s2.result in
-    let L5 = c.close-in-Err.new.scratch in
-    let S5 = c.close-in-Err.result in
-    in_steps {m = (mem X0 T0 N0 J0 L0 H0 S0)} {m' = (mem X0 T0 N0 J0 L5 H4 S5)} (c.requires.0) (s_kind {a = (mem X0 T0 N0 J0 L0 H0 S0)} {e = (mem X0 T0 N0 J0 L5 H4 S5)} (s_false {a = (mem X0 T0 N0 J0 L0 H0 S0)} {e = (mem X0 T0 N0 J0 L5 H4 S5)} _ _ (kind_off _ _ (mem X0 T0 N0 J0 L0 H0 S0) _ (c.at.ensures) (c.if-at.false)) (s_by {a = (mem X0 T0 N0 J0 L0 H0 S0)} {c = (mem X0 T0 N0 J0 L3 H3 S3)} {e = (mem X0 T0 N0 J0 L5 H4 S5)} _ (runs_in {a = (mem X0 T0 N0 J0 L0 H0 S0)} {c = (mem X0 T0 N0 J0 L3 H3 S3)} (c.in-Err.ensures)) (s_run {a = (mem X0 T0 N0 J0 L3 H3 S3)} {c = (mem X0 T0 N0 J0 L4 H4 S4)} {e = (mem X0 T0 N0 J0 L5 H4 S5)} (c.args-s2.ensures) (s_close {e = (mem X0 T0 N0 J0 L5 H4 S5)} {x = X0} {t = T0} {n = N0} {j = J0} {l = L4} {h = H4} {s = S4} {s' = S5} {l' = L5} (c.close-in-Err.ensures) s_end)))))
+    let L5 = c.close_node-in-Err.new.scratch in
+    let S5 = c.close_node-in-Err.result in
+    in_steps {m = (mem X0 T0 N0 J0 L0 H0 S0)} {m' = (mem X0 T0 N0 J0 L5 H4 S5)} (c.requires.0) (s_kind {a = (mem X0 T0 N0 J0 L0 H0 S0)} {e = (mem X0 T0 N0 J0 L5 H4 S5)} (s_false {a = (mem X0 T0 N0 J0 L0 H0 S0)} {e = (mem X0 T0 N0 J0 L5 H4 S5)} _ _ (kind_off _ _ (mem X0 T0 N0 J0 L0 H0 S0) _ (c.at.ensures) (c.if-at.false)) (s_by {a = (mem X0 T0 N0 J0 L0 H0 S0)} {c = (mem X0 T0 N0 J0 L3 H3 S3)} {e = (mem X0 T0 N0 J0 L5 H4 S5)} _ (runs_in {a = (mem X0 T0 N0 J0 L0 H0 S0)} {c = (mem X0 T0 N0 J0 L3 H3 S3)} (c.in-Err.ensures)) (s_run {a = (mem X0 T0 N0 J0 L3 H3 S3)} {c = (mem X0 T0 N0 J0 L4 H4 S4)} {e = (mem X0 T0 N0 J0 L5 H4 S5)} (c.args-s2.ensures) (s_close {e = (mem X0 T0 N0 J0 L5 H4 S5)} {x = X0} {t = T0} {n = N0} {j = J0} {l = L4} {h = H4} {s = S4} {s' = S5} {l' = L5} (c.close_node-in-Err.ensures) s_end)))))
 
 pub at_round-returns-in-Ok : goal.at_round-returns-in-Ok
 unfolding pat.at_pat_l_round util.end_sep plan choose chosen
@@ -746,9 +746,9 @@ at_round-returns-in-Ok t c =
     let S3 = c.in-Ok.s1 in
     let L4 = c.bump-s2.new.scratch in
     let S4 = c.bump-s2.result in
-    let L5 = c.close-in-Ok.new.scratch in
-    let S5 = c.close-in-Ok.result in
-    in_steps {m = (mem X0 T0 N0 J0 L0 H0 S0)} {m' = (mem X0 T0 N0 J0 L5 H3 S5)} (c.requires.0) (s_kind {a = (mem X0 T0 N0 J0 L0 H0 S0)} {e = (mem X0 T0 N0 J0 L5 H3 S5)} (s_false {a = (mem X0 T0 N0 J0 L0 H0 S0)} {e = (mem X0 T0 N0 J0 L5 H3 S5)} _ _ (kind_off _ _ (mem X0 T0 N0 J0 L0 H0 S0) _ (c.at.ensures) (c.if-at.false)) (s_by {a = (mem X0 T0 N0 J0 L0 H0 S0)} {c = (mem X0 T0 N0 J0 L3 H3 S3)} {e = (mem X0 T0 N0 J0 L5 H3 S5)} _ (runs_in {a = (mem X0 T0 N0 J0 L0 H0 S0)} {c = (mem X0 T0 N0 J0 L3 H3 S3)} (c.in-Ok.ensures)) (s_bump {e = (mem X0 T0 N0 J0 L5 H3 S5)} {x = X0} {t = T0} {n = N0} {j = J0} {l = L3} {h = H3} {s = S3} {s' = S4} {l' = L4} (c.bump-s2.ensures) (s_close {e = (mem X0 T0 N0 J0 L5 H3 S5)} {x = X0} {t = T0} {n = N0} {j = J0} {l = L4} {h = H3} {s = S4} {s' = S5} {l' = L5} (c.close-in-Ok.ensures) s_end)))))
+    let L5 = c.close_node-in-Ok.new.scratch in
+    let S5 = c.close_node-in-Ok.result in
+    in_steps {m = (mem X0 T0 N0 J0 L0 H0 S0)} {m' = (mem X0 T0 N0 J0 L5 H3 S5)} (c.requires.0) (s_kind {a = (mem X0 T0 N0 J0 L0 H0 S0)} {e = (mem X0 T0 N0 J0 L5 H3 S5)} (s_false {a = (mem X0 T0 N0 J0 L0 H0 S0)} {e = (mem X0 T0 N0 J0 L5 H3 S5)} _ _ (kind_off _ _ (mem X0 T0 N0 J0 L0 H0 S0) _ (c.at.ensures) (c.if-at.false)) (s_by {a = (mem X0 T0 N0 J0 L0 H0 S0)} {c = (mem X0 T0 N0 J0 L3 H3 S3)} {e = (mem X0 T0 N0 J0 L5 H3 S5)} _ (runs_in {a = (mem X0 T0 N0 J0 L0 H0 S0)} {c = (mem X0 T0 N0 J0 L3 H3 S3)} (c.in-Ok.ensures)) (s_bump {e = (mem X0 T0 N0 J0 L5 H3 S5)} {x = X0} {t = T0} {n = N0} {j = J0} {l = L3} {h = H3} {s = S3} {s' = S4} {l' = L4} (c.bump-s2.ensures) (s_close {e = (mem X0 T0 N0 J0 L5 H3 S5)} {x = X0} {t = T0} {n = N0} {j = J0} {l = L4} {h = H3} {s = S4} {s' = S5} {l' = L5} (c.close_node-in-Ok.ensures) s_end)))))
 
 pub atom-at_pat-got-requires : goal.atom-at_pat-got-requires
 atom-at_pat-got-requires t c =
@@ -853,8 +853,8 @@ con-returns-in-Stop t c =
     let con_head = c.in-Stop.ensures in
     in_steps pre0 (s_by _ con_head s_end)
 
-pub con_head-refuse-requires : goal.con_head-refuse-requires
-con_head-refuse-requires t c =
+pub con_head-refuse_for-requires : goal.con_head-refuse_for-requires
+con_head-refuse_for-requires t c =
     tt
 
 pub con_head-returns-then-left-eq0 : goal.con_head-returns-then-left-eq0
@@ -867,8 +867,8 @@ con_head-returns-then-left-eq0 t c =
     let L0 = c.args.scratch.now in
     let H0 = c.args.finds.now in
     let S0 = c.args.s in
-    let S2 = c.refuse.result in
-    in_steps {m = (mem X0 T0 N0 J0 L0 H0 S0)} {m' = (mem X0 T0 N0 J0 L0 H0 S2)} (c.requires.0) (s_shut (c.if-left-eq0.true) (c.refuse.ensures) (λ k l. refl))
+    let S2 = c.refuse_for.result in
+    in_steps {m = (mem X0 T0 N0 J0 L0 H0 S0)} {m' = (mem X0 T0 N0 J0 L0 H0 S2)} (c.requires.0) (s_shut (c.if-left-eq0.true) (c.refuse_for.ensures) (λ k l. refl))
 
 pub con_head-mark-s1-requires : goal.con_head-mark-s1-requires
 con_head-mark-s1-requires t c =
@@ -910,8 +910,8 @@ con_turn-peek-requires t c =
     let pre0 = c.requires.0 in
     pre0.reads
 
-pub con_turn-close-requires : goal.con_turn-close-requires
-con_turn-close-requires t c =
+pub con_turn-close_node-requires : goal.con_turn-close_node-requires
+con_turn-close_node-requires t c =
     let pre0 = c.requires.0 in
     let pre1 = c.requires.1 in
     (pre0.logs, pre1)
@@ -926,9 +926,9 @@ con_turn-returns-in_default t c =
     let L0 = c.args.scratch.now in
     let H0 = c.args.finds.now in
     let S0 = c.args.s in
-    let L2 = c.close.new.scratch in
-    let S2 = c.close.result in
-    in_steps {m = (mem X0 T0 N0 J0 L0 H0 S0)} {m' = (mem X0 T0 N0 J0 L2 H0 S2)} (c.requires.0) (s_look {a = (mem X0 T0 N0 J0 L0 H0 S0)} {e = (mem X0 T0 N0 J0 L2 H0 S2)} (c.in_default.ensures) (s_close {e = (mem X0 T0 N0 J0 L2 H0 S2)} {x = X0} {t = T0} {n = N0} {j = J0} {l = L0} {h = H0} {s = S0} {s' = S2} {l' = L2} (c.close.ensures) s_end))
+    let L2 = c.close_node.new.scratch in
+    let S2 = c.close_node.result in
+    in_steps {m = (mem X0 T0 N0 J0 L0 H0 S0)} {m' = (mem X0 T0 N0 J0 L2 H0 S2)} (c.requires.0) (s_look {a = (mem X0 T0 N0 J0 L0 H0 S0)} {e = (mem X0 T0 N0 J0 L2 H0 S2)} (c.in_default.ensures) (s_close {e = (mem X0 T0 N0 J0 L2 H0 S2)} {x = X0} {t = T0} {n = N0} {j = J0} {l = L0} {h = H0} {s = S0} {s' = S2} {l' = L2} (c.close_node.ensures) s_end))
 
 pub con_turn-name_star-requires : goal.con_turn-name_star-requires
 con_turn-name_star-requires t c =
@@ -944,8 +944,8 @@ con_turn-at_must-s1-requires t c =
     let pre0 = c.requires.0 in
     (omega arith, pre0)
 
-pub con_turn-close-requires-in-None : goal.con_turn-close-requires-in-None
-con_turn-close-requires-in-None t c =
+pub con_turn-close_node-requires-in-None : goal.con_turn-close_node-requires-in-None
+con_turn-close_node-requires-in-None t c =
     let pre1 = c.requires.1 in
     let at_must = c.at_must-s1.ensures in
     let at_must_ok = at_must.ok in
@@ -964,9 +964,9 @@ con_turn-returns-in-None t c =
     let L5 = c.at_must-s1.new.scratch in
     let H5 = c.at_must-s1.new.finds in
     let S5 = c.at_must-s1.result in
-    let L6 = c.close-in-None.new.scratch in
-    let S6 = c.close-in-None.result in
-    in_steps {m = (mem X0 T0 N0 J0 L0 H0 S0)} {m' = (mem X0 T0 N0 J0 L6 H5 S6)} (c.requires.0) (s_look {a = (mem X0 T0 N0 J0 L0 H0 S0)} {e = (mem X0 T0 N0 J0 L6 H5 S6)} (c.in-Some.ensures) (s_true {a = (mem X0 T0 N0 J0 L0 H0 S0)} {e = (mem X0 T0 N0 J0 L6 H5 S6)} _ _ (test_true (c.name_star.ensures) (c.if-name_star.true)) (s_fixed {a = (mem X0 T0 N0 J0 L0 H0 S0)} {e = (mem X0 T0 N0 J0 L6 H5 S6)} (c.in-None.ensures) (s_by {a = (mem X0 T0 N0 J0 L0 H0 S0)} {c = (mem X0 T0 N0 J0 L5 H5 S5)} {e = (mem X0 T0 N0 J0 L6 H5 S6)} _ (runs_in {a = (mem X0 T0 N0 J0 L0 H0 S0)} {c = (mem X0 T0 N0 J0 L5 H5 S5)} (c.at_must-s1.ensures)) (s_close {e = (mem X0 T0 N0 J0 L6 H5 S6)} {x = X0} {t = T0} {n = N0} {j = J0} {l = L5} {h = H5} {s = S5} {s' = S6} {l' = L6} (c.close-in-None.ensures) s_end)))))
+    let L6 = c.close_node-in-None.new.scratch in
+    let S6 = c.close_node-in-None.result in
+    in_steps {m = (mem X0 T0 N0 J0 L0 H0 S0)} {m' = (mem X0 T0 N0 J0 L6 H5 S6)} (c.requires.0) (s_look {a = (mem X0 T0 N0 J0 L0 H0 S0)} {e = (mem X0 T0 N0 J0 L6 H5 S6)} (c.in-Some.ensures) (s_true {a = (mem X0 T0 N0 J0 L0 H0 S0)} {e = (mem X0 T0 N0 J0 L6 H5 S6)} _ _ (test_true (c.name_star.ensures) (c.if-name_star.true)) (s_fixed {a = (mem X0 T0 N0 J0 L0 H0 S0)} {e = (mem X0 T0 N0 J0 L6 H5 S6)} (c.in-None.ensures) (s_by {a = (mem X0 T0 N0 J0 L0 H0 S0)} {c = (mem X0 T0 N0 J0 L5 H5 S5)} {e = (mem X0 T0 N0 J0 L6 H5 S6)} _ (runs_in {a = (mem X0 T0 N0 J0 L0 H0 S0)} {c = (mem X0 T0 N0 J0 L5 H5 S5)} (c.at_must-s1.ensures)) (s_close {e = (mem X0 T0 N0 J0 L6 H5 S6)} {x = X0} {t = T0} {n = N0} {j = J0} {l = L5} {h = H5} {s = S5} {s' = S6} {l' = L6} (c.close_node-in-None.ensures) s_end)))))
 
 pub con_turn-con_op-requires : goal.con_turn-con_op-requires
 con_turn-con_op-requires t c =
@@ -994,8 +994,8 @@ con_turn-at_must-s1-requires-then-arg t c =
     let pre0 = c.requires.0 in
     (omega arith, pre0)
 
-pub con_turn-close-requires-then-arg : goal.con_turn-close-requires-then-arg
-con_turn-close-requires-then-arg t c =
+pub con_turn-close_node-requires-then-arg : goal.con_turn-close_node-requires-then-arg
+con_turn-close_node-requires-then-arg t c =
     let pre1 = c.requires.1 in
     let at_must2 = c.at_must-s1-then-arg.ensures in
     let at_must2_ok = at_must2.ok in
@@ -1014,12 +1014,12 @@ con_turn-returns-then-arg t c =
     let L6 = c.at_must-s1-then-arg.new.scratch in
     let H6 = c.at_must-s1-then-arg.new.finds in
     let S6 = c.at_must-s1-then-arg.result in
-    let L7 = c.close-then-arg.new.scratch in
-    let S7 = c.close-then-arg.result in
-    in_steps {m = (mem X0 T0 N0 J0 L0 H0 S0)} {m' = (mem X0 T0 N0 J0 L7 H6 S7)} (c.requires.0) (s_look {a = (mem X0 T0 N0 J0 L0 H0 S0)} {e = (mem X0 T0 N0 J0 L7 H6 S7)} (c.in-Some.ensures) (s_false {a = (mem X0 T0 N0 J0 L0 H0 S0)} {e = (mem X0 T0 N0 J0 L7 H6 S7)} _ _ (test_false (c.name_star.ensures) (c.if-name_star.false)) (s_true {a = (mem X0 T0 N0 J0 L0 H0 S0)} {e = (mem X0 T0 N0 J0 L7 H6 S7)} _ _ (test_true (c.arg.ensures) (c.if-arg.true)) (s_by {a = (mem X0 T0 N0 J0 L0 H0 S0)} {c = (mem X0 T0 N0 J0 L6 H6 S6)} {e = (mem X0 T0 N0 J0 L7 H6 S7)} _ (runs_in {a = (mem X0 T0 N0 J0 L0 H0 S0)} {c = (mem X0 T0 N0 J0 L6 H6 S6)} (c.at_must-s1-then-arg.ensures)) (s_close {e = (mem X0 T0 N0 J0 L7 H6 S7)} {x = X0} {t = T0} {n = N0} {j = J0} {l = L6} {h = H6} {s = S6} {s' = S7} {l' = L7} (c.close-then-arg.ensures) s_end)))))
+    let L7 = c.close_node-then-arg.new.scratch in
+    let S7 = c.close_node-then-arg.result in
+    in_steps {m = (mem X0 T0 N0 J0 L0 H0 S0)} {m' = (mem X0 T0 N0 J0 L7 H6 S7)} (c.requires.0) (s_look {a = (mem X0 T0 N0 J0 L0 H0 S0)} {e = (mem X0 T0 N0 J0 L7 H6 S7)} (c.in-Some.ensures) (s_false {a = (mem X0 T0 N0 J0 L0 H0 S0)} {e = (mem X0 T0 N0 J0 L7 H6 S7)} _ _ (test_false (c.name_star.ensures) (c.if-name_star.false)) (s_true {a = (mem X0 T0 N0 J0 L0 H0 S0)} {e = (mem X0 T0 N0 J0 L7 H6 S7)} _ _ (test_true (c.arg.ensures) (c.if-arg.true)) (s_by {a = (mem X0 T0 N0 J0 L0 H0 S0)} {c = (mem X0 T0 N0 J0 L6 H6 S6)} {e = (mem X0 T0 N0 J0 L7 H6 S7)} _ (runs_in {a = (mem X0 T0 N0 J0 L0 H0 S0)} {c = (mem X0 T0 N0 J0 L6 H6 S6)} (c.at_must-s1-then-arg.ensures)) (s_close {e = (mem X0 T0 N0 J0 L7 H6 S7)} {x = X0} {t = T0} {n = N0} {j = J0} {l = L6} {h = H6} {s = S6} {s' = S7} {l' = L7} (c.close_node-then-arg.ensures) s_end)))))
 
-pub con_turn-close-requires-2 : goal.con_turn-close-requires-2
-con_turn-close-requires-2 t c =
+pub con_turn-close_node-requires-2 : goal.con_turn-close_node-requires-2
+con_turn-close_node-requires-2 t c =
     let pre0 = c.requires.0 in
     let pre1 = c.requires.1 in
     (pre0.logs, pre1)
@@ -1034,12 +1034,12 @@ con_turn-returns t c =
     let L0 = c.args.scratch.now in
     let H0 = c.args.finds.now in
     let S0 = c.args.s in
-    let L6 = c.close-2.new.scratch in
-    let S6 = c.close-2.result in
-    in_steps {m = (mem X0 T0 N0 J0 L0 H0 S0)} {m' = (mem X0 T0 N0 J0 L6 H0 S6)} (c.requires.0) (s_look {a = (mem X0 T0 N0 J0 L0 H0 S0)} {e = (mem X0 T0 N0 J0 L6 H0 S6)} (c.in-Some.ensures) (s_false {a = (mem X0 T0 N0 J0 L0 H0 S0)} {e = (mem X0 T0 N0 J0 L6 H0 S6)} _ _ (test_false (c.name_star.ensures) (c.if-name_star.false)) (s_false {a = (mem X0 T0 N0 J0 L0 H0 S0)} {e = (mem X0 T0 N0 J0 L6 H0 S6)} _ _ (test_false (c.arg.ensures) (c.if-arg.false)) (s_close {e = (mem X0 T0 N0 J0 L6 H0 S6)} {x = X0} {t = T0} {n = N0} {j = J0} {l = L0} {h = H0} {s = S0} {s' = S6} {l' = L6} (c.close-2.ensures) s_end))))
+    let L6 = c.close_node-2.new.scratch in
+    let S6 = c.close_node-2.result in
+    in_steps {m = (mem X0 T0 N0 J0 L0 H0 S0)} {m' = (mem X0 T0 N0 J0 L6 H0 S6)} (c.requires.0) (s_look {a = (mem X0 T0 N0 J0 L0 H0 S0)} {e = (mem X0 T0 N0 J0 L6 H0 S6)} (c.in-Some.ensures) (s_false {a = (mem X0 T0 N0 J0 L0 H0 S0)} {e = (mem X0 T0 N0 J0 L6 H0 S6)} _ _ (test_false (c.name_star.ensures) (c.if-name_star.false)) (s_false {a = (mem X0 T0 N0 J0 L0 H0 S0)} {e = (mem X0 T0 N0 J0 L6 H0 S6)} _ _ (test_false (c.arg.ensures) (c.if-arg.false)) (s_close {e = (mem X0 T0 N0 J0 L6 H0 S6)} {x = X0} {t = T0} {n = N0} {j = J0} {l = L0} {h = H0} {s = S0} {s' = S6} {l' = L6} (c.close_node-2.ensures) s_end))))
 
-pub inf_pat-refuse-requires : goal.inf_pat-refuse-requires
-inf_pat-refuse-requires t c =
+pub inf_pat-refuse_for-requires : goal.inf_pat-refuse_for-requires
+inf_pat-refuse_for-requires t c =
     tt
 
 pub inf_pat-returns-then-left-eq0 : goal.inf_pat-returns-then-left-eq0
@@ -1052,8 +1052,8 @@ inf_pat-returns-then-left-eq0 t c =
     let L0 = c.args.scratch.now in
     let H0 = c.args.finds.now in
     let S0 = c.args.s in
-    let S2 = c.refuse.result in
-    in_steps {m = (mem X0 T0 N0 J0 L0 H0 S0)} {m' = (mem X0 T0 N0 J0 L0 H0 S2)} (c.requires.0) (s_shut (c.if-left-eq0.true) (c.refuse.ensures) (λ k l. refl))
+    let S2 = c.refuse_for.result in
+    in_steps {m = (mem X0 T0 N0 J0 L0 H0 S0)} {m' = (mem X0 T0 N0 J0 L0 H0 S2)} (c.requires.0) (s_shut (c.if-left-eq0.true) (c.refuse_for.ensures) (λ k l. refl))
 
 pub inf_pat-mark-requires : goal.inf_pat-mark-requires
 inf_pat-mark-requires t c =
@@ -1075,8 +1075,8 @@ inf_pat-pat_must-s2-requires t c =
     let bump_ok = ok_bumps bump mark_ok in
     (omega arith, bump_ok)
 
-pub inf_pat-close-requires : goal.inf_pat-close-requires
-inf_pat-close-requires t c =
+pub inf_pat-close_node-requires : goal.inf_pat-close_node-requires
+inf_pat-close_node-requires t c =
     let pre1 = c.requires.1 in
     let pat_must = c.pat_must-s2.ensures in
     let pat_must_ok = pat_must.ok in
@@ -1098,9 +1098,9 @@ inf_pat-returns t c =
     let L4 = c.pat_must-s2.new.scratch in
     let H4 = c.pat_must-s2.new.finds in
     let S4 = c.pat_must-s2.result in
-    let L5 = c.close.new.scratch in
-    let S5 = c.close.result in
-    in_steps {m = (mem X0 T0 N0 J0 L0 H0 S0)} {m' = (mem X0 T0 N0 J0 L5 H4 S5)} (c.requires.0) (s_mark {e = (mem X0 T0 N0 J0 L5 H4 S5)} {x = X0} {t = T0} {n = N0} {j = J0} {l = L0} {h = H0} {s = S0} {s' = S2} (c.if-left-eq0.false) (c.mark.ensures) (s_bump {e = (mem X0 T0 N0 J0 L5 H4 S5)} {x = X0} {t = T0} {n = N0} {j = J0} {l = L0} {h = H0} {s = S2} {s' = S3} {l' = L3} (c.bump-s1.ensures) (s_by {a = (mem X0 T0 N0 J0 L3 H0 S3)} {c = (mem X0 T0 N0 J0 L4 H4 S4)} {e = (mem X0 T0 N0 J0 L5 H4 S5)} _ (runs_in {a = (mem X0 T0 N0 J0 L3 H0 S3)} {c = (mem X0 T0 N0 J0 L4 H4 S4)} (c.pat_must-s2.ensures)) (s_close {e = (mem X0 T0 N0 J0 L5 H4 S5)} {x = X0} {t = T0} {n = N0} {j = J0} {l = L4} {h = H4} {s = S4} {s' = S5} {l' = L5} (c.close.ensures) s_end))))
+    let L5 = c.close_node.new.scratch in
+    let S5 = c.close_node.result in
+    in_steps {m = (mem X0 T0 N0 J0 L0 H0 S0)} {m' = (mem X0 T0 N0 J0 L5 H4 S5)} (c.requires.0) (s_mark {e = (mem X0 T0 N0 J0 L5 H4 S5)} {x = X0} {t = T0} {n = N0} {j = J0} {l = L0} {h = H0} {s = S0} {s' = S2} (c.if-left-eq0.false) (c.mark.ensures) (s_bump {e = (mem X0 T0 N0 J0 L5 H4 S5)} {x = X0} {t = T0} {n = N0} {j = J0} {l = L0} {h = H0} {s = S2} {s' = S3} {l' = L3} (c.bump-s1.ensures) (s_by {a = (mem X0 T0 N0 J0 L3 H0 S3)} {c = (mem X0 T0 N0 J0 L4 H4 S4)} {e = (mem X0 T0 N0 J0 L5 H4 S5)} _ (runs_in {a = (mem X0 T0 N0 J0 L3 H0 S3)} {c = (mem X0 T0 N0 J0 L4 H4 S4)} (c.pat_must-s2.ensures)) (s_close {e = (mem X0 T0 N0 J0 L5 H4 S5)} {x = X0} {t = T0} {n = N0} {j = J0} {l = L4} {h = H4} {s = S4} {s' = S5} {l' = L5} (c.close_node.ensures) s_end))))
 
 pub op_step-fixity_at-fix-requires : goal.op_step-fixity_at-fix-requires
 op_step-fixity_at-fix-requires t c =
@@ -1111,8 +1111,8 @@ pub op_step-index-name-requires : goal.op_step-index-name-requires
 op_step-index-name-requires t c =
     tt
 
-pub op_step-report-requires : goal.op_step-report-requires
-op_step-report-requires t c =
+pub op_step-report_error-requires : goal.op_step-report_error-requires
+op_step-report_error-requires t c =
     let pre0 = c.requires.0 in
     let index = c.index-name.ensures in
     let index_small = small_index index pre0 in
@@ -1140,9 +1140,9 @@ op_step-returns-in-None t c =
     let L0 = c.args.scratch.now in
     let H0 = c.args.finds.now in
     let S0 = c.args.s in
-    let H3 = c.report.new.finds in
-    let S3 = c.report.result in
-    in_steps {m = (mem X0 T0 N0 J0 L0 H0 S0)} {m' = (mem X0 T0 N0 J0 L0 H3 S3)} (c.requires.0) (s_fixed {a = (mem X0 T0 N0 J0 L0 H0 S0)} {e = (mem X0 T0 N0 J0 L0 H3 S3)} (c.in-None.ensures) (s_index (c.index-name.ensures) (s_report {e = (mem X0 T0 N0 J0 L0 H3 S3)} {x = X0} {t = T0} {n = N0} {j = J0} {l = L0} {h = H0} {s = S0} {s' = S3} {h' = H3} (c.report.ensures) s_end)))
+    let H3 = c.report_error.new.finds in
+    let S3 = c.report_error.result in
+    in_steps {m = (mem X0 T0 N0 J0 L0 H0 S0)} {m' = (mem X0 T0 N0 J0 L0 H3 S3)} (c.requires.0) (s_fixed {a = (mem X0 T0 N0 J0 L0 H0 S0)} {e = (mem X0 T0 N0 J0 L0 H3 S3)} (c.in-None.ensures) (s_index (c.index-name.ensures) (s_report {e = (mem X0 T0 N0 J0 L0 H3 S3)} {x = X0} {t = T0} {n = N0} {j = J0} {l = L0} {h = H0} {s = S0} {s' = S3} {h' = H3} (c.report_error.ensures) s_end)))
 
 pub op_step-returns-in-Ok : goal.op_step-returns-in-Ok
 unfolding pat.op_step plan choose chosen
@@ -1219,8 +1219,8 @@ pub or_step-is_min-requires : goal.or_step-is_min-requires
 or_step-is_min-requires t c =
     tt
 
-pub or_step-refuse-requires : goal.or_step-refuse-requires
-or_step-refuse-requires t c =
+pub or_step-refuse_for-requires : goal.or_step-refuse_for-requires
+or_step-refuse_for-requires t c =
     tt
 
 pub or_step-returns-then-left-eq0 : goal.or_step-returns-then-left-eq0
@@ -1233,8 +1233,8 @@ or_step-returns-then-left-eq0 t c =
     let L0 = c.args.scratch.now in
     let H0 = c.args.finds.now in
     let S0 = c.args.s in
-    let S4 = c.refuse.result in
-    in_steps {m = (mem X0 T0 N0 J0 L0 H0 S0)} {m' = (mem X0 T0 N0 J0 L0 H0 S4)} (c.requires.0) (s_true {a = (mem X0 T0 N0 J0 L0 H0 S0)} {e = (mem X0 T0 N0 J0 L0 H0 S4)} _ _ (test_true (c.is_min.ensures) (c.if-is_min.true)) (s_shut (c.if-left-eq0.true) (c.refuse.ensures) (λ k l. refl)))
+    let S4 = c.refuse_for.result in
+    in_steps {m = (mem X0 T0 N0 J0 L0 H0 S0)} {m' = (mem X0 T0 N0 J0 L0 H0 S4)} (c.requires.0) (s_true {a = (mem X0 T0 N0 J0 L0 H0 S0)} {e = (mem X0 T0 N0 J0 L0 H0 S4)} _ _ (test_true (c.is_min.ensures) (c.if-is_min.true)) (s_shut (c.if-left-eq0.true) (c.refuse_for.ensures) (λ k l. refl)))
 
 pub or_step-mark-requires : goal.or_step-mark-requires
 or_step-mark-requires t c =
@@ -1256,8 +1256,8 @@ or_step-pat_must-s2-requires t c =
     let bump_ok = ok_bumps bump mark_ok in
     (omega arith, bump_ok)
 
-pub or_step-close-requires : goal.or_step-close-requires
-or_step-close-requires t c =
+pub or_step-close_node-requires : goal.or_step-close_node-requires
+or_step-close_node-requires t c =
     let pre1 = c.requires.1 in
     let pat_must = c.pat_must-s2.ensures in
     let pat_must_ok = pat_must.ok in
@@ -1279,9 +1279,9 @@ or_step-returns-then-is_min t c =
     let L6 = c.pat_must-s2.new.scratch in
     let H6 = c.pat_must-s2.new.finds in
     let S6 = c.pat_must-s2.result in
-    let L7 = c.close.new.scratch in
-    let S7 = c.close.result in
-    in_steps {m = (mem X0 T0 N0 J0 L0 H0 S0)} {m' = (mem X0 T0 N0 J0 L7 H6 S7)} (c.requires.0) (s_true {a = (mem X0 T0 N0 J0 L0 H0 S0)} {e = (mem X0 T0 N0 J0 L7 H6 S7)} _ _ (test_true (c.is_min.ensures) (c.if-is_min.true)) (s_mark {e = (mem X0 T0 N0 J0 L7 H6 S7)} {x = X0} {t = T0} {n = N0} {j = J0} {l = L0} {h = H0} {s = S0} {s' = S4} (c.if-left-eq0.false) (c.mark.ensures) (s_bump {e = (mem X0 T0 N0 J0 L7 H6 S7)} {x = X0} {t = T0} {n = N0} {j = J0} {l = L0} {h = H0} {s = S4} {s' = S5} {l' = L5} (c.bump-s1.ensures) (s_by {a = (mem X0 T0 N0 J0 L5 H0 S5)} {c = (mem X0 T0 N0 J0 L6 H6 S6)} {e = (mem X0 T0 N0 J0 L7 H6 S7)} _ (runs_in {a = (mem X0 T0 N0 J0 L5 H0 S5)} {c = (mem X0 T0 N0 J0 L6 H6 S6)} (c.pat_must-s2.ensures)) (s_close {e = (mem X0 T0 N0 J0 L7 H6 S7)} {x = X0} {t = T0} {n = N0} {j = J0} {l = L6} {h = H6} {s = S6} {s' = S7} {l' = L7} (c.close.ensures) s_end)))))
+    let L7 = c.close_node.new.scratch in
+    let S7 = c.close_node.result in
+    in_steps {m = (mem X0 T0 N0 J0 L0 H0 S0)} {m' = (mem X0 T0 N0 J0 L7 H6 S7)} (c.requires.0) (s_true {a = (mem X0 T0 N0 J0 L0 H0 S0)} {e = (mem X0 T0 N0 J0 L7 H6 S7)} _ _ (test_true (c.is_min.ensures) (c.if-is_min.true)) (s_mark {e = (mem X0 T0 N0 J0 L7 H6 S7)} {x = X0} {t = T0} {n = N0} {j = J0} {l = L0} {h = H0} {s = S0} {s' = S4} (c.if-left-eq0.false) (c.mark.ensures) (s_bump {e = (mem X0 T0 N0 J0 L7 H6 S7)} {x = X0} {t = T0} {n = N0} {j = J0} {l = L0} {h = H0} {s = S4} {s' = S5} {l' = L5} (c.bump-s1.ensures) (s_by {a = (mem X0 T0 N0 J0 L5 H0 S5)} {c = (mem X0 T0 N0 J0 L6 H6 S6)} {e = (mem X0 T0 N0 J0 L7 H6 S7)} _ (runs_in {a = (mem X0 T0 N0 J0 L5 H0 S5)} {c = (mem X0 T0 N0 J0 L6 H6 S6)} (c.pat_must-s2.ensures)) (s_close {e = (mem X0 T0 N0 J0 L7 H6 S7)} {x = X0} {t = T0} {n = N0} {j = J0} {l = L6} {h = H6} {s = S6} {s' = S7} {l' = L7} (c.close_node.ensures) s_end)))))
 
 pub or_step-returns : goal.or_step-returns
 unfolding pat.or_step plan choose chosen
@@ -1295,8 +1295,8 @@ or_step-returns t c =
     let S0 = c.args.s in
     in_steps {m = (mem X0 T0 N0 J0 L0 H0 S0)} {m' = (mem X0 T0 N0 J0 L0 H0 S0)} (c.requires.0) (s_false {a = (mem X0 T0 N0 J0 L0 H0 S0)} {e = (mem X0 T0 N0 J0 L0 H0 S0)} _ _ (test_false (c.is_min.ensures) (c.if-is_min.false)) s_end)
 
-pub pat_arg-refuse-requires : goal.pat_arg-refuse-requires
-pat_arg-refuse-requires t c =
+pub pat_arg-refuse_for-requires : goal.pat_arg-refuse_for-requires
+pat_arg-refuse_for-requires t c =
     tt
 
 pub pat_arg-returns-then-left-eq0 : goal.pat_arg-returns-then-left-eq0
@@ -1309,8 +1309,8 @@ pat_arg-returns-then-left-eq0 t c =
     let L0 = c.args.scratch.now in
     let H0 = c.args.finds.now in
     let S0 = c.args.s in
-    let S2 = c.refuse.result in
-    by_steps {m = (mem X0 T0 N0 J0 L0 H0 S0)} {m' = (mem X0 T0 N0 J0 L0 H0 S2)} (c.requires) (λ b. s_shut (c.if-left-eq0.true) (c.refuse.ensures) (λ k l. refl))
+    let S2 = c.refuse_for.result in
+    by_steps {m = (mem X0 T0 N0 J0 L0 H0 S0)} {m' = (mem X0 T0 N0 J0 L0 H0 S2)} (c.requires) (λ b. s_shut (c.if-left-eq0.true) (c.refuse_for.ensures) (λ k l. refl))
 
 pub pat_arg-mark-s1-requires : goal.pat_arg-mark-s1-requires
 pat_arg-mark-s1-requires t c =
@@ -1355,8 +1355,8 @@ pub pat_arg-either-s3-requires : goal.pat_arg-either-s3-requires
 pat_arg-either-s3-requires t c =
     tt
 
-pub pat_arg-close-requires : goal.pat_arg-close-requires
-pat_arg-close-requires t c =
+pub pat_arg-close_node-requires : goal.pat_arg-close_node-requires
+pat_arg-close_node-requires t c =
     let pre0 = c.requires in
     let mark = c.mark-s1.ensures in
     let mark_ok = ok_marks mark pre0 in
@@ -1385,17 +1385,17 @@ pat_arg-returns t c =
     let L6 = c.eat-got.new.scratch in
     let H6 = c.eat-got.new.finds in
     let S7 = c.either-s3.result in
-    let L8 = c.close.new.scratch in
-    let S8 = c.close.result in
-    by_steps {m = (mem X0 T0 N0 J0 L0 H0 S0)} {m' = (mem X0 T0 N0 J0 L8 H6 S8)} (c.requires) (λ b. s_mark {e = (mem X0 T0 N0 J0 L8 H6 S8)} {x = X0} {t = T0} {n = N0} {j = J0} {l = L0} {h = H0} {s = S0} {s' = S2} (c.if-left-eq0.false) (c.mark-s1.ensures) (s_by {a = (mem X0 T0 N0 J0 L0 H0 S2)} {c = (mem X0 T0 N0 J0 L3 H3 S3)} {e = (mem X0 T0 N0 J0 L8 H6 S8)} _ (runs_in {a = (mem X0 T0 N0 J0 L0 H0 S2)} {c = (mem X0 T0 N0 J0 L3 H3 S3)} (c.pat_must-s2.ensures)) (s_kind {a = (mem X0 T0 N0 J0 L3 H3 S3)} {e = (mem X0 T0 N0 J0 L8 H6 S8)} (s_false {a = (mem X0 T0 N0 J0 L3 H3 S3)} {e = (mem X0 T0 N0 J0 L8 H6 S8)} _ _ (kind_off _ _ (mem X0 T0 N0 J0 L3 H3 S3) _ (c.at.ensures) (c.if-at.false)) (s_eats _ _ {x = X0} {t = T0} {n = N0} {j = J0} {l = L3} {h = H3} {l' = L6} {s = S3} {s' = S7} {e = (mem X0 T0 N0 J0 L8 H6 S8)} _ {h' = H6} (eats_settled (c.either-s3.ensures) (c.eat-got.ensures)) (s_close {e = (mem X0 T0 N0 J0 L8 H6 S8)} {x = X0} {t = T0} {n = N0} {j = J0} {l = L6} {h = H6} {s = S7} {s' = S8} {l' = L8} (c.close.ensures) s_end))))))
+    let L8 = c.close_node.new.scratch in
+    let S8 = c.close_node.result in
+    by_steps {m = (mem X0 T0 N0 J0 L0 H0 S0)} {m' = (mem X0 T0 N0 J0 L8 H6 S8)} (c.requires) (λ b. s_mark {e = (mem X0 T0 N0 J0 L8 H6 S8)} {x = X0} {t = T0} {n = N0} {j = J0} {l = L0} {h = H0} {s = S0} {s' = S2} (c.if-left-eq0.false) (c.mark-s1.ensures) (s_by {a = (mem X0 T0 N0 J0 L0 H0 S2)} {c = (mem X0 T0 N0 J0 L3 H3 S3)} {e = (mem X0 T0 N0 J0 L8 H6 S8)} _ (runs_in {a = (mem X0 T0 N0 J0 L0 H0 S2)} {c = (mem X0 T0 N0 J0 L3 H3 S3)} (c.pat_must-s2.ensures)) (s_kind {a = (mem X0 T0 N0 J0 L3 H3 S3)} {e = (mem X0 T0 N0 J0 L8 H6 S8)} (s_false {a = (mem X0 T0 N0 J0 L3 H3 S3)} {e = (mem X0 T0 N0 J0 L8 H6 S8)} _ _ (kind_off _ _ (mem X0 T0 N0 J0 L3 H3 S3) _ (c.at.ensures) (c.if-at.false)) (s_eats _ _ {x = X0} {t = T0} {n = N0} {j = J0} {l = L3} {h = H3} {l' = L6} {s = S3} {s' = S7} {e = (mem X0 T0 N0 J0 L8 H6 S8)} _ {h' = H6} (eats_settled (c.either-s3.ensures) (c.eat-got.ensures)) (s_close {e = (mem X0 T0 N0 J0 L8 H6 S8)} {x = X0} {t = T0} {n = N0} {j = J0} {l = L6} {h = H6} {s = S7} {s' = S8} {l' = L8} (c.close_node.ensures) s_end))))))
 
 pub pat_must-pat_prec-got-requires : goal.pat_must-pat_prec-got-requires
 pat_must-pat_prec-got-requires t c =
     let pre0 = c.requires in
     (omega arith, pre0)
 
-pub pat_must-report-requires : goal.pat_must-report-requires
-pat_must-report-requires t c =
+pub pat_must-report_error-requires : goal.pat_must-report_error-requires
+pat_must-report_error-requires t c =
     let pat_prec = c.in-Err.ensures in
     let pat_prec_ok = pat_prec.ok in
     (pat_prec_ok.holds, (let few = pat_prec_ok.reads.few in let inside = pat_prec_ok.reads.inside in omega arith), omega arith)
@@ -1428,9 +1428,9 @@ pat_must-returns-in-Err t c =
     let L1 = c.pat_prec-got.new.scratch in
     let H1 = c.pat_prec-got.new.finds in
     let S1 = c.in-Err.s1 in
-    let H2 = c.report.new.finds in
-    let S2 = c.report.result in
-    by_steps {m = (mem X0 T0 N0 J0 L0 H0 S0)} {m' = (mem X0 T0 N0 J0 L1 H2 S2)} (c.requires) (λ b. s_run {a = (mem X0 T0 N0 J0 L0 H0 S0)} {c = (mem X0 T0 N0 J0 L1 H1 S1)} {e = (mem X0 T0 N0 J0 L1 H2 S2)} (runs_in {a = (mem X0 T0 N0 J0 L0 H0 S0)} {c = (mem X0 T0 N0 J0 L1 H1 S1)} (c.in-Err.ensures)) (s_report {e = (mem X0 T0 N0 J0 L1 H2 S2)} {x = X0} {t = T0} {n = N0} {j = J0} {l = L1} {h = H1} {s = S1} {s' = S2} {h' = H2} (c.report.ensures) s_end))
+    let H2 = c.report_error.new.finds in
+    let S2 = c.report_error.result in
+    by_steps {m = (mem X0 T0 N0 J0 L0 H0 S0)} {m' = (mem X0 T0 N0 J0 L1 H2 S2)} (c.requires) (λ b. s_run {a = (mem X0 T0 N0 J0 L0 H0 S0)} {c = (mem X0 T0 N0 J0 L1 H1 S1)} {e = (mem X0 T0 N0 J0 L1 H2 S2)} (runs_in {a = (mem X0 T0 N0 J0 L0 H0 S0)} {c = (mem X0 T0 N0 J0 L1 H1 S1)} (c.in-Err.ensures)) (s_report {e = (mem X0 T0 N0 J0 L1 H2 S2)} {x = X0} {t = T0} {n = N0} {j = J0} {l = L1} {h = H1} {s = S1} {s' = S2} {h' = H2} (c.report_error.ensures) s_end))
 
 pub pat_prec-peek-requires : goal.pat_prec-peek-requires
 pat_prec-peek-requires t c =
@@ -1582,8 +1582,8 @@ rest-rows-s2-requires t c =
     let bump_ok = ok_bumps bump pre0 in
     (omega arith, bump_ok)
 
-pub rest-close-requires : goal.rest-close-requires
-rest-close-requires t c =
+pub rest-close_node-requires : goal.rest-close_node-requires
+rest-close_node-requires t c =
     let pre1 = c.requires.1 in
     let rows = c.rows-s2.ensures in
     let rows_ok = rows.ok in
@@ -1604,9 +1604,9 @@ rest-returns-then-k-eq-LCURLY t c =
     let L3 = c.rows-s2.new.scratch in
     let H3 = c.rows-s2.new.finds in
     let S3 = c.rows-s2.result in
-    let L4 = c.close.new.scratch in
-    let S4 = c.close.result in
-    in_steps {m = (mem X0 T0 N0 J0 L0 H0 S0)} {m' = (mem X0 T0 N0 J0 L4 H3 S4)} (c.requires.0) (s_true {a = (mem X0 T0 N0 J0 L0 H0 S0)} {e = (mem X0 T0 N0 J0 L4 H3 S4)} _ _ (kind_is (c.if-k-eq-LCURLY.true)) (s_bump {e = (mem X0 T0 N0 J0 L4 H3 S4)} {x = X0} {t = T0} {n = N0} {j = J0} {l = L0} {h = H0} {s = S0} {s' = S2} {l' = L2} (c.bump-s1.ensures) (s_run {a = (mem X0 T0 N0 J0 L2 H0 S2)} {c = (mem X0 T0 N0 J0 L3 H3 S3)} {e = (mem X0 T0 N0 J0 L4 H3 S4)} (c.rows-s2.ensures) (s_close {e = (mem X0 T0 N0 J0 L4 H3 S4)} {x = X0} {t = T0} {n = N0} {j = J0} {l = L3} {h = H3} {s = S3} {s' = S4} {l' = L4} (c.close.ensures) s_end))))
+    let L4 = c.close_node.new.scratch in
+    let S4 = c.close_node.result in
+    in_steps {m = (mem X0 T0 N0 J0 L0 H0 S0)} {m' = (mem X0 T0 N0 J0 L4 H3 S4)} (c.requires.0) (s_true {a = (mem X0 T0 N0 J0 L0 H0 S0)} {e = (mem X0 T0 N0 J0 L4 H3 S4)} _ _ (kind_is (c.if-k-eq-LCURLY.true)) (s_bump {e = (mem X0 T0 N0 J0 L4 H3 S4)} {x = X0} {t = T0} {n = N0} {j = J0} {l = L0} {h = H0} {s = S0} {s' = S2} {l' = L2} (c.bump-s1.ensures) (s_run {a = (mem X0 T0 N0 J0 L2 H0 S2)} {c = (mem X0 T0 N0 J0 L3 H3 S3)} {e = (mem X0 T0 N0 J0 L4 H3 S4)} (c.rows-s2.ensures) (s_close {e = (mem X0 T0 N0 J0 L4 H3 S4)} {x = X0} {t = T0} {n = N0} {j = J0} {l = L3} {h = H3} {s = S3} {s' = S4} {l' = L4} (c.close_node.ensures) s_end))))
 
 pub rest-bump-s1-requires-then-k-eq-LROUND : goal.rest-bump-s1-requires-then-k-eq-LROUND
 rest-bump-s1-requires-then-k-eq-LROUND t c =
@@ -1650,8 +1650,8 @@ rest-args-s2-requires t c =
     let bump3_ok = ok_bumps bump3 pre0 in
     (omega arith, (bump3_ok, omega arith))
 
-pub rest-close-requires-then-k-eq-LSQUARE : goal.rest-close-requires-then-k-eq-LSQUARE
-rest-close-requires-then-k-eq-LSQUARE t c =
+pub rest-close_node-requires-then-k-eq-LSQUARE : goal.rest-close_node-requires-then-k-eq-LSQUARE
+rest-close_node-requires-then-k-eq-LSQUARE t c =
     let pre1 = c.requires.1 in
     let args2 = c.args-s2.ensures in
     let args2_ok = args2.ok in
@@ -1672,9 +1672,9 @@ rest-returns-then-k-eq-LSQUARE t c =
     let L5 = c.args-s2.new.scratch in
     let H5 = c.args-s2.new.finds in
     let S5 = c.args-s2.result in
-    let L6 = c.close-then-k-eq-LSQUARE.new.scratch in
-    let S6 = c.close-then-k-eq-LSQUARE.result in
-    in_steps {m = (mem X0 T0 N0 J0 L0 H0 S0)} {m' = (mem X0 T0 N0 J0 L6 H5 S6)} (c.requires.0) (s_false {a = (mem X0 T0 N0 J0 L0 H0 S0)} {e = (mem X0 T0 N0 J0 L6 H5 S6)} _ _ (kind_not (c.if-k-eq-LCURLY.false)) (s_false {a = (mem X0 T0 N0 J0 L0 H0 S0)} {e = (mem X0 T0 N0 J0 L6 H5 S6)} _ _ (kind_not (c.if-k-eq-LROUND.false)) (s_true {a = (mem X0 T0 N0 J0 L0 H0 S0)} {e = (mem X0 T0 N0 J0 L6 H5 S6)} _ _ (kind_is (c.if-k-eq-LSQUARE.true)) (s_bump {e = (mem X0 T0 N0 J0 L6 H5 S6)} {x = X0} {t = T0} {n = N0} {j = J0} {l = L0} {h = H0} {s = S0} {s' = S4} {l' = L4} (c.bump-s1-then-k-eq-LSQUARE.ensures) (s_run {a = (mem X0 T0 N0 J0 L4 H0 S4)} {c = (mem X0 T0 N0 J0 L5 H5 S5)} {e = (mem X0 T0 N0 J0 L6 H5 S6)} (c.args-s2.ensures) (s_close {e = (mem X0 T0 N0 J0 L6 H5 S6)} {x = X0} {t = T0} {n = N0} {j = J0} {l = L5} {h = H5} {s = S5} {s' = S6} {l' = L6} (c.close-then-k-eq-LSQUARE.ensures) s_end))))))
+    let L6 = c.close_node-then-k-eq-LSQUARE.new.scratch in
+    let S6 = c.close_node-then-k-eq-LSQUARE.result in
+    in_steps {m = (mem X0 T0 N0 J0 L0 H0 S0)} {m' = (mem X0 T0 N0 J0 L6 H5 S6)} (c.requires.0) (s_false {a = (mem X0 T0 N0 J0 L0 H0 S0)} {e = (mem X0 T0 N0 J0 L6 H5 S6)} _ _ (kind_not (c.if-k-eq-LCURLY.false)) (s_false {a = (mem X0 T0 N0 J0 L0 H0 S0)} {e = (mem X0 T0 N0 J0 L6 H5 S6)} _ _ (kind_not (c.if-k-eq-LROUND.false)) (s_true {a = (mem X0 T0 N0 J0 L0 H0 S0)} {e = (mem X0 T0 N0 J0 L6 H5 S6)} _ _ (kind_is (c.if-k-eq-LSQUARE.true)) (s_bump {e = (mem X0 T0 N0 J0 L6 H5 S6)} {x = X0} {t = T0} {n = N0} {j = J0} {l = L0} {h = H0} {s = S0} {s' = S4} {l' = L4} (c.bump-s1-then-k-eq-LSQUARE.ensures) (s_run {a = (mem X0 T0 N0 J0 L4 H0 S4)} {c = (mem X0 T0 N0 J0 L5 H5 S5)} {e = (mem X0 T0 N0 J0 L6 H5 S6)} (c.args-s2.ensures) (s_close {e = (mem X0 T0 N0 J0 L6 H5 S6)} {x = X0} {t = T0} {n = N0} {j = J0} {l = L5} {h = H5} {s = S5} {s' = S6} {l' = L6} (c.close_node-then-k-eq-LSQUARE.ensures) s_end))))))
 
 pub rest-bump-s1-requires-then-k-eq-HASH : goal.rest-bump-s1-requires-then-k-eq-HASH
 rest-bump-s1-requires-then-k-eq-HASH t c =
@@ -1688,8 +1688,8 @@ rest-vector-s2-requires t c =
     let bump4_ok = ok_bumps bump4 pre0 in
     (omega arith, bump4_ok)
 
-pub rest-close-requires-then-k-eq-HASH : goal.rest-close-requires-then-k-eq-HASH
-rest-close-requires-then-k-eq-HASH t c =
+pub rest-close_node-requires-then-k-eq-HASH : goal.rest-close_node-requires-then-k-eq-HASH
+rest-close_node-requires-then-k-eq-HASH t c =
     let pre1 = c.requires.1 in
     let vector = c.vector-s2.ensures in
     let vector_ok = vector.ok in
@@ -1710,9 +1710,9 @@ rest-returns-then-k-eq-HASH t c =
     let L6 = c.vector-s2.new.scratch in
     let H6 = c.vector-s2.new.finds in
     let S6 = c.vector-s2.result in
-    let L7 = c.close-then-k-eq-HASH.new.scratch in
-    let S7 = c.close-then-k-eq-HASH.result in
-    in_steps {m = (mem X0 T0 N0 J0 L0 H0 S0)} {m' = (mem X0 T0 N0 J0 L7 H6 S7)} (c.requires.0) (s_false {a = (mem X0 T0 N0 J0 L0 H0 S0)} {e = (mem X0 T0 N0 J0 L7 H6 S7)} _ _ (kind_not (c.if-k-eq-LCURLY.false)) (s_false {a = (mem X0 T0 N0 J0 L0 H0 S0)} {e = (mem X0 T0 N0 J0 L7 H6 S7)} _ _ (kind_not (c.if-k-eq-LROUND.false)) (s_false {a = (mem X0 T0 N0 J0 L0 H0 S0)} {e = (mem X0 T0 N0 J0 L7 H6 S7)} _ _ (kind_not (c.if-k-eq-LSQUARE.false)) (s_true {a = (mem X0 T0 N0 J0 L0 H0 S0)} {e = (mem X0 T0 N0 J0 L7 H6 S7)} _ _ (kind_is (c.if-k-eq-HASH.true)) (s_bump {e = (mem X0 T0 N0 J0 L7 H6 S7)} {x = X0} {t = T0} {n = N0} {j = J0} {l = L0} {h = H0} {s = S0} {s' = S5} {l' = L5} (c.bump-s1-then-k-eq-HASH.ensures) (s_by {a = (mem X0 T0 N0 J0 L5 H0 S5)} {c = (mem X0 T0 N0 J0 L6 H6 S6)} {e = (mem X0 T0 N0 J0 L7 H6 S7)} _ (runs_in {a = (mem X0 T0 N0 J0 L5 H0 S5)} {c = (mem X0 T0 N0 J0 L6 H6 S6)} (c.vector-s2.ensures)) (s_close {e = (mem X0 T0 N0 J0 L7 H6 S7)} {x = X0} {t = T0} {n = N0} {j = J0} {l = L6} {h = H6} {s = S6} {s' = S7} {l' = L7} (c.close-then-k-eq-HASH.ensures) s_end)))))))
+    let L7 = c.close_node-then-k-eq-HASH.new.scratch in
+    let S7 = c.close_node-then-k-eq-HASH.result in
+    in_steps {m = (mem X0 T0 N0 J0 L0 H0 S0)} {m' = (mem X0 T0 N0 J0 L7 H6 S7)} (c.requires.0) (s_false {a = (mem X0 T0 N0 J0 L0 H0 S0)} {e = (mem X0 T0 N0 J0 L7 H6 S7)} _ _ (kind_not (c.if-k-eq-LCURLY.false)) (s_false {a = (mem X0 T0 N0 J0 L0 H0 S0)} {e = (mem X0 T0 N0 J0 L7 H6 S7)} _ _ (kind_not (c.if-k-eq-LROUND.false)) (s_false {a = (mem X0 T0 N0 J0 L0 H0 S0)} {e = (mem X0 T0 N0 J0 L7 H6 S7)} _ _ (kind_not (c.if-k-eq-LSQUARE.false)) (s_true {a = (mem X0 T0 N0 J0 L0 H0 S0)} {e = (mem X0 T0 N0 J0 L7 H6 S7)} _ _ (kind_is (c.if-k-eq-HASH.true)) (s_bump {e = (mem X0 T0 N0 J0 L7 H6 S7)} {x = X0} {t = T0} {n = N0} {j = J0} {l = L0} {h = H0} {s = S0} {s' = S5} {l' = L5} (c.bump-s1-then-k-eq-HASH.ensures) (s_by {a = (mem X0 T0 N0 J0 L5 H0 S5)} {c = (mem X0 T0 N0 J0 L6 H6 S6)} {e = (mem X0 T0 N0 J0 L7 H6 S7)} _ (runs_in {a = (mem X0 T0 N0 J0 L5 H0 S5)} {c = (mem X0 T0 N0 J0 L6 H6 S6)} (c.vector-s2.ensures)) (s_close {e = (mem X0 T0 N0 J0 L7 H6 S7)} {x = X0} {t = T0} {n = N0} {j = J0} {l = L6} {h = H6} {s = S6} {s' = S7} {l' = L7} (c.close_node-then-k-eq-HASH.ensures) s_end)))))))
 
 pub rest-returns : goal.rest-returns
 unfolding pat.at_pat_rest util.end_sep plan choose chosen
@@ -1724,8 +1724,8 @@ rest-returns t c =
     let if4 = c.if-k-eq-HASH.false in
     in_steps pre0 (s_false _ _ (kind_not if1) (s_false _ _ (kind_not if2) (s_false _ _ (kind_not if3) (s_false _ _ (kind_not if4) s_end))))
 
-pub row-refuse-requires : goal.row-refuse-requires
-row-refuse-requires t c =
+pub row-refuse_for-requires : goal.row-refuse_for-requires
+row-refuse_for-requires t c =
     tt
 
 pub row-returns-then-left-eq0 : goal.row-returns-then-left-eq0
@@ -1738,8 +1738,8 @@ row-returns-then-left-eq0 t c =
     let L0 = c.args.scratch.now in
     let H0 = c.args.finds.now in
     let S0 = c.args.s in
-    let S2 = c.refuse.result in
-    by_steps {m = (mem X0 T0 N0 J0 L0 H0 S0)} {m' = (mem X0 T0 N0 J0 L0 H0 S2)} (c.requires) (λ b. s_shut (c.if-left-eq0.true) (c.refuse.ensures) (λ k l. refl))
+    let S2 = c.refuse_for.result in
+    by_steps {m = (mem X0 T0 N0 J0 L0 H0 S0)} {m' = (mem X0 T0 N0 J0 L0 H0 S2)} (c.requires) (λ b. s_shut (c.if-left-eq0.true) (c.refuse_for.ensures) (λ k l. refl))
 
 pub row-mark-s1-requires : goal.row-mark-s1-requires
 row-mark-s1-requires t c =
@@ -1759,8 +1759,8 @@ row-bump-s2-requires t c =
     let mark_ok = ok_marks mark pre0 in
     (mark_ok.reads, mark_ok.logs)
 
-pub row-close-requires : goal.row-close-requires
-row-close-requires t c =
+pub row-close_node-requires : goal.row-close_node-requires
+row-close_node-requires t c =
     let pre0 = c.requires in
     let mark = c.mark-s1.ensures in
     let mark_ok = ok_marks mark pre0 in
@@ -1781,9 +1781,9 @@ row-returns-then-at t c =
     let S2 = c.mark-s1.result in
     let L5 = c.bump-s2.new.scratch in
     let S5 = c.bump-s2.result in
-    let L6 = c.close.new.scratch in
-    let S6 = c.close.result in
-    by_steps {m = (mem X0 T0 N0 J0 L0 H0 S0)} {m' = (mem X0 T0 N0 J0 L6 H0 S6)} (c.requires) (λ b. s_mark {e = (mem X0 T0 N0 J0 L6 H0 S6)} {x = X0} {t = T0} {n = N0} {j = J0} {l = L0} {h = H0} {s = S0} {s' = S2} (c.if-left-eq0.false) (c.mark-s1.ensures) (s_kind {a = (mem X0 T0 N0 J0 L0 H0 S2)} {e = (mem X0 T0 N0 J0 L6 H0 S6)} (s_true {a = (mem X0 T0 N0 J0 L0 H0 S2)} {e = (mem X0 T0 N0 J0 L6 H0 S6)} _ _ (kind_at _ _ (mem X0 T0 N0 J0 L0 H0 S2) _ (c.at.ensures) (c.if-at.true)) (s_bump {e = (mem X0 T0 N0 J0 L6 H0 S6)} {x = X0} {t = T0} {n = N0} {j = J0} {l = L0} {h = H0} {s = S2} {s' = S5} {l' = L5} (c.bump-s2.ensures) (s_close {e = (mem X0 T0 N0 J0 L6 H0 S6)} {x = X0} {t = T0} {n = N0} {j = J0} {l = L5} {h = H0} {s = S5} {s' = S6} {l' = L6} (c.close.ensures) s_end)))))
+    let L6 = c.close_node.new.scratch in
+    let S6 = c.close_node.result in
+    by_steps {m = (mem X0 T0 N0 J0 L0 H0 S0)} {m' = (mem X0 T0 N0 J0 L6 H0 S6)} (c.requires) (λ b. s_mark {e = (mem X0 T0 N0 J0 L6 H0 S6)} {x = X0} {t = T0} {n = N0} {j = J0} {l = L0} {h = H0} {s = S0} {s' = S2} (c.if-left-eq0.false) (c.mark-s1.ensures) (s_kind {a = (mem X0 T0 N0 J0 L0 H0 S2)} {e = (mem X0 T0 N0 J0 L6 H0 S6)} (s_true {a = (mem X0 T0 N0 J0 L0 H0 S2)} {e = (mem X0 T0 N0 J0 L6 H0 S6)} _ _ (kind_at _ _ (mem X0 T0 N0 J0 L0 H0 S2) _ (c.at.ensures) (c.if-at.true)) (s_bump {e = (mem X0 T0 N0 J0 L6 H0 S6)} {x = X0} {t = T0} {n = N0} {j = J0} {l = L0} {h = H0} {s = S2} {s' = S5} {l' = L5} (c.bump-s2.ensures) (s_close {e = (mem X0 T0 N0 J0 L6 H0 S6)} {x = X0} {t = T0} {n = N0} {j = J0} {l = L5} {h = H0} {s = S5} {s' = S6} {l' = L6} (c.close_node.ensures) s_end)))))
 
 pub row-at_n-requires : goal.row-at_n-requires
 row-at_n-requires t c =
@@ -1825,8 +1825,8 @@ row-pat_must-s4-requires t c =
     let either_ok = ok_state either eat_ok in
     (omega arith, either_ok)
 
-pub row-close-requires-then-at_n : goal.row-close-requires-then-at_n
-row-close-requires-then-at_n t c =
+pub row-close_node-requires-then-at_n : goal.row-close_node-requires-then-at_n
+row-close_node-requires-then-at_n t c =
     let pre0 = c.requires in
     let mark = c.mark-s1.ensures in
     let mark_ok = ok_marks mark pre0 in
@@ -1854,9 +1854,9 @@ row-returns-then-at_n t c =
     let L10 = c.pat_must-s4.new.scratch in
     let H10 = c.pat_must-s4.new.finds in
     let S10 = c.pat_must-s4.result in
-    let L11 = c.close-then-at_n.new.scratch in
-    let S11 = c.close-then-at_n.result in
-    by_steps {m = (mem X0 T0 N0 J0 L0 H0 S0)} {m' = (mem X0 T0 N0 J0 L11 H10 S11)} (c.requires) (λ b. s_mark {e = (mem X0 T0 N0 J0 L11 H10 S11)} {x = X0} {t = T0} {n = N0} {j = J0} {l = L0} {h = H0} {s = S0} {s' = S2} (c.if-left-eq0.false) (c.mark-s1.ensures) (s_kind {a = (mem X0 T0 N0 J0 L0 H0 S2)} {e = (mem X0 T0 N0 J0 L11 H10 S11)} (s_false {a = (mem X0 T0 N0 J0 L0 H0 S2)} {e = (mem X0 T0 N0 J0 L11 H10 S11)} _ _ (kind_off _ _ (mem X0 T0 N0 J0 L0 H0 S2) _ (c.at.ensures) (c.if-at.false)) (s_kind {a = (mem X0 T0 N0 J0 L0 H0 S2)} {e = (mem X0 T0 N0 J0 L11 H10 S11)} (s_true {a = (mem X0 T0 N0 J0 L0 H0 S2)} {e = (mem X0 T0 N0 J0 L11 H10 S11)} _ _ (kind_at _ _ (mem X0 T0 N0 J0 L0 H0 S2) _ (c.at_n.ensures) (c.if-at_n.true)) (s_eats _ _ {x = X0} {t = T0} {n = N0} {j = J0} {l = L0} {h = H0} {l' = L7} {s = S2} {s' = S7} {e = (mem X0 T0 N0 J0 L11 H10 S11)} _ {h' = H7} (c.lab-s2.ensures) (s_eats _ _ {x = X0} {t = T0} {n = N0} {j = J0} {l = L7} {h = H7} {l' = L8} {s = S7} {s' = S9} {e = (mem X0 T0 N0 J0 L11 H10 S11)} _ {h' = H8} (eats_settled (c.either-s3.ensures) (c.eat-got.ensures)) (s_by {a = (mem X0 T0 N0 J0 L8 H8 S9)} {c = (mem X0 T0 N0 J0 L10 H10 S10)} {e = (mem X0 T0 N0 J0 L11 H10 S11)} _ (runs_in {a = (mem X0 T0 N0 J0 L8 H8 S9)} {c = (mem X0 T0 N0 J0 L10 H10 S10)} (c.pat_must-s4.ensures)) (s_close {e = (mem X0 T0 N0 J0 L11 H10 S11)} {x = X0} {t = T0} {n = N0} {j = J0} {l = L10} {h = H10} {s = S10} {s' = S11} {l' = L11} (c.close-then-at_n.ensures) s_end)))))))))
+    let L11 = c.close_node-then-at_n.new.scratch in
+    let S11 = c.close_node-then-at_n.result in
+    by_steps {m = (mem X0 T0 N0 J0 L0 H0 S0)} {m' = (mem X0 T0 N0 J0 L11 H10 S11)} (c.requires) (λ b. s_mark {e = (mem X0 T0 N0 J0 L11 H10 S11)} {x = X0} {t = T0} {n = N0} {j = J0} {l = L0} {h = H0} {s = S0} {s' = S2} (c.if-left-eq0.false) (c.mark-s1.ensures) (s_kind {a = (mem X0 T0 N0 J0 L0 H0 S2)} {e = (mem X0 T0 N0 J0 L11 H10 S11)} (s_false {a = (mem X0 T0 N0 J0 L0 H0 S2)} {e = (mem X0 T0 N0 J0 L11 H10 S11)} _ _ (kind_off _ _ (mem X0 T0 N0 J0 L0 H0 S2) _ (c.at.ensures) (c.if-at.false)) (s_kind {a = (mem X0 T0 N0 J0 L0 H0 S2)} {e = (mem X0 T0 N0 J0 L11 H10 S11)} (s_true {a = (mem X0 T0 N0 J0 L0 H0 S2)} {e = (mem X0 T0 N0 J0 L11 H10 S11)} _ _ (kind_at _ _ (mem X0 T0 N0 J0 L0 H0 S2) _ (c.at_n.ensures) (c.if-at_n.true)) (s_eats _ _ {x = X0} {t = T0} {n = N0} {j = J0} {l = L0} {h = H0} {l' = L7} {s = S2} {s' = S7} {e = (mem X0 T0 N0 J0 L11 H10 S11)} _ {h' = H7} (c.lab-s2.ensures) (s_eats _ _ {x = X0} {t = T0} {n = N0} {j = J0} {l = L7} {h = H7} {l' = L8} {s = S7} {s' = S9} {e = (mem X0 T0 N0 J0 L11 H10 S11)} _ {h' = H8} (eats_settled (c.either-s3.ensures) (c.eat-got.ensures)) (s_by {a = (mem X0 T0 N0 J0 L8 H8 S9)} {c = (mem X0 T0 N0 J0 L10 H10 S10)} {e = (mem X0 T0 N0 J0 L11 H10 S11)} _ (runs_in {a = (mem X0 T0 N0 J0 L8 H8 S9)} {c = (mem X0 T0 N0 J0 L10 H10 S10)} (c.pat_must-s4.ensures)) (s_close {e = (mem X0 T0 N0 J0 L11 H10 S11)} {x = X0} {t = T0} {n = N0} {j = J0} {l = L10} {h = H10} {s = S10} {s' = S11} {l' = L11} (c.close_node-then-at_n.ensures) s_end)))))))))
 
 pub row-eat_name_star-name-requires : goal.row-eat_name_star-name-requires
 row-eat_name_star-name-requires t c =
@@ -1896,8 +1896,8 @@ pub row-either-s4-requires : goal.row-either-s4-requires
 row-either-s4-requires t c =
     tt
 
-pub row-close-requires-2 : goal.row-close-requires-2
-row-close-requires-2 t c =
+pub row-close_node-requires-2 : goal.row-close_node-requires-2
+row-close_node-requires-2 t c =
     let pre0 = c.requires in
     let mark = c.mark-s1.ensures in
     let mark_ok = ok_marks mark pre0 in
@@ -1929,12 +1929,12 @@ row-returns t c =
     let H11 = c.as_pat_tl-more.new.finds in
     let S11 = out_state c.as_pat_tl-more.result in
     let S12 = c.either-s4.result in
-    let L13 = c.close-2.new.scratch in
-    let S13 = c.close-2.result in
-    by_steps {m = (mem X0 T0 N0 J0 L0 H0 S0)} {m' = (mem X0 T0 N0 J0 L13 H11 S13)} (c.requires) (λ b. s_mark {e = (mem X0 T0 N0 J0 L13 H11 S13)} {x = X0} {t = T0} {n = N0} {j = J0} {l = L0} {h = H0} {s = S0} {s' = S2} (c.if-left-eq0.false) (c.mark-s1.ensures) (s_kind {a = (mem X0 T0 N0 J0 L0 H0 S2)} {e = (mem X0 T0 N0 J0 L13 H11 S13)} (s_false {a = (mem X0 T0 N0 J0 L0 H0 S2)} {e = (mem X0 T0 N0 J0 L13 H11 S13)} _ _ (kind_off _ _ (mem X0 T0 N0 J0 L0 H0 S2) _ (c.at.ensures) (c.if-at.false)) (s_kind {a = (mem X0 T0 N0 J0 L0 H0 S2)} {e = (mem X0 T0 N0 J0 L13 H11 S13)} (s_false {a = (mem X0 T0 N0 J0 L0 H0 S2)} {e = (mem X0 T0 N0 J0 L13 H11 S13)} _ _ (kind_off _ _ (mem X0 T0 N0 J0 L0 H0 S2) _ (c.at_n.ensures) (c.if-at_n.false)) (s_eats _ _ {x = X0} {t = T0} {n = N0} {j = J0} {l = L0} {h = H0} {l' = L7} {s = S2} {s' = S8} {e = (mem X0 T0 N0 J0 L13 H11 S13)} _ {h' = H7} (eats_settled (c.either-s2.ensures) (c.eat_name_star-name.ensures)) (s_by {a = (mem X0 T0 N0 J0 L7 H7 S8)} {c = (mem X0 T0 N0 J0 L9 H9 S10)} {e = (mem X0 T0 N0 J0 L13 H11 S13)} _ (settled (c.either-s3-2.ensures) (runs_in {a = (mem X0 T0 N0 J0 L7 H7 S8)} {c = (mem X0 T0 N0 J0 L9 H9 S9)} (c.ty_annotation-ty.ensures))) (s_by {a = (mem X0 T0 N0 J0 L9 H9 S10)} {c = (mem X0 T0 N0 J0 L11 H11 S12)} {e = (mem X0 T0 N0 J0 L13 H11 S13)} _ (settled (c.either-s4.ensures) (runs_in {a = (mem X0 T0 N0 J0 L9 H9 S10)} {c = (mem X0 T0 N0 J0 L11 H11 S11)} (c.as_pat_tl-more.ensures))) (s_close {e = (mem X0 T0 N0 J0 L13 H11 S13)} {x = X0} {t = T0} {n = N0} {j = J0} {l = L11} {h = H11} {s = S12} {s' = S13} {l' = L13} (c.close-2.ensures) s_end)))))))))
+    let L13 = c.close_node-2.new.scratch in
+    let S13 = c.close_node-2.result in
+    by_steps {m = (mem X0 T0 N0 J0 L0 H0 S0)} {m' = (mem X0 T0 N0 J0 L13 H11 S13)} (c.requires) (λ b. s_mark {e = (mem X0 T0 N0 J0 L13 H11 S13)} {x = X0} {t = T0} {n = N0} {j = J0} {l = L0} {h = H0} {s = S0} {s' = S2} (c.if-left-eq0.false) (c.mark-s1.ensures) (s_kind {a = (mem X0 T0 N0 J0 L0 H0 S2)} {e = (mem X0 T0 N0 J0 L13 H11 S13)} (s_false {a = (mem X0 T0 N0 J0 L0 H0 S2)} {e = (mem X0 T0 N0 J0 L13 H11 S13)} _ _ (kind_off _ _ (mem X0 T0 N0 J0 L0 H0 S2) _ (c.at.ensures) (c.if-at.false)) (s_kind {a = (mem X0 T0 N0 J0 L0 H0 S2)} {e = (mem X0 T0 N0 J0 L13 H11 S13)} (s_false {a = (mem X0 T0 N0 J0 L0 H0 S2)} {e = (mem X0 T0 N0 J0 L13 H11 S13)} _ _ (kind_off _ _ (mem X0 T0 N0 J0 L0 H0 S2) _ (c.at_n.ensures) (c.if-at_n.false)) (s_eats _ _ {x = X0} {t = T0} {n = N0} {j = J0} {l = L0} {h = H0} {l' = L7} {s = S2} {s' = S8} {e = (mem X0 T0 N0 J0 L13 H11 S13)} _ {h' = H7} (eats_settled (c.either-s2.ensures) (c.eat_name_star-name.ensures)) (s_by {a = (mem X0 T0 N0 J0 L7 H7 S8)} {c = (mem X0 T0 N0 J0 L9 H9 S10)} {e = (mem X0 T0 N0 J0 L13 H11 S13)} _ (settled (c.either-s3-2.ensures) (runs_in {a = (mem X0 T0 N0 J0 L7 H7 S8)} {c = (mem X0 T0 N0 J0 L9 H9 S9)} (c.ty_annotation-ty.ensures))) (s_by {a = (mem X0 T0 N0 J0 L9 H9 S10)} {c = (mem X0 T0 N0 J0 L11 H11 S12)} {e = (mem X0 T0 N0 J0 L13 H11 S13)} _ (settled (c.either-s4.ensures) (runs_in {a = (mem X0 T0 N0 J0 L9 H9 S10)} {c = (mem X0 T0 N0 J0 L11 H11 S11)} (c.as_pat_tl-more.ensures))) (s_close {e = (mem X0 T0 N0 J0 L13 H11 S13)} {x = X0} {t = T0} {n = N0} {j = J0} {l = L11} {h = H11} {s = S12} {s' = S13} {l' = L13} (c.close_node-2.ensures) s_end)))))))))
 
-pub row_item-refuse-requires : goal.row_item-refuse-requires
-row_item-refuse-requires t c =
+pub row_item-refuse_for-requires : goal.row_item-refuse_for-requires
+row_item-refuse_for-requires t c =
     tt
 
 pub row_item-returns-then-left-eq0 : goal.row_item-returns-then-left-eq0
@@ -1947,8 +1947,8 @@ row_item-returns-then-left-eq0 t c =
     let L0 = c.args.scratch.now in
     let H0 = c.args.finds.now in
     let S0 = c.args.s in
-    let S2 = c.refuse.result in
-    by_steps {m = (mem X0 T0 N0 J0 L0 H0 S0)} {m' = (mem X0 T0 N0 J0 L0 H0 S2)} (c.requires) (λ b. s_shut (c.if-left-eq0.true) (c.refuse.ensures) (λ k l. refl))
+    let S2 = c.refuse_for.result in
+    by_steps {m = (mem X0 T0 N0 J0 L0 H0 S0)} {m' = (mem X0 T0 N0 J0 L0 H0 S2)} (c.requires) (λ b. s_shut (c.if-left-eq0.true) (c.refuse_for.ensures) (λ k l. refl))
 
 pub row_item-mark-s1-requires : goal.row_item-mark-s1-requires
 row_item-mark-s1-requires t c =
@@ -1973,8 +1973,8 @@ row_item-bump-s3-requires t c =
     let row_ok = row.ok in
     (row_ok.reads, row_ok.logs)
 
-pub row_item-close-requires : goal.row_item-close-requires
-row_item-close-requires t c =
+pub row_item-close_node-requires : goal.row_item-close_node-requires
+row_item-close_node-requires t c =
     let pre0 = c.requires in
     let mark = c.mark-s1.ensures in
     let mark_ok = ok_marks mark pre0 in
@@ -2000,12 +2000,12 @@ row_item-returns-then-at t c =
     let S3 = c.row-s2.result in
     let L6 = c.bump-s3.new.scratch in
     let S6 = c.bump-s3.result in
-    let L7 = c.close.new.scratch in
-    let S7 = c.close.result in
-    by_steps {m = (mem X0 T0 N0 J0 L0 H0 S0)} {m' = (mem X0 T0 N0 J0 L7 H3 S7)} (c.requires) (λ b. s_mark {e = (mem X0 T0 N0 J0 L7 H3 S7)} {x = X0} {t = T0} {n = N0} {j = J0} {l = L0} {h = H0} {s = S0} {s' = S2} (c.if-left-eq0.false) (c.mark-s1.ensures) (s_by {a = (mem X0 T0 N0 J0 L0 H0 S2)} {c = (mem X0 T0 N0 J0 L3 H3 S3)} {e = (mem X0 T0 N0 J0 L7 H3 S7)} _ (runs_in {a = (mem X0 T0 N0 J0 L0 H0 S2)} {c = (mem X0 T0 N0 J0 L3 H3 S3)} (c.row-s2.ensures)) (s_kind {a = (mem X0 T0 N0 J0 L3 H3 S3)} {e = (mem X0 T0 N0 J0 L7 H3 S7)} (s_true {a = (mem X0 T0 N0 J0 L3 H3 S3)} {e = (mem X0 T0 N0 J0 L7 H3 S7)} _ _ (kind_at _ _ (mem X0 T0 N0 J0 L3 H3 S3) _ (c.at.ensures) (c.if-at.true)) (s_bump {e = (mem X0 T0 N0 J0 L7 H3 S7)} {x = X0} {t = T0} {n = N0} {j = J0} {l = L3} {h = H3} {s = S3} {s' = S6} {l' = L6} (c.bump-s3.ensures) (s_close {e = (mem X0 T0 N0 J0 L7 H3 S7)} {x = X0} {t = T0} {n = N0} {j = J0} {l = L6} {h = H3} {s = S6} {s' = S7} {l' = L7} (c.close.ensures) s_end))))))
+    let L7 = c.close_node.new.scratch in
+    let S7 = c.close_node.result in
+    by_steps {m = (mem X0 T0 N0 J0 L0 H0 S0)} {m' = (mem X0 T0 N0 J0 L7 H3 S7)} (c.requires) (λ b. s_mark {e = (mem X0 T0 N0 J0 L7 H3 S7)} {x = X0} {t = T0} {n = N0} {j = J0} {l = L0} {h = H0} {s = S0} {s' = S2} (c.if-left-eq0.false) (c.mark-s1.ensures) (s_by {a = (mem X0 T0 N0 J0 L0 H0 S2)} {c = (mem X0 T0 N0 J0 L3 H3 S3)} {e = (mem X0 T0 N0 J0 L7 H3 S7)} _ (runs_in {a = (mem X0 T0 N0 J0 L0 H0 S2)} {c = (mem X0 T0 N0 J0 L3 H3 S3)} (c.row-s2.ensures)) (s_kind {a = (mem X0 T0 N0 J0 L3 H3 S3)} {e = (mem X0 T0 N0 J0 L7 H3 S7)} (s_true {a = (mem X0 T0 N0 J0 L3 H3 S3)} {e = (mem X0 T0 N0 J0 L7 H3 S7)} _ _ (kind_at _ _ (mem X0 T0 N0 J0 L3 H3 S3) _ (c.at.ensures) (c.if-at.true)) (s_bump {e = (mem X0 T0 N0 J0 L7 H3 S7)} {x = X0} {t = T0} {n = N0} {j = J0} {l = L3} {h = H3} {s = S3} {s' = S6} {l' = L6} (c.bump-s3.ensures) (s_close {e = (mem X0 T0 N0 J0 L7 H3 S7)} {x = X0} {t = T0} {n = N0} {j = J0} {l = L6} {h = H3} {s = S6} {s' = S7} {l' = L7} (c.close_node.ensures) s_end))))))
 
-pub row_item-close-requires-2 : goal.row_item-close-requires-2
-row_item-close-requires-2 t c =
+pub row_item-close_node-requires-2 : goal.row_item-close_node-requires-2
+row_item-close_node-requires-2 t c =
     let pre0 = c.requires in
     let mark = c.mark-s1.ensures in
     let mark_ok = ok_marks mark pre0 in
@@ -2027,9 +2027,9 @@ row_item-returns t c =
     let L3 = c.row-s2.new.scratch in
     let H3 = c.row-s2.new.finds in
     let S3 = c.row-s2.result in
-    let L6 = c.close-2.new.scratch in
-    let S6 = c.close-2.result in
-    by_steps {m = (mem X0 T0 N0 J0 L0 H0 S0)} {m' = (mem X0 T0 N0 J0 L6 H3 S6)} (c.requires) (λ b. s_mark {e = (mem X0 T0 N0 J0 L6 H3 S6)} {x = X0} {t = T0} {n = N0} {j = J0} {l = L0} {h = H0} {s = S0} {s' = S2} (c.if-left-eq0.false) (c.mark-s1.ensures) (s_by {a = (mem X0 T0 N0 J0 L0 H0 S2)} {c = (mem X0 T0 N0 J0 L3 H3 S3)} {e = (mem X0 T0 N0 J0 L6 H3 S6)} _ (runs_in {a = (mem X0 T0 N0 J0 L0 H0 S2)} {c = (mem X0 T0 N0 J0 L3 H3 S3)} (c.row-s2.ensures)) (s_kind {a = (mem X0 T0 N0 J0 L3 H3 S3)} {e = (mem X0 T0 N0 J0 L6 H3 S6)} (s_false {a = (mem X0 T0 N0 J0 L3 H3 S3)} {e = (mem X0 T0 N0 J0 L6 H3 S6)} _ _ (kind_off _ _ (mem X0 T0 N0 J0 L3 H3 S3) _ (c.at.ensures) (c.if-at.false)) (s_close {e = (mem X0 T0 N0 J0 L6 H3 S6)} {x = X0} {t = T0} {n = N0} {j = J0} {l = L3} {h = H3} {s = S3} {s' = S6} {l' = L6} (c.close-2.ensures) s_end)))))
+    let L6 = c.close_node-2.new.scratch in
+    let S6 = c.close_node-2.result in
+    by_steps {m = (mem X0 T0 N0 J0 L0 H0 S0)} {m' = (mem X0 T0 N0 J0 L6 H3 S6)} (c.requires) (λ b. s_mark {e = (mem X0 T0 N0 J0 L6 H3 S6)} {x = X0} {t = T0} {n = N0} {j = J0} {l = L0} {h = H0} {s = S0} {s' = S2} (c.if-left-eq0.false) (c.mark-s1.ensures) (s_by {a = (mem X0 T0 N0 J0 L0 H0 S2)} {c = (mem X0 T0 N0 J0 L3 H3 S3)} {e = (mem X0 T0 N0 J0 L6 H3 S6)} _ (runs_in {a = (mem X0 T0 N0 J0 L0 H0 S2)} {c = (mem X0 T0 N0 J0 L3 H3 S3)} (c.row-s2.ensures)) (s_kind {a = (mem X0 T0 N0 J0 L3 H3 S3)} {e = (mem X0 T0 N0 J0 L6 H3 S6)} (s_false {a = (mem X0 T0 N0 J0 L3 H3 S3)} {e = (mem X0 T0 N0 J0 L6 H3 S6)} _ _ (kind_off _ _ (mem X0 T0 N0 J0 L3 H3 S3) _ (c.at.ensures) (c.if-at.false)) (s_close {e = (mem X0 T0 N0 J0 L6 H3 S6)} {x = X0} {t = T0} {n = N0} {j = J0} {l = L3} {h = H3} {s = S3} {s' = S6} {l' = L6} (c.close_node-2.ensures) s_end)))))
 
 pub row_turn-at-requires : goal.row_turn-at-requires
 row_turn-at-requires t c =
@@ -2280,8 +2280,8 @@ tail-returns-in-Err t c =
     let step = c.in-Err.ensures in
     loop_ends (pat_step_advances _ _ _ _) inv step
 
-pub vector-refuse-requires : goal.vector-refuse-requires
-vector-refuse-requires t c =
+pub vector-refuse_for-requires : goal.vector-refuse_for-requires
+vector-refuse_for-requires t c =
     tt
 
 pub vector-returns-then-left-eq0 : goal.vector-returns-then-left-eq0
@@ -2294,8 +2294,8 @@ vector-returns-then-left-eq0 t c =
     let L0 = c.args.scratch.now in
     let H0 = c.args.finds.now in
     let S0 = c.args.s in
-    let S2 = c.refuse.result in
-    by_steps {m = (mem X0 T0 N0 J0 L0 H0 S0)} {m' = (mem X0 T0 N0 J0 L0 H0 S2)} (c.requires) (λ b. s_shut (c.if-left-eq0.true) (c.refuse.ensures) (λ k l. refl))
+    let S2 = c.refuse_for.result in
+    by_steps {m = (mem X0 T0 N0 J0 L0 H0 S0)} {m' = (mem X0 T0 N0 J0 L0 H0 S2)} (c.requires) (λ b. s_shut (c.if-left-eq0.true) (c.refuse_for.ensures) (λ k l. refl))
 
 pub vector-mark-s1-requires : goal.vector-mark-s1-requires
 vector-mark-s1-requires t c =
@@ -2323,8 +2323,8 @@ vector-args-s3-requires t c =
     let either_ok = ok_state either eat_ok in
     (omega arith, (either_ok, omega arith))
 
-pub vector-close-requires : goal.vector-close-requires
-vector-close-requires t c =
+pub vector-close_node-requires : goal.vector-close_node-requires
+vector-close_node-requires t c =
     let pre0 = c.requires in
     let mark = c.mark-s1.ensures in
     let mark_ok = ok_marks mark pre0 in
@@ -2349,6 +2349,6 @@ vector-returns t c =
     let L5 = c.args-s3.new.scratch in
     let H5 = c.args-s3.new.finds in
     let S5 = c.args-s3.result in
-    let L6 = c.close.new.scratch in
-    let S6 = c.close.result in
-    by_steps {m = (mem X0 T0 N0 J0 L0 H0 S0)} {m' = (mem X0 T0 N0 J0 L6 H5 S6)} (c.requires) (λ b. s_mark {e = (mem X0 T0 N0 J0 L6 H5 S6)} {x = X0} {t = T0} {n = N0} {j = J0} {l = L0} {h = H0} {s = S0} {s' = S2} (c.if-left-eq0.false) (c.mark-s1.ensures) (s_eats _ _ {x = X0} {t = T0} {n = N0} {j = J0} {l = L0} {h = H0} {l' = L3} {s = S2} {s' = S4} {e = (mem X0 T0 N0 J0 L6 H5 S6)} _ {h' = H3} (eats_settled (c.either-s2.ensures) (c.eat-got.ensures)) (s_run {a = (mem X0 T0 N0 J0 L3 H3 S4)} {c = (mem X0 T0 N0 J0 L5 H5 S5)} {e = (mem X0 T0 N0 J0 L6 H5 S6)} (c.args-s3.ensures) (s_close {e = (mem X0 T0 N0 J0 L6 H5 S6)} {x = X0} {t = T0} {n = N0} {j = J0} {l = L5} {h = H5} {s = S5} {s' = S6} {l' = L6} (c.close.ensures) s_end))))
+    let L6 = c.close_node.new.scratch in
+    let S6 = c.close_node.result in
+    by_steps {m = (mem X0 T0 N0 J0 L0 H0 S0)} {m' = (mem X0 T0 N0 J0 L6 H5 S6)} (c.requires) (λ b. s_mark {e = (mem X0 T0 N0 J0 L6 H5 S6)} {x = X0} {t = T0} {n = N0} {j = J0} {l = L0} {h = H0} {s = S0} {s' = S2} (c.if-left-eq0.false) (c.mark-s1.ensures) (s_eats _ _ {x = X0} {t = T0} {n = N0} {j = J0} {l = L0} {h = H0} {l' = L3} {s = S2} {s' = S4} {e = (mem X0 T0 N0 J0 L6 H5 S6)} _ {h' = H3} (eats_settled (c.either-s2.ensures) (c.eat-got.ensures)) (s_run {a = (mem X0 T0 N0 J0 L3 H3 S4)} {c = (mem X0 T0 N0 J0 L5 H5 S5)} {e = (mem X0 T0 N0 J0 L6 H5 S6)} (c.args-s3.ensures) (s_close {e = (mem X0 T0 N0 J0 L6 H5 S6)} {x = X0} {t = T0} {n = N0} {j = J0} {l = L5} {h = H5} {s = S5} {s' = S6} {l' = L6} (c.close_node.ensures) s_end))))

@@ -10,15 +10,15 @@ should_break_pat-ends-requires c =
     let pre0 = c.requires.0 in
     pre0
 
-pub close-requires : goal.close-requires
-close-requires c =
+pub close_node-requires : goal.close_node-requires
+close_node-requires c =
     let pre1 = c.requires.1 in
     let should_break_pat = c.in-Ok.ensures in
     let should_break_pat_ok = (should_break_pat true).ok in
     (should_break_pat_ok.logs, pre1)
 
-pub close-requires-in-Err : goal.close-requires-in-Err
-close-requires-in-Err c =
+pub close_node-requires-in-Err : goal.close_node-requires-in-Err
+close_node-requires-in-Err c =
     let pre1 = c.requires.1 in
     let should_break_pat = c.in-Err.ensures in
     let should_break_pat_ok = (should_break_pat true).ok in
@@ -29,13 +29,13 @@ unfolding pat.con_op plan choose chosen
 returns-in-Ok c =
     let pre0 = c.requires.0 in
     let should_break_pat = c.in-Ok.ensures in
-    let close = c.close.ensures in
-    in_steps pre0 (s_by _ (runs_always (should_break_pat _)) (s_close close s_end))
+    let close_node = c.close_node.ensures in
+    in_steps pre0 (s_by _ (runs_always (should_break_pat _)) (s_close close_node s_end))
 
 pub returns-in-Err : goal.returns-in-Err
 unfolding pat.con_op plan choose chosen
 returns-in-Err c =
     let pre0 = c.requires.0 in
     let should_break_pat = c.in-Err.ensures in
-    let close2 = c.close-in-Err.ensures in
-    in_steps pre0 (s_by _ (runs_always (should_break_pat _)) (s_close close2 s_end))
+    let close_node2 = c.close_node-in-Err.ensures in
+    in_steps pre0 (s_by _ (runs_always (should_break_pat _)) (s_close close_node2 s_end))

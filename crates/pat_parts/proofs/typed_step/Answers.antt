@@ -17,8 +17,8 @@ returns-then-is_infix c =
     let if1 = c.if-is_infix.true in
     in_steps pre0 (s_true _ _ (test_true is_infix if1) s_end)
 
-pub refuse-requires : goal.refuse-requires
-refuse-requires c =
+pub refuse_for-requires : goal.refuse_for-requires
+refuse_for-requires c =
     tt
 
 pub returns-then-left-eq0 : goal.returns-then-left-eq0
@@ -28,8 +28,8 @@ returns-then-left-eq0 c =
     let is_infix = c.is_infix.ensures in
     let if1 = c.if-is_infix.false in
     let if2 = c.if-left-eq0.true in
-    let refuse = c.refuse.ensures in
-    in_steps pre0 (s_false _ _ (test_false is_infix if1) (s_shut if2 refuse (λ k l. refl)))
+    let refuse_for = c.refuse_for.ensures in
+    in_steps pre0 (s_false _ _ (test_false is_infix if1) (s_shut if2 refuse_for (λ k l. refl)))
 
 pub mark-requires : goal.mark-requires
 mark-requires c =
@@ -51,8 +51,8 @@ ty_must-s2-requires c =
     let bump_ok = ok_bumps bump mark_ok in
     bump_ok
 
-pub close-requires : goal.close-requires
-close-requires c =
+pub close_node-requires : goal.close_node-requires
+close_node-requires c =
     let pre1 = c.requires.1 in
     let ty_must = c.ty_must-s2.ensures in
     let ty_must_ok = ty_must.ok in
@@ -68,5 +68,5 @@ returns c =
     let mark = c.mark.ensures in
     let bump = c.bump-s1.ensures in
     let ty_must = c.ty_must-s2.ensures in
-    let close = c.close.ensures in
-    in_steps pre0 (s_false _ _ (test_false is_infix if1) (s_mark if2 mark (s_bump bump (s_by _ (runs_in ty_must) (s_close close s_end)))))
+    let close_node = c.close_node.ensures in
+    in_steps pre0 (s_false _ _ (test_false is_infix if1) (s_mark if2 mark (s_bump bump (s_by _ (runs_in ty_must) (s_close close_node s_end)))))

@@ -38,4 +38,4 @@ returns-in-Ok c =
 pub returns-in-Err : goal.returns-in-Err
 returns-in-Err c =
     let h = rw (c.length_of-len.ensures, c.start_of-start.ensures) at c.in-Err.ensures in
-    takes_refused (fixity_of c.args.f) c.requires c.if-is_refused.ensures c.if-s.false (did (goal.at.returns-in-Err c).After-bump-r) c.if-is_refused-2.ensures h c.refuse.ensures
+    takes_refused (fixity_of c.args.f) c.requires c.if-is_refused.ensures c.if-s.false (did (goal.at.returns-in-Err c).After-bump-r) c.if-is_refused-2.ensures h c.refuse_for.ensures

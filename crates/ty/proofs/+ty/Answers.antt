@@ -11,8 +11,8 @@ use mathlib.Core.Path.{refl}
 use mathlib.Core.Bool.{true}
 use Rattle.ty.proofs.+ty.Goals as goal
 
-pub arg_item-refuse-requires : goal.arg_item-refuse-requires
-arg_item-refuse-requires t c =
+pub arg_item-refuse_for-requires : goal.arg_item-refuse_for-requires
+arg_item-refuse_for-requires t c =
     tt
 
 pub arg_item-returns-then-left-eq0 : goal.arg_item-returns-then-left-eq0
@@ -25,8 +25,8 @@ arg_item-returns-then-left-eq0 t c =
     let L0 = c.args.scratch.now in
     let H0 = c.args.finds.now in
     let S0 = c.args.s in
-    let S2 = c.refuse.result in
-    by_steps {m = (mem X0 T0 N0 J0 L0 H0 S0)} {m' = (mem X0 T0 N0 J0 L0 H0 S2)} (c.requires) (λ b. s_shut (c.if-left-eq0.true) (c.refuse.ensures) (λ k l. refl))
+    let S2 = c.refuse_for.result in
+    by_steps {m = (mem X0 T0 N0 J0 L0 H0 S0)} {m' = (mem X0 T0 N0 J0 L0 H0 S2)} (c.requires) (λ b. s_shut (c.if-left-eq0.true) (c.refuse_for.ensures) (λ k l. refl))
 
 pub arg_item-mark-s1-requires : goal.arg_item-mark-s1-requires
 arg_item-mark-s1-requires t c =
@@ -51,8 +51,8 @@ arg_item-bump-s3-requires t c =
     let ty_must_ok = ty_must.ok in
     (ty_must_ok.reads, ty_must_ok.logs)
 
-pub arg_item-close-requires : goal.arg_item-close-requires
-arg_item-close-requires t c =
+pub arg_item-close_node-requires : goal.arg_item-close_node-requires
+arg_item-close_node-requires t c =
     let pre0 = c.requires in
     let mark = c.mark-s1.ensures in
     let mark_ok = ok_marks mark pre0 in
@@ -78,12 +78,12 @@ arg_item-returns-then-at t c =
     let S3 = c.ty_must-s2.result in
     let L6 = c.bump-s3.new.scratch in
     let S6 = c.bump-s3.result in
-    let L7 = c.close.new.scratch in
-    let S7 = c.close.result in
-    by_steps {m = (mem X0 T0 N0 J0 L0 H0 S0)} {m' = (mem X0 T0 N0 J0 L7 H3 S7)} (c.requires) (λ b. s_mark {e = (mem X0 T0 N0 J0 L7 H3 S7)} {x = X0} {t = T0} {n = N0} {j = J0} {l = L0} {h = H0} {s = S0} {s' = S2} (c.if-left-eq0.false) (c.mark-s1.ensures) (s_by {a = (mem X0 T0 N0 J0 L0 H0 S2)} {c = (mem X0 T0 N0 J0 L3 H3 S3)} {e = (mem X0 T0 N0 J0 L7 H3 S7)} _ (runs_in {a = (mem X0 T0 N0 J0 L0 H0 S2)} {c = (mem X0 T0 N0 J0 L3 H3 S3)} (c.ty_must-s2.ensures)) (s_kind {a = (mem X0 T0 N0 J0 L3 H3 S3)} {e = (mem X0 T0 N0 J0 L7 H3 S7)} (s_true {a = (mem X0 T0 N0 J0 L3 H3 S3)} {e = (mem X0 T0 N0 J0 L7 H3 S7)} _ _ (kind_at _ _ (mem X0 T0 N0 J0 L3 H3 S3) _ (c.at.ensures) (c.if-at.true)) (s_bump {e = (mem X0 T0 N0 J0 L7 H3 S7)} {x = X0} {t = T0} {n = N0} {j = J0} {l = L3} {h = H3} {s = S3} {s' = S6} {l' = L6} (c.bump-s3.ensures) (s_close {e = (mem X0 T0 N0 J0 L7 H3 S7)} {x = X0} {t = T0} {n = N0} {j = J0} {l = L6} {h = H3} {s = S6} {s' = S7} {l' = L7} (c.close.ensures) s_end))))))
+    let L7 = c.close_node.new.scratch in
+    let S7 = c.close_node.result in
+    by_steps {m = (mem X0 T0 N0 J0 L0 H0 S0)} {m' = (mem X0 T0 N0 J0 L7 H3 S7)} (c.requires) (λ b. s_mark {e = (mem X0 T0 N0 J0 L7 H3 S7)} {x = X0} {t = T0} {n = N0} {j = J0} {l = L0} {h = H0} {s = S0} {s' = S2} (c.if-left-eq0.false) (c.mark-s1.ensures) (s_by {a = (mem X0 T0 N0 J0 L0 H0 S2)} {c = (mem X0 T0 N0 J0 L3 H3 S3)} {e = (mem X0 T0 N0 J0 L7 H3 S7)} _ (runs_in {a = (mem X0 T0 N0 J0 L0 H0 S2)} {c = (mem X0 T0 N0 J0 L3 H3 S3)} (c.ty_must-s2.ensures)) (s_kind {a = (mem X0 T0 N0 J0 L3 H3 S3)} {e = (mem X0 T0 N0 J0 L7 H3 S7)} (s_true {a = (mem X0 T0 N0 J0 L3 H3 S3)} {e = (mem X0 T0 N0 J0 L7 H3 S7)} _ _ (kind_at _ _ (mem X0 T0 N0 J0 L3 H3 S3) _ (c.at.ensures) (c.if-at.true)) (s_bump {e = (mem X0 T0 N0 J0 L7 H3 S7)} {x = X0} {t = T0} {n = N0} {j = J0} {l = L3} {h = H3} {s = S3} {s' = S6} {l' = L6} (c.bump-s3.ensures) (s_close {e = (mem X0 T0 N0 J0 L7 H3 S7)} {x = X0} {t = T0} {n = N0} {j = J0} {l = L6} {h = H3} {s = S6} {s' = S7} {l' = L7} (c.close_node.ensures) s_end))))))
 
-pub arg_item-close-requires-2 : goal.arg_item-close-requires-2
-arg_item-close-requires-2 t c =
+pub arg_item-close_node-requires-2 : goal.arg_item-close_node-requires-2
+arg_item-close_node-requires-2 t c =
     let pre0 = c.requires in
     let mark = c.mark-s1.ensures in
     let mark_ok = ok_marks mark pre0 in
@@ -105,9 +105,9 @@ arg_item-returns t c =
     let L3 = c.ty_must-s2.new.scratch in
     let H3 = c.ty_must-s2.new.finds in
     let S3 = c.ty_must-s2.result in
-    let L6 = c.close-2.new.scratch in
-    let S6 = c.close-2.result in
-    by_steps {m = (mem X0 T0 N0 J0 L0 H0 S0)} {m' = (mem X0 T0 N0 J0 L6 H3 S6)} (c.requires) (λ b. s_mark {e = (mem X0 T0 N0 J0 L6 H3 S6)} {x = X0} {t = T0} {n = N0} {j = J0} {l = L0} {h = H0} {s = S0} {s' = S2} (c.if-left-eq0.false) (c.mark-s1.ensures) (s_by {a = (mem X0 T0 N0 J0 L0 H0 S2)} {c = (mem X0 T0 N0 J0 L3 H3 S3)} {e = (mem X0 T0 N0 J0 L6 H3 S6)} _ (runs_in {a = (mem X0 T0 N0 J0 L0 H0 S2)} {c = (mem X0 T0 N0 J0 L3 H3 S3)} (c.ty_must-s2.ensures)) (s_kind {a = (mem X0 T0 N0 J0 L3 H3 S3)} {e = (mem X0 T0 N0 J0 L6 H3 S6)} (s_false {a = (mem X0 T0 N0 J0 L3 H3 S3)} {e = (mem X0 T0 N0 J0 L6 H3 S6)} _ _ (kind_off _ _ (mem X0 T0 N0 J0 L3 H3 S3) _ (c.at.ensures) (c.if-at.false)) (s_close {e = (mem X0 T0 N0 J0 L6 H3 S6)} {x = X0} {t = T0} {n = N0} {j = J0} {l = L3} {h = H3} {s = S3} {s' = S6} {l' = L6} (c.close-2.ensures) s_end)))))
+    let L6 = c.close_node-2.new.scratch in
+    let S6 = c.close_node-2.result in
+    by_steps {m = (mem X0 T0 N0 J0 L0 H0 S0)} {m' = (mem X0 T0 N0 J0 L6 H3 S6)} (c.requires) (λ b. s_mark {e = (mem X0 T0 N0 J0 L6 H3 S6)} {x = X0} {t = T0} {n = N0} {j = J0} {l = L0} {h = H0} {s = S0} {s' = S2} (c.if-left-eq0.false) (c.mark-s1.ensures) (s_by {a = (mem X0 T0 N0 J0 L0 H0 S2)} {c = (mem X0 T0 N0 J0 L3 H3 S3)} {e = (mem X0 T0 N0 J0 L6 H3 S6)} _ (runs_in {a = (mem X0 T0 N0 J0 L0 H0 S2)} {c = (mem X0 T0 N0 J0 L3 H3 S3)} (c.ty_must-s2.ensures)) (s_kind {a = (mem X0 T0 N0 J0 L3 H3 S3)} {e = (mem X0 T0 N0 J0 L6 H3 S6)} (s_false {a = (mem X0 T0 N0 J0 L3 H3 S3)} {e = (mem X0 T0 N0 J0 L6 H3 S6)} _ _ (kind_off _ _ (mem X0 T0 N0 J0 L3 H3 S3) _ (c.at.ensures) (c.if-at.false)) (s_close {e = (mem X0 T0 N0 J0 L6 H3 S6)} {x = X0} {t = T0} {n = N0} {j = J0} {l = L3} {h = H3} {s = S3} {s' = S6} {l' = L6} (c.close_node-2.ensures) s_end)))))
 
 pub arg_turn-at-requires : goal.arg_turn-at-requires
 arg_turn-at-requires t c =
@@ -181,8 +181,8 @@ arg_turn-returns-in-Err t c =
     let S5 = c.either-s2.result in
     by_steps {m = (mem X0 T0 N0 J0 L0 H0 S0)} {m' = (mem X0 T0 N0 J0 L4 H4 S5)} (c.requires) (λ b. s_kind {a = (mem X0 T0 N0 J0 L0 H0 S0)} {e = (mem X0 T0 N0 J0 L4 H4 S5)} (s_false {a = (mem X0 T0 N0 J0 L0 H0 S0)} {e = (mem X0 T0 N0 J0 L4 H4 S5)} _ _ (kind_off _ _ (mem X0 T0 N0 J0 L0 H0 S0) _ (c.at.ensures) (c.if-at.false)) (s_by {a = (mem X0 T0 N0 J0 L0 H0 S0)} {c = (mem X0 T0 N0 J0 L3 H3 S3)} {e = (mem X0 T0 N0 J0 L4 H4 S5)} _ (runs_in {a = (mem X0 T0 N0 J0 L0 H0 S0)} {c = (mem X0 T0 N0 J0 L3 H3 S3)} (c.in-Err.ensures)) (s_eats _ _ {x = X0} {t = T0} {n = N0} {j = J0} {l = L3} {h = H3} {l' = L4} {s = S3} {s' = S5} {e = (mem X0 T0 N0 J0 L4 H4 S5)} _ {h' = H4} (eats_settled (c.either-s2.ensures) (c.eat-got.ensures)) s_end))))
 
-pub row_item-refuse-requires : goal.row_item-refuse-requires
-row_item-refuse-requires t c =
+pub row_item-refuse_for-requires : goal.row_item-refuse_for-requires
+row_item-refuse_for-requires t c =
     tt
 
 pub row_item-returns-then-left-eq0 : goal.row_item-returns-then-left-eq0
@@ -195,8 +195,8 @@ row_item-returns-then-left-eq0 t c =
     let L0 = c.args.scratch.now in
     let H0 = c.args.finds.now in
     let S0 = c.args.s in
-    let S2 = c.refuse.result in
-    by_steps {m = (mem X0 T0 N0 J0 L0 H0 S0)} {m' = (mem X0 T0 N0 J0 L0 H0 S2)} (c.requires) (λ b. s_shut (c.if-left-eq0.true) (c.refuse.ensures) (λ k l. refl))
+    let S2 = c.refuse_for.result in
+    by_steps {m = (mem X0 T0 N0 J0 L0 H0 S0)} {m' = (mem X0 T0 N0 J0 L0 H0 S2)} (c.requires) (λ b. s_shut (c.if-left-eq0.true) (c.refuse_for.ensures) (λ k l. refl))
 
 pub row_item-mark-s1-requires : goal.row_item-mark-s1-requires
 row_item-mark-s1-requires t c =
@@ -221,8 +221,8 @@ row_item-bump-s3-requires t c =
     let ty_row_ok = ty_row.ok in
     (ty_row_ok.reads, ty_row_ok.logs)
 
-pub row_item-close-requires : goal.row_item-close-requires
-row_item-close-requires t c =
+pub row_item-close_node-requires : goal.row_item-close_node-requires
+row_item-close_node-requires t c =
     let pre0 = c.requires in
     let mark = c.mark-s1.ensures in
     let mark_ok = ok_marks mark pre0 in
@@ -248,12 +248,12 @@ row_item-returns-then-at t c =
     let S3 = c.ty_row-s2.result in
     let L6 = c.bump-s3.new.scratch in
     let S6 = c.bump-s3.result in
-    let L7 = c.close.new.scratch in
-    let S7 = c.close.result in
-    by_steps {m = (mem X0 T0 N0 J0 L0 H0 S0)} {m' = (mem X0 T0 N0 J0 L7 H3 S7)} (c.requires) (λ b. s_mark {e = (mem X0 T0 N0 J0 L7 H3 S7)} {x = X0} {t = T0} {n = N0} {j = J0} {l = L0} {h = H0} {s = S0} {s' = S2} (c.if-left-eq0.false) (c.mark-s1.ensures) (s_by {a = (mem X0 T0 N0 J0 L0 H0 S2)} {c = (mem X0 T0 N0 J0 L3 H3 S3)} {e = (mem X0 T0 N0 J0 L7 H3 S7)} _ (runs_in {a = (mem X0 T0 N0 J0 L0 H0 S2)} {c = (mem X0 T0 N0 J0 L3 H3 S3)} (c.ty_row-s2.ensures)) (s_kind {a = (mem X0 T0 N0 J0 L3 H3 S3)} {e = (mem X0 T0 N0 J0 L7 H3 S7)} (s_true {a = (mem X0 T0 N0 J0 L3 H3 S3)} {e = (mem X0 T0 N0 J0 L7 H3 S7)} _ _ (kind_at _ _ (mem X0 T0 N0 J0 L3 H3 S3) _ (c.at.ensures) (c.if-at.true)) (s_bump {e = (mem X0 T0 N0 J0 L7 H3 S7)} {x = X0} {t = T0} {n = N0} {j = J0} {l = L3} {h = H3} {s = S3} {s' = S6} {l' = L6} (c.bump-s3.ensures) (s_close {e = (mem X0 T0 N0 J0 L7 H3 S7)} {x = X0} {t = T0} {n = N0} {j = J0} {l = L6} {h = H3} {s = S6} {s' = S7} {l' = L7} (c.close.ensures) s_end))))))
+    let L7 = c.close_node.new.scratch in
+    let S7 = c.close_node.result in
+    by_steps {m = (mem X0 T0 N0 J0 L0 H0 S0)} {m' = (mem X0 T0 N0 J0 L7 H3 S7)} (c.requires) (λ b. s_mark {e = (mem X0 T0 N0 J0 L7 H3 S7)} {x = X0} {t = T0} {n = N0} {j = J0} {l = L0} {h = H0} {s = S0} {s' = S2} (c.if-left-eq0.false) (c.mark-s1.ensures) (s_by {a = (mem X0 T0 N0 J0 L0 H0 S2)} {c = (mem X0 T0 N0 J0 L3 H3 S3)} {e = (mem X0 T0 N0 J0 L7 H3 S7)} _ (runs_in {a = (mem X0 T0 N0 J0 L0 H0 S2)} {c = (mem X0 T0 N0 J0 L3 H3 S3)} (c.ty_row-s2.ensures)) (s_kind {a = (mem X0 T0 N0 J0 L3 H3 S3)} {e = (mem X0 T0 N0 J0 L7 H3 S7)} (s_true {a = (mem X0 T0 N0 J0 L3 H3 S3)} {e = (mem X0 T0 N0 J0 L7 H3 S7)} _ _ (kind_at _ _ (mem X0 T0 N0 J0 L3 H3 S3) _ (c.at.ensures) (c.if-at.true)) (s_bump {e = (mem X0 T0 N0 J0 L7 H3 S7)} {x = X0} {t = T0} {n = N0} {j = J0} {l = L3} {h = H3} {s = S3} {s' = S6} {l' = L6} (c.bump-s3.ensures) (s_close {e = (mem X0 T0 N0 J0 L7 H3 S7)} {x = X0} {t = T0} {n = N0} {j = J0} {l = L6} {h = H3} {s = S6} {s' = S7} {l' = L7} (c.close_node.ensures) s_end))))))
 
-pub row_item-close-requires-2 : goal.row_item-close-requires-2
-row_item-close-requires-2 t c =
+pub row_item-close_node-requires-2 : goal.row_item-close_node-requires-2
+row_item-close_node-requires-2 t c =
     let pre0 = c.requires in
     let mark = c.mark-s1.ensures in
     let mark_ok = ok_marks mark pre0 in
@@ -275,9 +275,9 @@ row_item-returns t c =
     let L3 = c.ty_row-s2.new.scratch in
     let H3 = c.ty_row-s2.new.finds in
     let S3 = c.ty_row-s2.result in
-    let L6 = c.close-2.new.scratch in
-    let S6 = c.close-2.result in
-    by_steps {m = (mem X0 T0 N0 J0 L0 H0 S0)} {m' = (mem X0 T0 N0 J0 L6 H3 S6)} (c.requires) (λ b. s_mark {e = (mem X0 T0 N0 J0 L6 H3 S6)} {x = X0} {t = T0} {n = N0} {j = J0} {l = L0} {h = H0} {s = S0} {s' = S2} (c.if-left-eq0.false) (c.mark-s1.ensures) (s_by {a = (mem X0 T0 N0 J0 L0 H0 S2)} {c = (mem X0 T0 N0 J0 L3 H3 S3)} {e = (mem X0 T0 N0 J0 L6 H3 S6)} _ (runs_in {a = (mem X0 T0 N0 J0 L0 H0 S2)} {c = (mem X0 T0 N0 J0 L3 H3 S3)} (c.ty_row-s2.ensures)) (s_kind {a = (mem X0 T0 N0 J0 L3 H3 S3)} {e = (mem X0 T0 N0 J0 L6 H3 S6)} (s_false {a = (mem X0 T0 N0 J0 L3 H3 S3)} {e = (mem X0 T0 N0 J0 L6 H3 S6)} _ _ (kind_off _ _ (mem X0 T0 N0 J0 L3 H3 S3) _ (c.at.ensures) (c.if-at.false)) (s_close {e = (mem X0 T0 N0 J0 L6 H3 S6)} {x = X0} {t = T0} {n = N0} {j = J0} {l = L3} {h = H3} {s = S3} {s' = S6} {l' = L6} (c.close-2.ensures) s_end)))))
+    let L6 = c.close_node-2.new.scratch in
+    let S6 = c.close_node-2.result in
+    by_steps {m = (mem X0 T0 N0 J0 L0 H0 S0)} {m' = (mem X0 T0 N0 J0 L6 H3 S6)} (c.requires) (λ b. s_mark {e = (mem X0 T0 N0 J0 L6 H3 S6)} {x = X0} {t = T0} {n = N0} {j = J0} {l = L0} {h = H0} {s = S0} {s' = S2} (c.if-left-eq0.false) (c.mark-s1.ensures) (s_by {a = (mem X0 T0 N0 J0 L0 H0 S2)} {c = (mem X0 T0 N0 J0 L3 H3 S3)} {e = (mem X0 T0 N0 J0 L6 H3 S6)} _ (runs_in {a = (mem X0 T0 N0 J0 L0 H0 S2)} {c = (mem X0 T0 N0 J0 L3 H3 S3)} (c.ty_row-s2.ensures)) (s_kind {a = (mem X0 T0 N0 J0 L3 H3 S3)} {e = (mem X0 T0 N0 J0 L6 H3 S6)} (s_false {a = (mem X0 T0 N0 J0 L3 H3 S3)} {e = (mem X0 T0 N0 J0 L6 H3 S6)} _ _ (kind_off _ _ (mem X0 T0 N0 J0 L3 H3 S3) _ (c.at.ensures) (c.if-at.false)) (s_close {e = (mem X0 T0 N0 J0 L6 H3 S6)} {x = X0} {t = T0} {n = N0} {j = J0} {l = L3} {h = H3} {s = S3} {s' = S6} {l' = L6} (c.close_node-2.ensures) s_end)))))
 
 pub row_turn-at-requires : goal.row_turn-at-requires
 row_turn-at-requires t c =
@@ -351,8 +351,8 @@ row_turn-returns-in-Err t c =
     let S5 = c.either-s2.result in
     by_steps {m = (mem X0 T0 N0 J0 L0 H0 S0)} {m' = (mem X0 T0 N0 J0 L4 H4 S5)} (c.requires) (λ b. s_kind {a = (mem X0 T0 N0 J0 L0 H0 S0)} {e = (mem X0 T0 N0 J0 L4 H4 S5)} (s_false {a = (mem X0 T0 N0 J0 L0 H0 S0)} {e = (mem X0 T0 N0 J0 L4 H4 S5)} _ _ (kind_off _ _ (mem X0 T0 N0 J0 L0 H0 S0) _ (c.at.ensures) (c.if-at.false)) (s_by {a = (mem X0 T0 N0 J0 L0 H0 S0)} {c = (mem X0 T0 N0 J0 L3 H3 S3)} {e = (mem X0 T0 N0 J0 L4 H4 S5)} _ (runs_in {a = (mem X0 T0 N0 J0 L0 H0 S0)} {c = (mem X0 T0 N0 J0 L3 H3 S3)} (c.in-Err.ensures)) (s_eats _ _ {x = X0} {t = T0} {n = N0} {j = J0} {l = L3} {h = H3} {l' = L4} {s = S3} {s' = S5} {e = (mem X0 T0 N0 J0 L4 H4 S5)} _ {h' = H4} (eats_settled (c.either-s2.ensures) (c.eat-got.ensures)) s_end))))
 
-pub star_factor-refuse-requires : goal.star_factor-refuse-requires
-star_factor-refuse-requires t c =
+pub star_factor-refuse_for-requires : goal.star_factor-refuse_for-requires
+star_factor-refuse_for-requires t c =
     tt
 
 pub star_factor-returns-then-left-eq0 : goal.star_factor-returns-then-left-eq0
@@ -365,8 +365,8 @@ star_factor-returns-then-left-eq0 t c =
     let L0 = c.args.scratch.now in
     let H0 = c.args.finds.now in
     let S0 = c.args.s in
-    let S2 = c.refuse.result in
-    by_steps {m = (mem X0 T0 N0 J0 L0 H0 S0)} {m' = (mem X0 T0 N0 J0 L0 H0 S2)} (c.requires) (λ b. s_shut (c.if-left-eq0.true) (c.refuse.ensures) (λ k l. refl))
+    let S2 = c.refuse_for.result in
+    by_steps {m = (mem X0 T0 N0 J0 L0 H0 S0)} {m' = (mem X0 T0 N0 J0 L0 H0 S2)} (c.requires) (λ b. s_shut (c.if-left-eq0.true) (c.refuse_for.ensures) (λ k l. refl))
 
 pub star_factor-mark-s1-requires : goal.star_factor-mark-s1-requires
 star_factor-mark-s1-requires t c =
@@ -388,8 +388,8 @@ star_factor-ty_must-s3-requires t c =
     let bump_ok = ok_bumps bump mark_ok in
     (omega arith, bump_ok)
 
-pub star_factor-close-requires : goal.star_factor-close-requires
-star_factor-close-requires t c =
+pub star_factor-close_node-requires : goal.star_factor-close_node-requires
+star_factor-close_node-requires t c =
     let pre0 = c.requires in
     let mark = c.mark-s1.ensures in
     let mark_ok = ok_marks mark pre0 in
@@ -413,9 +413,9 @@ star_factor-returns t c =
     let L4 = c.ty_must-s3.new.scratch in
     let H4 = c.ty_must-s3.new.finds in
     let S4 = c.ty_must-s3.result in
-    let L5 = c.close.new.scratch in
-    let S5 = c.close.result in
-    by_steps {m = (mem X0 T0 N0 J0 L0 H0 S0)} {m' = (mem X0 T0 N0 J0 L5 H4 S5)} (c.requires) (λ b. s_mark {e = (mem X0 T0 N0 J0 L5 H4 S5)} {x = X0} {t = T0} {n = N0} {j = J0} {l = L0} {h = H0} {s = S0} {s' = S2} (c.if-left-eq0.false) (c.mark-s1.ensures) (s_bump {e = (mem X0 T0 N0 J0 L5 H4 S5)} {x = X0} {t = T0} {n = N0} {j = J0} {l = L0} {h = H0} {s = S2} {s' = S3} {l' = L3} (c.bump-s2.ensures) (s_by {a = (mem X0 T0 N0 J0 L3 H0 S3)} {c = (mem X0 T0 N0 J0 L4 H4 S4)} {e = (mem X0 T0 N0 J0 L5 H4 S5)} _ (runs_in {a = (mem X0 T0 N0 J0 L3 H0 S3)} {c = (mem X0 T0 N0 J0 L4 H4 S4)} (c.ty_must-s3.ensures)) (s_close {e = (mem X0 T0 N0 J0 L5 H4 S5)} {x = X0} {t = T0} {n = N0} {j = J0} {l = L4} {h = H4} {s = S4} {s' = S5} {l' = L5} (c.close.ensures) s_end))))
+    let L5 = c.close_node.new.scratch in
+    let S5 = c.close_node.result in
+    by_steps {m = (mem X0 T0 N0 J0 L0 H0 S0)} {m' = (mem X0 T0 N0 J0 L5 H4 S5)} (c.requires) (λ b. s_mark {e = (mem X0 T0 N0 J0 L5 H4 S5)} {x = X0} {t = T0} {n = N0} {j = J0} {l = L0} {h = H0} {s = S0} {s' = S2} (c.if-left-eq0.false) (c.mark-s1.ensures) (s_bump {e = (mem X0 T0 N0 J0 L5 H4 S5)} {x = X0} {t = T0} {n = N0} {j = J0} {l = L0} {h = H0} {s = S2} {s' = S3} {l' = L3} (c.bump-s2.ensures) (s_by {a = (mem X0 T0 N0 J0 L3 H0 S3)} {c = (mem X0 T0 N0 J0 L4 H4 S4)} {e = (mem X0 T0 N0 J0 L5 H4 S5)} _ (runs_in {a = (mem X0 T0 N0 J0 L3 H0 S3)} {c = (mem X0 T0 N0 J0 L4 H4 S4)} (c.ty_must-s3.ensures)) (s_close {e = (mem X0 T0 N0 J0 L5 H4 S5)} {x = X0} {t = T0} {n = N0} {j = J0} {l = L4} {h = H4} {s = S4} {s' = S5} {l' = L5} (c.close_node.ensures) s_end))))
 
 pub star_tail-loop-s2-init : goal.star_tail-loop-s2-init
 star_tail-loop-s2-init t c =
@@ -481,8 +481,8 @@ star_turn-returns-else-at t c =
     let S0 = c.args.s in
     by_steps {m = (mem X0 T0 N0 J0 L0 H0 S0)} {m' = (mem X0 T0 N0 J0 L0 H0 S0)} (c.requires) (λ b. s_kind {a = (mem X0 T0 N0 J0 L0 H0 S0)} {e = (mem X0 T0 N0 J0 L0 H0 S0)} (s_false {a = (mem X0 T0 N0 J0 L0 H0 S0)} {e = (mem X0 T0 N0 J0 L0 H0 S0)} _ _ (kind_off _ _ (mem X0 T0 N0 J0 L0 H0 S0) _ (c.at.ensures) (c.if-at.false)) s_end))
 
-pub ty_arg-refuse-requires : goal.ty_arg-refuse-requires
-ty_arg-refuse-requires t c =
+pub ty_arg-refuse_for-requires : goal.ty_arg-refuse_for-requires
+ty_arg-refuse_for-requires t c =
     tt
 
 pub ty_arg-returns-then-left-eq0 : goal.ty_arg-returns-then-left-eq0
@@ -495,8 +495,8 @@ ty_arg-returns-then-left-eq0 t c =
     let L0 = c.args.scratch.now in
     let H0 = c.args.finds.now in
     let S0 = c.args.s in
-    let S2 = c.refuse.result in
-    by_steps {m = (mem X0 T0 N0 J0 L0 H0 S0)} {m' = (mem X0 T0 N0 J0 L0 H0 S2)} (c.requires) (λ b. s_shut (c.if-left-eq0.true) (c.refuse.ensures) (λ k l. refl))
+    let S2 = c.refuse_for.result in
+    by_steps {m = (mem X0 T0 N0 J0 L0 H0 S0)} {m' = (mem X0 T0 N0 J0 L0 H0 S2)} (c.requires) (λ b. s_shut (c.if-left-eq0.true) (c.refuse_for.ensures) (λ k l. refl))
 
 pub ty_arg-mark-s1-requires : goal.ty_arg-mark-s1-requires
 ty_arg-mark-s1-requires t c =
@@ -541,8 +541,8 @@ pub ty_arg-either-s3-requires : goal.ty_arg-either-s3-requires
 ty_arg-either-s3-requires t c =
     tt
 
-pub ty_arg-close-requires : goal.ty_arg-close-requires
-ty_arg-close-requires t c =
+pub ty_arg-close_node-requires : goal.ty_arg-close_node-requires
+ty_arg-close_node-requires t c =
     let pre0 = c.requires in
     let mark = c.mark-s1.ensures in
     let mark_ok = ok_marks mark pre0 in
@@ -571,9 +571,9 @@ ty_arg-returns t c =
     let L6 = c.eat-got.new.scratch in
     let H6 = c.eat-got.new.finds in
     let S7 = c.either-s3.result in
-    let L8 = c.close.new.scratch in
-    let S8 = c.close.result in
-    by_steps {m = (mem X0 T0 N0 J0 L0 H0 S0)} {m' = (mem X0 T0 N0 J0 L8 H6 S8)} (c.requires) (λ b. s_mark {e = (mem X0 T0 N0 J0 L8 H6 S8)} {x = X0} {t = T0} {n = N0} {j = J0} {l = L0} {h = H0} {s = S0} {s' = S2} (c.if-left-eq0.false) (c.mark-s1.ensures) (s_by {a = (mem X0 T0 N0 J0 L0 H0 S2)} {c = (mem X0 T0 N0 J0 L3 H3 S3)} {e = (mem X0 T0 N0 J0 L8 H6 S8)} _ (runs_in {a = (mem X0 T0 N0 J0 L0 H0 S2)} {c = (mem X0 T0 N0 J0 L3 H3 S3)} (c.ty_must-s2.ensures)) (s_kind {a = (mem X0 T0 N0 J0 L3 H3 S3)} {e = (mem X0 T0 N0 J0 L8 H6 S8)} (s_false {a = (mem X0 T0 N0 J0 L3 H3 S3)} {e = (mem X0 T0 N0 J0 L8 H6 S8)} _ _ (kind_off _ _ (mem X0 T0 N0 J0 L3 H3 S3) _ (c.at.ensures) (c.if-at.false)) (s_eats _ _ {x = X0} {t = T0} {n = N0} {j = J0} {l = L3} {h = H3} {l' = L6} {s = S3} {s' = S7} {e = (mem X0 T0 N0 J0 L8 H6 S8)} _ {h' = H6} (eats_settled (c.either-s3.ensures) (c.eat-got.ensures)) (s_close {e = (mem X0 T0 N0 J0 L8 H6 S8)} {x = X0} {t = T0} {n = N0} {j = J0} {l = L6} {h = H6} {s = S7} {s' = S8} {l' = L8} (c.close.ensures) s_end))))))
+    let L8 = c.close_node.new.scratch in
+    let S8 = c.close_node.result in
+    by_steps {m = (mem X0 T0 N0 J0 L0 H0 S0)} {m' = (mem X0 T0 N0 J0 L8 H6 S8)} (c.requires) (λ b. s_mark {e = (mem X0 T0 N0 J0 L8 H6 S8)} {x = X0} {t = T0} {n = N0} {j = J0} {l = L0} {h = H0} {s = S0} {s' = S2} (c.if-left-eq0.false) (c.mark-s1.ensures) (s_by {a = (mem X0 T0 N0 J0 L0 H0 S2)} {c = (mem X0 T0 N0 J0 L3 H3 S3)} {e = (mem X0 T0 N0 J0 L8 H6 S8)} _ (runs_in {a = (mem X0 T0 N0 J0 L0 H0 S2)} {c = (mem X0 T0 N0 J0 L3 H3 S3)} (c.ty_must-s2.ensures)) (s_kind {a = (mem X0 T0 N0 J0 L3 H3 S3)} {e = (mem X0 T0 N0 J0 L8 H6 S8)} (s_false {a = (mem X0 T0 N0 J0 L3 H3 S3)} {e = (mem X0 T0 N0 J0 L8 H6 S8)} _ _ (kind_off _ _ (mem X0 T0 N0 J0 L3 H3 S3) _ (c.at.ensures) (c.if-at.false)) (s_eats _ _ {x = X0} {t = T0} {n = N0} {j = J0} {l = L3} {h = H3} {l' = L6} {s = S3} {s' = S7} {e = (mem X0 T0 N0 J0 L8 H6 S8)} _ {h' = H6} (eats_settled (c.either-s3.ensures) (c.eat-got.ensures)) (s_close {e = (mem X0 T0 N0 J0 L8 H6 S8)} {x = X0} {t = T0} {n = N0} {j = J0} {l = L6} {h = H6} {s = S7} {s' = S8} {l' = L8} (c.close_node.ensures) s_end))))))
 
 pub ty_args-loop-s2-init : goal.ty_args-loop-s2-init
 ty_args-loop-s2-init t c =
@@ -602,8 +602,8 @@ ty_args-returns-in-Err t c =
     let arg_turn = c.in-Err.ensures in
     loop_ends (end_turn_advances true _ _ _ _ _ _) inv (runs_in arg_turn)
 
-pub ty_arrow-refuse-requires : goal.ty_arrow-refuse-requires
-ty_arrow-refuse-requires t c =
+pub ty_arrow-refuse_for-requires : goal.ty_arrow-refuse_for-requires
+ty_arrow-refuse_for-requires t c =
     tt
 
 pub ty_arrow-returns-then-left-eq0 : goal.ty_arrow-returns-then-left-eq0
@@ -616,8 +616,8 @@ ty_arrow-returns-then-left-eq0 t c =
     let L0 = c.args.scratch.now in
     let H0 = c.args.finds.now in
     let S0 = c.args.s in
-    let S2 = c.refuse.result in
-    in_steps {m = (mem X0 T0 N0 J0 L0 H0 S0)} {m' = (mem X0 T0 N0 J0 L0 H0 S2)} (c.requires.0) (s_shut (c.if-left-eq0.true) (c.refuse.ensures) (λ k l. refl))
+    let S2 = c.refuse_for.result in
+    in_steps {m = (mem X0 T0 N0 J0 L0 H0 S0)} {m' = (mem X0 T0 N0 J0 L0 H0 S2)} (c.requires.0) (s_shut (c.if-left-eq0.true) (c.refuse_for.ensures) (λ k l. refl))
 
 pub ty_arrow-mark-requires : goal.ty_arrow-mark-requires
 ty_arrow-mark-requires t c =
@@ -639,8 +639,8 @@ ty_arrow-ty_must-s2-requires t c =
     let bump_ok = ok_bumps bump mark_ok in
     (omega arith, bump_ok)
 
-pub ty_arrow-close-requires : goal.ty_arrow-close-requires
-ty_arrow-close-requires t c =
+pub ty_arrow-close_node-requires : goal.ty_arrow-close_node-requires
+ty_arrow-close_node-requires t c =
     let pre1 = c.requires.1 in
     let ty_must = c.ty_must-s2.ensures in
     let ty_must_ok = ty_must.ok in
@@ -662,17 +662,17 @@ ty_arrow-returns t c =
     let L4 = c.ty_must-s2.new.scratch in
     let H4 = c.ty_must-s2.new.finds in
     let S4 = c.ty_must-s2.result in
-    let L5 = c.close.new.scratch in
-    let S5 = c.close.result in
-    in_steps {m = (mem X0 T0 N0 J0 L0 H0 S0)} {m' = (mem X0 T0 N0 J0 L5 H4 S5)} (c.requires.0) (s_mark {e = (mem X0 T0 N0 J0 L5 H4 S5)} {x = X0} {t = T0} {n = N0} {j = J0} {l = L0} {h = H0} {s = S0} {s' = S2} (c.if-left-eq0.false) (c.mark.ensures) (s_bump {e = (mem X0 T0 N0 J0 L5 H4 S5)} {x = X0} {t = T0} {n = N0} {j = J0} {l = L0} {h = H0} {s = S2} {s' = S3} {l' = L3} (c.bump-s1.ensures) (s_by {a = (mem X0 T0 N0 J0 L3 H0 S3)} {c = (mem X0 T0 N0 J0 L4 H4 S4)} {e = (mem X0 T0 N0 J0 L5 H4 S5)} _ (runs_in {a = (mem X0 T0 N0 J0 L3 H0 S3)} {c = (mem X0 T0 N0 J0 L4 H4 S4)} (c.ty_must-s2.ensures)) (s_close {e = (mem X0 T0 N0 J0 L5 H4 S5)} {x = X0} {t = T0} {n = N0} {j = J0} {l = L4} {h = H4} {s = S4} {s' = S5} {l' = L5} (c.close.ensures) s_end))))
+    let L5 = c.close_node.new.scratch in
+    let S5 = c.close_node.result in
+    in_steps {m = (mem X0 T0 N0 J0 L0 H0 S0)} {m' = (mem X0 T0 N0 J0 L5 H4 S5)} (c.requires.0) (s_mark {e = (mem X0 T0 N0 J0 L5 H4 S5)} {x = X0} {t = T0} {n = N0} {j = J0} {l = L0} {h = H0} {s = S0} {s' = S2} (c.if-left-eq0.false) (c.mark.ensures) (s_bump {e = (mem X0 T0 N0 J0 L5 H4 S5)} {x = X0} {t = T0} {n = N0} {j = J0} {l = L0} {h = H0} {s = S2} {s' = S3} {l' = L3} (c.bump-s1.ensures) (s_by {a = (mem X0 T0 N0 J0 L3 H0 S3)} {c = (mem X0 T0 N0 J0 L4 H4 S4)} {e = (mem X0 T0 N0 J0 L5 H4 S5)} _ (runs_in {a = (mem X0 T0 N0 J0 L3 H0 S3)} {c = (mem X0 T0 N0 J0 L4 H4 S4)} (c.ty_must-s2.ensures)) (s_close {e = (mem X0 T0 N0 J0 L5 H4 S5)} {x = X0} {t = T0} {n = N0} {j = J0} {l = L4} {h = H4} {s = S4} {s' = S5} {l' = L5} (c.close_node.ensures) s_end))))
 
 pub ty_head-bump-s1-requires : goal.ty_head-bump-s1-requires
 ty_head-bump-s1-requires t c =
     let pre0 = c.requires.0 in
     (pre0.reads, pre0.logs)
 
-pub ty_head-close-requires : goal.ty_head-close-requires
-ty_head-close-requires t c =
+pub ty_head-close_node-requires : goal.ty_head-close_node-requires
+ty_head-close_node-requires t c =
     let pre0 = c.requires.0 in
     let pre1 = c.requires.1 in
     let bump = c.bump-s1.ensures in
@@ -691,17 +691,17 @@ ty_head-returns-then-k-eq-DOT_DOT_DOT t c =
     let S0 = c.args.s in
     let L2 = c.bump-s1.new.scratch in
     let S2 = c.bump-s1.result in
-    let L3 = c.close.new.scratch in
-    let S3 = c.close.result in
-    in_steps {m = (mem X0 T0 N0 J0 L0 H0 S0)} {m' = (mem X0 T0 N0 J0 L3 H0 S3)} (c.requires.0) (s_true {a = (mem X0 T0 N0 J0 L0 H0 S0)} {e = (mem X0 T0 N0 J0 L3 H0 S3)} _ _ (kind_is (c.if-k-eq-DOT_DOT_DOT.true)) (s_bump {e = (mem X0 T0 N0 J0 L3 H0 S3)} {x = X0} {t = T0} {n = N0} {j = J0} {l = L0} {h = H0} {s = S0} {s' = S2} {l' = L2} (c.bump-s1.ensures) (s_close {e = (mem X0 T0 N0 J0 L3 H0 S3)} {x = X0} {t = T0} {n = N0} {j = J0} {l = L2} {h = H0} {s = S2} {s' = S3} {l' = L3} (c.close.ensures) s_end)))
+    let L3 = c.close_node.new.scratch in
+    let S3 = c.close_node.result in
+    in_steps {m = (mem X0 T0 N0 J0 L0 H0 S0)} {m' = (mem X0 T0 N0 J0 L3 H0 S3)} (c.requires.0) (s_true {a = (mem X0 T0 N0 J0 L0 H0 S0)} {e = (mem X0 T0 N0 J0 L3 H0 S3)} _ _ (kind_is (c.if-k-eq-DOT_DOT_DOT.true)) (s_bump {e = (mem X0 T0 N0 J0 L3 H0 S3)} {x = X0} {t = T0} {n = N0} {j = J0} {l = L0} {h = H0} {s = S0} {s' = S2} {l' = L2} (c.bump-s1.ensures) (s_close {e = (mem X0 T0 N0 J0 L3 H0 S3)} {x = X0} {t = T0} {n = N0} {j = J0} {l = L2} {h = H0} {s = S2} {s' = S3} {l' = L3} (c.close_node.ensures) s_end)))
 
 pub ty_head-bump-s1-requires-then-k-eq-UNDERSCORE : goal.ty_head-bump-s1-requires-then-k-eq-UNDERSCORE
 ty_head-bump-s1-requires-then-k-eq-UNDERSCORE t c =
     let pre0 = c.requires.0 in
     (pre0.reads, pre0.logs)
 
-pub ty_head-close-requires-then-k-eq-UNDERSCORE : goal.ty_head-close-requires-then-k-eq-UNDERSCORE
-ty_head-close-requires-then-k-eq-UNDERSCORE t c =
+pub ty_head-close_node-requires-then-k-eq-UNDERSCORE : goal.ty_head-close_node-requires-then-k-eq-UNDERSCORE
+ty_head-close_node-requires-then-k-eq-UNDERSCORE t c =
     let pre0 = c.requires.0 in
     let pre1 = c.requires.1 in
     let bump2 = c.bump-s1-then-k-eq-UNDERSCORE.ensures in
@@ -720,17 +720,17 @@ ty_head-returns-then-k-eq-UNDERSCORE t c =
     let S0 = c.args.s in
     let L3 = c.bump-s1-then-k-eq-UNDERSCORE.new.scratch in
     let S3 = c.bump-s1-then-k-eq-UNDERSCORE.result in
-    let L4 = c.close-then-k-eq-UNDERSCORE.new.scratch in
-    let S4 = c.close-then-k-eq-UNDERSCORE.result in
-    in_steps {m = (mem X0 T0 N0 J0 L0 H0 S0)} {m' = (mem X0 T0 N0 J0 L4 H0 S4)} (c.requires.0) (s_false {a = (mem X0 T0 N0 J0 L0 H0 S0)} {e = (mem X0 T0 N0 J0 L4 H0 S4)} _ _ (kind_not (c.if-k-eq-DOT_DOT_DOT.false)) (s_true {a = (mem X0 T0 N0 J0 L0 H0 S0)} {e = (mem X0 T0 N0 J0 L4 H0 S4)} _ _ (kind_is (c.if-k-eq-UNDERSCORE.true)) (s_bump {e = (mem X0 T0 N0 J0 L4 H0 S4)} {x = X0} {t = T0} {n = N0} {j = J0} {l = L0} {h = H0} {s = S0} {s' = S3} {l' = L3} (c.bump-s1-then-k-eq-UNDERSCORE.ensures) (s_close {e = (mem X0 T0 N0 J0 L4 H0 S4)} {x = X0} {t = T0} {n = N0} {j = J0} {l = L3} {h = H0} {s = S3} {s' = S4} {l' = L4} (c.close-then-k-eq-UNDERSCORE.ensures) s_end))))
+    let L4 = c.close_node-then-k-eq-UNDERSCORE.new.scratch in
+    let S4 = c.close_node-then-k-eq-UNDERSCORE.result in
+    in_steps {m = (mem X0 T0 N0 J0 L0 H0 S0)} {m' = (mem X0 T0 N0 J0 L4 H0 S4)} (c.requires.0) (s_false {a = (mem X0 T0 N0 J0 L0 H0 S0)} {e = (mem X0 T0 N0 J0 L4 H0 S4)} _ _ (kind_not (c.if-k-eq-DOT_DOT_DOT.false)) (s_true {a = (mem X0 T0 N0 J0 L0 H0 S0)} {e = (mem X0 T0 N0 J0 L4 H0 S4)} _ _ (kind_is (c.if-k-eq-UNDERSCORE.true)) (s_bump {e = (mem X0 T0 N0 J0 L4 H0 S4)} {x = X0} {t = T0} {n = N0} {j = J0} {l = L0} {h = H0} {s = S0} {s' = S3} {l' = L3} (c.bump-s1-then-k-eq-UNDERSCORE.ensures) (s_close {e = (mem X0 T0 N0 J0 L4 H0 S4)} {x = X0} {t = T0} {n = N0} {j = J0} {l = L3} {h = H0} {s = S3} {s' = S4} {l' = L4} (c.close_node-then-k-eq-UNDERSCORE.ensures) s_end))))
 
 pub ty_head-bump-s1-requires-then-k-eq-TY_VAR : goal.ty_head-bump-s1-requires-then-k-eq-TY_VAR
 ty_head-bump-s1-requires-then-k-eq-TY_VAR t c =
     let pre0 = c.requires.0 in
     (pre0.reads, pre0.logs)
 
-pub ty_head-close-requires-then-k-eq-TY_VAR : goal.ty_head-close-requires-then-k-eq-TY_VAR
-ty_head-close-requires-then-k-eq-TY_VAR t c =
+pub ty_head-close_node-requires-then-k-eq-TY_VAR : goal.ty_head-close_node-requires-then-k-eq-TY_VAR
+ty_head-close_node-requires-then-k-eq-TY_VAR t c =
     let pre0 = c.requires.0 in
     let pre1 = c.requires.1 in
     let bump3 = c.bump-s1-then-k-eq-TY_VAR.ensures in
@@ -749,9 +749,9 @@ ty_head-returns-then-k-eq-TY_VAR t c =
     let S0 = c.args.s in
     let L4 = c.bump-s1-then-k-eq-TY_VAR.new.scratch in
     let S4 = c.bump-s1-then-k-eq-TY_VAR.result in
-    let L5 = c.close-then-k-eq-TY_VAR.new.scratch in
-    let S5 = c.close-then-k-eq-TY_VAR.result in
-    in_steps {m = (mem X0 T0 N0 J0 L0 H0 S0)} {m' = (mem X0 T0 N0 J0 L5 H0 S5)} (c.requires.0) (s_false {a = (mem X0 T0 N0 J0 L0 H0 S0)} {e = (mem X0 T0 N0 J0 L5 H0 S5)} _ _ (kind_not (c.if-k-eq-DOT_DOT_DOT.false)) (s_false {a = (mem X0 T0 N0 J0 L0 H0 S0)} {e = (mem X0 T0 N0 J0 L5 H0 S5)} _ _ (kind_not (c.if-k-eq-UNDERSCORE.false)) (s_true {a = (mem X0 T0 N0 J0 L0 H0 S0)} {e = (mem X0 T0 N0 J0 L5 H0 S5)} _ _ (kind_is (c.if-k-eq-TY_VAR.true)) (s_bump {e = (mem X0 T0 N0 J0 L5 H0 S5)} {x = X0} {t = T0} {n = N0} {j = J0} {l = L0} {h = H0} {s = S0} {s' = S4} {l' = L4} (c.bump-s1-then-k-eq-TY_VAR.ensures) (s_close {e = (mem X0 T0 N0 J0 L5 H0 S5)} {x = X0} {t = T0} {n = N0} {j = J0} {l = L4} {h = H0} {s = S4} {s' = S5} {l' = L5} (c.close-then-k-eq-TY_VAR.ensures) s_end)))))
+    let L5 = c.close_node-then-k-eq-TY_VAR.new.scratch in
+    let S5 = c.close_node-then-k-eq-TY_VAR.result in
+    in_steps {m = (mem X0 T0 N0 J0 L0 H0 S0)} {m' = (mem X0 T0 N0 J0 L5 H0 S5)} (c.requires.0) (s_false {a = (mem X0 T0 N0 J0 L0 H0 S0)} {e = (mem X0 T0 N0 J0 L5 H0 S5)} _ _ (kind_not (c.if-k-eq-DOT_DOT_DOT.false)) (s_false {a = (mem X0 T0 N0 J0 L0 H0 S0)} {e = (mem X0 T0 N0 J0 L5 H0 S5)} _ _ (kind_not (c.if-k-eq-UNDERSCORE.false)) (s_true {a = (mem X0 T0 N0 J0 L0 H0 S0)} {e = (mem X0 T0 N0 J0 L5 H0 S5)} _ _ (kind_is (c.if-k-eq-TY_VAR.true)) (s_bump {e = (mem X0 T0 N0 J0 L5 H0 S5)} {x = X0} {t = T0} {n = N0} {j = J0} {l = L0} {h = H0} {s = S0} {s' = S4} {l' = L4} (c.bump-s1-then-k-eq-TY_VAR.ensures) (s_close {e = (mem X0 T0 N0 J0 L5 H0 S5)} {x = X0} {t = T0} {n = N0} {j = J0} {l = L4} {h = H0} {s = S4} {s' = S5} {l' = L5} (c.close_node-then-k-eq-TY_VAR.ensures) s_end)))))
 
 pub ty_head-ty_inner-requires : goal.ty_head-ty_inner-requires
 ty_head-ty_inner-requires t c =
@@ -786,8 +786,8 @@ ty_inner-ty_rows-s2-requires t c =
     let bump_ok = ok_bumps bump pre0 in
     (omega arith, bump_ok)
 
-pub ty_inner-close-requires : goal.ty_inner-close-requires
-ty_inner-close-requires t c =
+pub ty_inner-close_node-requires : goal.ty_inner-close_node-requires
+ty_inner-close_node-requires t c =
     let pre1 = c.requires.1 in
     let ty_rows = c.ty_rows-s2.ensures in
     let ty_rows_ok = ty_rows.ok in
@@ -808,9 +808,9 @@ ty_inner-returns-then-k-eq-LCURLY t c =
     let L3 = c.ty_rows-s2.new.scratch in
     let H3 = c.ty_rows-s2.new.finds in
     let S3 = c.ty_rows-s2.result in
-    let L4 = c.close.new.scratch in
-    let S4 = c.close.result in
-    in_steps {m = (mem X0 T0 N0 J0 L0 H0 S0)} {m' = (mem X0 T0 N0 J0 L4 H3 S4)} (c.requires.0) (s_true {a = (mem X0 T0 N0 J0 L0 H0 S0)} {e = (mem X0 T0 N0 J0 L4 H3 S4)} _ _ (kind_is (c.if-k-eq-LCURLY.true)) (s_bump {e = (mem X0 T0 N0 J0 L4 H3 S4)} {x = X0} {t = T0} {n = N0} {j = J0} {l = L0} {h = H0} {s = S0} {s' = S2} {l' = L2} (c.bump-s1.ensures) (s_run {a = (mem X0 T0 N0 J0 L2 H0 S2)} {c = (mem X0 T0 N0 J0 L3 H3 S3)} {e = (mem X0 T0 N0 J0 L4 H3 S4)} (c.ty_rows-s2.ensures) (s_close {e = (mem X0 T0 N0 J0 L4 H3 S4)} {x = X0} {t = T0} {n = N0} {j = J0} {l = L3} {h = H3} {s = S3} {s' = S4} {l' = L4} (c.close.ensures) s_end))))
+    let L4 = c.close_node.new.scratch in
+    let S4 = c.close_node.result in
+    in_steps {m = (mem X0 T0 N0 J0 L0 H0 S0)} {m' = (mem X0 T0 N0 J0 L4 H3 S4)} (c.requires.0) (s_true {a = (mem X0 T0 N0 J0 L0 H0 S0)} {e = (mem X0 T0 N0 J0 L4 H3 S4)} _ _ (kind_is (c.if-k-eq-LCURLY.true)) (s_bump {e = (mem X0 T0 N0 J0 L4 H3 S4)} {x = X0} {t = T0} {n = N0} {j = J0} {l = L0} {h = H0} {s = S0} {s' = S2} {l' = L2} (c.bump-s1.ensures) (s_run {a = (mem X0 T0 N0 J0 L2 H0 S2)} {c = (mem X0 T0 N0 J0 L3 H3 S3)} {e = (mem X0 T0 N0 J0 L4 H3 S4)} (c.ty_rows-s2.ensures) (s_close {e = (mem X0 T0 N0 J0 L4 H3 S4)} {x = X0} {t = T0} {n = N0} {j = J0} {l = L3} {h = H3} {s = S3} {s' = S4} {l' = L4} (c.close_node.ensures) s_end))))
 
 pub ty_inner-ty_round-requires : goal.ty_inner-ty_round-requires
 ty_inner-ty_round-requires t c =
@@ -842,8 +842,8 @@ pub ty_inner-either-s1-requires : goal.ty_inner-either-s1-requires
 ty_inner-either-s1-requires t c =
     tt
 
-pub ty_inner-close-requires-then-k-eq-NAME : goal.ty_inner-close-requires-then-k-eq-NAME
-ty_inner-close-requires-then-k-eq-NAME t c =
+pub ty_inner-close_node-requires-then-k-eq-NAME : goal.ty_inner-close_node-requires-then-k-eq-NAME
+ty_inner-close_node-requires-then-k-eq-NAME t c =
     let pre1 = c.requires.1 in
     let path_must = c.path_must-got.ensures in
     let path_must_ok = path_must.ok in
@@ -865,9 +865,9 @@ ty_inner-returns-then-k-eq-NAME t c =
     let H4 = c.path_must-got.new.finds in
     let S4 = out_state c.path_must-got.result in
     let S5 = c.either-s1.result in
-    let L6 = c.close-then-k-eq-NAME.new.scratch in
-    let S6 = c.close-then-k-eq-NAME.result in
-    in_steps {m = (mem X0 T0 N0 J0 L0 H0 S0)} {m' = (mem X0 T0 N0 J0 L6 H4 S6)} (c.requires.0) (s_false {a = (mem X0 T0 N0 J0 L0 H0 S0)} {e = (mem X0 T0 N0 J0 L6 H4 S6)} _ _ (kind_not (c.if-k-eq-LCURLY.false)) (s_false {a = (mem X0 T0 N0 J0 L0 H0 S0)} {e = (mem X0 T0 N0 J0 L6 H4 S6)} _ _ (kind_not (c.if-k-eq-LROUND.false)) (s_true {a = (mem X0 T0 N0 J0 L0 H0 S0)} {e = (mem X0 T0 N0 J0 L6 H4 S6)} _ _ (kind_is (c.if-k-eq-NAME.true)) (s_by {a = (mem X0 T0 N0 J0 L0 H0 S0)} {c = (mem X0 T0 N0 J0 L4 H4 S5)} {e = (mem X0 T0 N0 J0 L6 H4 S6)} _ (settled (c.either-s1.ensures) (runs_in {a = (mem X0 T0 N0 J0 L0 H0 S0)} {c = (mem X0 T0 N0 J0 L4 H4 S4)} (c.path_must-got.ensures))) (s_close {e = (mem X0 T0 N0 J0 L6 H4 S6)} {x = X0} {t = T0} {n = N0} {j = J0} {l = L4} {h = H4} {s = S5} {s' = S6} {l' = L6} (c.close-then-k-eq-NAME.ensures) s_end)))))
+    let L6 = c.close_node-then-k-eq-NAME.new.scratch in
+    let S6 = c.close_node-then-k-eq-NAME.result in
+    in_steps {m = (mem X0 T0 N0 J0 L0 H0 S0)} {m' = (mem X0 T0 N0 J0 L6 H4 S6)} (c.requires.0) (s_false {a = (mem X0 T0 N0 J0 L0 H0 S0)} {e = (mem X0 T0 N0 J0 L6 H4 S6)} _ _ (kind_not (c.if-k-eq-LCURLY.false)) (s_false {a = (mem X0 T0 N0 J0 L0 H0 S0)} {e = (mem X0 T0 N0 J0 L6 H4 S6)} _ _ (kind_not (c.if-k-eq-LROUND.false)) (s_true {a = (mem X0 T0 N0 J0 L0 H0 S0)} {e = (mem X0 T0 N0 J0 L6 H4 S6)} _ _ (kind_is (c.if-k-eq-NAME.true)) (s_by {a = (mem X0 T0 N0 J0 L0 H0 S0)} {c = (mem X0 T0 N0 J0 L4 H4 S5)} {e = (mem X0 T0 N0 J0 L6 H4 S6)} _ (settled (c.either-s1.ensures) (runs_in {a = (mem X0 T0 N0 J0 L0 H0 S0)} {c = (mem X0 T0 N0 J0 L4 H4 S4)} (c.path_must-got.ensures))) (s_close {e = (mem X0 T0 N0 J0 L6 H4 S6)} {x = X0} {t = T0} {n = N0} {j = J0} {l = L4} {h = H4} {s = S5} {s' = S6} {l' = L6} (c.close_node-then-k-eq-NAME.ensures) s_end)))))
 
 pub ty_inner-returns : goal.ty_inner-returns
 unfolding types.ty_inner util.end_sep plan choose chosen
@@ -883,8 +883,8 @@ ty_must-ty_prec-got-requires t c =
     let pre0 = c.requires in
     (omega arith, pre0)
 
-pub ty_must-report-requires : goal.ty_must-report-requires
-ty_must-report-requires t c =
+pub ty_must-report_error-requires : goal.ty_must-report_error-requires
+ty_must-report_error-requires t c =
     let ty_prec = c.in-Err.ensures in
     let ty_prec_ok = ty_prec.ok in
     (ty_prec_ok.holds, (let few = ty_prec_ok.reads.few in let inside = ty_prec_ok.reads.inside in omega arith), omega arith)
@@ -917,9 +917,9 @@ ty_must-returns-in-Err t c =
     let L1 = c.ty_prec-got.new.scratch in
     let H1 = c.ty_prec-got.new.finds in
     let S1 = c.in-Err.s1 in
-    let H2 = c.report.new.finds in
-    let S2 = c.report.result in
-    by_steps {m = (mem X0 T0 N0 J0 L0 H0 S0)} {m' = (mem X0 T0 N0 J0 L1 H2 S2)} (c.requires) (λ b. s_run {a = (mem X0 T0 N0 J0 L0 H0 S0)} {c = (mem X0 T0 N0 J0 L1 H1 S1)} {e = (mem X0 T0 N0 J0 L1 H2 S2)} (runs_in {a = (mem X0 T0 N0 J0 L0 H0 S0)} {c = (mem X0 T0 N0 J0 L1 H1 S1)} (c.in-Err.ensures)) (s_report {e = (mem X0 T0 N0 J0 L1 H2 S2)} {x = X0} {t = T0} {n = N0} {j = J0} {l = L1} {h = H1} {s = S1} {s' = S2} {h' = H2} (c.report.ensures) s_end))
+    let H2 = c.report_error.new.finds in
+    let S2 = c.report_error.result in
+    by_steps {m = (mem X0 T0 N0 J0 L0 H0 S0)} {m' = (mem X0 T0 N0 J0 L1 H2 S2)} (c.requires) (λ b. s_run {a = (mem X0 T0 N0 J0 L0 H0 S0)} {c = (mem X0 T0 N0 J0 L1 H1 S1)} {e = (mem X0 T0 N0 J0 L1 H2 S2)} (runs_in {a = (mem X0 T0 N0 J0 L0 H0 S0)} {c = (mem X0 T0 N0 J0 L1 H1 S1)} (c.in-Err.ensures)) (s_report {e = (mem X0 T0 N0 J0 L1 H2 S2)} {x = X0} {t = T0} {n = N0} {j = J0} {l = L1} {h = H1} {s = S1} {s' = S2} {h' = H2} (c.report_error.ensures) s_end))
 
 pub ty_prec-peek-requires : goal.ty_prec-peek-requires
 ty_prec-peek-requires t c =
@@ -933,8 +933,8 @@ ty_prec-returns-in_default t c =
     let peek = c.in_default.ensures in
     by_steps pre0 (λ b. s_rule (s_look peek s_end))
 
-pub ty_prec-refuse-requires : goal.ty_prec-refuse-requires
-ty_prec-refuse-requires t c =
+pub ty_prec-refuse_for-requires : goal.ty_prec-refuse_for-requires
+ty_prec-refuse_for-requires t c =
     tt
 
 pub ty_prec-returns-then-left-eq0 : goal.ty_prec-returns-then-left-eq0
@@ -947,8 +947,8 @@ ty_prec-returns-then-left-eq0 t c =
     let L0 = c.args.scratch.now in
     let H0 = c.args.finds.now in
     let S0 = c.args.s in
-    let S3 = c.refuse.result in
-    by_steps {m = (mem X0 T0 N0 J0 L0 H0 S0)} {m' = (mem X0 T0 N0 J0 L0 H0 S3)} (c.requires) (λ b. s_rule {a = (mem X0 T0 N0 J0 L0 H0 S0)} {e = (mem X0 T0 N0 J0 L0 H0 S3)} (s_look {a = (mem X0 T0 N0 J0 L0 H0 S0)} {e = (mem X0 T0 N0 J0 L0 H0 S3)} (c.in-Some.ensures) (s_shut (c.if-left-eq0.true) (c.refuse.ensures) (λ k l. refl))))
+    let S3 = c.refuse_for.result in
+    by_steps {m = (mem X0 T0 N0 J0 L0 H0 S0)} {m' = (mem X0 T0 N0 J0 L0 H0 S3)} (c.requires) (λ b. s_rule {a = (mem X0 T0 N0 J0 L0 H0 S0)} {e = (mem X0 T0 N0 J0 L0 H0 S3)} (s_look {a = (mem X0 T0 N0 J0 L0 H0 S0)} {e = (mem X0 T0 N0 J0 L0 H0 S3)} (c.in-Some.ensures) (s_shut (c.if-left-eq0.true) (c.refuse_for.ensures) (λ k l. refl))))
 
 pub ty_prec-mark-requires : goal.ty_prec-mark-requires
 ty_prec-mark-requires t c =
@@ -1018,8 +1018,8 @@ pub ty_round-either-s2-requires : goal.ty_round-either-s2-requires
 ty_round-either-s2-requires t c =
     tt
 
-pub ty_round-close-requires : goal.ty_round-close-requires
-ty_round-close-requires t c =
+pub ty_round-close_node-requires : goal.ty_round-close_node-requires
+ty_round-close_node-requires t c =
     let pre1 = c.requires.1 in
     let path_must = c.path_must-got.ensures in
     let path_must_ok = path_must.ok in
@@ -1033,8 +1033,8 @@ ty_round-bump-s2-requires t c =
     let ty_seq_ok = ty_seq.ok in
     (ty_seq_ok.reads, ty_seq_ok.logs)
 
-pub ty_round-close-requires-in-Ok : goal.ty_round-close-requires-in-Ok
-ty_round-close-requires-in-Ok t c =
+pub ty_round-close_node-requires-in-Ok : goal.ty_round-close_node-requires-in-Ok
+ty_round-close_node-requires-in-Ok t c =
     let pre1 = c.requires.1 in
     let ty_seq = c.in-Ok.ensures in
     let ty_seq_ok = ty_seq.ok in
@@ -1059,9 +1059,9 @@ ty_round-returns-in-Err t c =
     let H2 = c.path_must-got.new.finds in
     let S2 = out_state c.path_must-got.result in
     let S3 = c.either-s2.result in
-    let L4 = c.close.new.scratch in
-    let S4 = c.close.result in
-    in_steps {m = (mem X0 T0 N0 J0 L0 H0 S0)} {m' = (mem X0 T0 N0 J0 L4 H2 S4)} (c.requires.0) (s_by {a = (mem X0 T0 N0 J0 L0 H0 S0)} {c = (mem X0 T0 N0 J0 L1 H1 S1)} {e = (mem X0 T0 N0 J0 L4 H2 S4)} _ (runs_in {a = (mem X0 T0 N0 J0 L0 H0 S0)} {c = (mem X0 T0 N0 J0 L1 H1 S1)} (c.in-Err.ensures)) (s_by {a = (mem X0 T0 N0 J0 L1 H1 S1)} {c = (mem X0 T0 N0 J0 L2 H2 S3)} {e = (mem X0 T0 N0 J0 L4 H2 S4)} _ (settled (c.either-s2.ensures) (runs_in {a = (mem X0 T0 N0 J0 L1 H1 S1)} {c = (mem X0 T0 N0 J0 L2 H2 S2)} (c.path_must-got.ensures))) (s_close {e = (mem X0 T0 N0 J0 L4 H2 S4)} {x = X0} {t = T0} {n = N0} {j = J0} {l = L2} {h = H2} {s = S3} {s' = S4} {l' = L4} (c.close.ensures) s_end)))
+    let L4 = c.close_node.new.scratch in
+    let S4 = c.close_node.result in
+    in_steps {m = (mem X0 T0 N0 J0 L0 H0 S0)} {m' = (mem X0 T0 N0 J0 L4 H2 S4)} (c.requires.0) (s_by {a = (mem X0 T0 N0 J0 L0 H0 S0)} {c = (mem X0 T0 N0 J0 L1 H1 S1)} {e = (mem X0 T0 N0 J0 L4 H2 S4)} _ (runs_in {a = (mem X0 T0 N0 J0 L0 H0 S0)} {c = (mem X0 T0 N0 J0 L1 H1 S1)} (c.in-Err.ensures)) (s_by {a = (mem X0 T0 N0 J0 L1 H1 S1)} {c = (mem X0 T0 N0 J0 L2 H2 S3)} {e = (mem X0 T0 N0 J0 L4 H2 S4)} _ (settled (c.either-s2.ensures) (runs_in {a = (mem X0 T0 N0 J0 L1 H1 S1)} {c = (mem X0 T0 N0 J0 L2 H2 S2)} (c.path_must-got.ensures))) (s_close {e = (mem X0 T0 N0 J0 L4 H2 S4)} {x = X0} {t = T0} {n = N0} {j = J0} {l = L2} {h = H2} {s = S3} {s' = S4} {l' = L4} (c.close_node.ensures) s_end)))
 
 pub ty_round-returns-in-Ok : goal.ty_round-returns-in-Ok
 unfolding types.ty_round plan choose chosen
@@ -1078,9 +1078,9 @@ ty_round-returns-in-Ok t c =
     let S1 = c.in-Ok.s1 in
     let L2 = c.bump-s2.new.scratch in
     let S2 = c.bump-s2.result in
-    let L3 = c.close-in-Ok.new.scratch in
-    let S3 = c.close-in-Ok.result in
-    in_steps {m = (mem X0 T0 N0 J0 L0 H0 S0)} {m' = (mem X0 T0 N0 J0 L3 H1 S3)} (c.requires.0) (s_by {a = (mem X0 T0 N0 J0 L0 H0 S0)} {c = (mem X0 T0 N0 J0 L1 H1 S1)} {e = (mem X0 T0 N0 J0 L3 H1 S3)} _ (runs_in {a = (mem X0 T0 N0 J0 L0 H0 S0)} {c = (mem X0 T0 N0 J0 L1 H1 S1)} (c.in-Ok.ensures)) (s_bump {e = (mem X0 T0 N0 J0 L3 H1 S3)} {x = X0} {t = T0} {n = N0} {j = J0} {l = L1} {h = H1} {s = S1} {s' = S2} {l' = L2} (c.bump-s2.ensures) (s_close {e = (mem X0 T0 N0 J0 L3 H1 S3)} {x = X0} {t = T0} {n = N0} {j = J0} {l = L2} {h = H1} {s = S2} {s' = S3} {l' = L3} (c.close-in-Ok.ensures) s_end)))
+    let L3 = c.close_node-in-Ok.new.scratch in
+    let S3 = c.close_node-in-Ok.result in
+    in_steps {m = (mem X0 T0 N0 J0 L0 H0 S0)} {m' = (mem X0 T0 N0 J0 L3 H1 S3)} (c.requires.0) (s_by {a = (mem X0 T0 N0 J0 L0 H0 S0)} {c = (mem X0 T0 N0 J0 L1 H1 S1)} {e = (mem X0 T0 N0 J0 L3 H1 S3)} _ (runs_in {a = (mem X0 T0 N0 J0 L0 H0 S0)} {c = (mem X0 T0 N0 J0 L1 H1 S1)} (c.in-Ok.ensures)) (s_bump {e = (mem X0 T0 N0 J0 L3 H1 S3)} {x = X0} {t = T0} {n = N0} {j = J0} {l = L1} {h = H1} {s = S1} {s' = S2} {l' = L2} (c.bump-s2.ensures) (s_close {e = (mem X0 T0 N0 J0 L3 H1 S3)} {x = X0} {t = T0} {n = N0} {j = J0} {l = L2} {h = H1} {s = S2} {s' = S3} {l' = L3} (c.close_node-in-Ok.ensures) s_end)))
 
 pub ty_row-lab-s1-requires : goal.ty_row-lab-s1-requires
 ty_row-lab-s1-requires t c =
@@ -1150,8 +1150,8 @@ ty_rows-returns-in-Err t c =
     let row_turn = c.in-Err.ensures in
     loop_ends (end_turn_advances true _ _ _ _ _ _) inv (runs_in row_turn)
 
-pub ty_seq-refuse-requires : goal.ty_seq-refuse-requires
-ty_seq-refuse-requires t c =
+pub ty_seq-refuse_for-requires : goal.ty_seq-refuse_for-requires
+ty_seq-refuse_for-requires t c =
     tt
 
 pub ty_seq-returns-then-left-eq0 : goal.ty_seq-returns-then-left-eq0
@@ -1164,8 +1164,8 @@ ty_seq-returns-then-left-eq0 t c =
     let L0 = c.args.scratch.now in
     let H0 = c.args.finds.now in
     let S0 = c.args.s in
-    let S2 = c.refuse.result in
-    by_steps {m = (mem X0 T0 N0 J0 L0 H0 S0)} {m' = (mem X0 T0 N0 J0 L0 H0 S2)} (c.requires) (λ b. s_shut (c.if-left-eq0.true) (c.refuse.ensures) (λ k l. refl))
+    let S2 = c.refuse_for.result in
+    by_steps {m = (mem X0 T0 N0 J0 L0 H0 S0)} {m' = (mem X0 T0 N0 J0 L0 H0 S2)} (c.requires) (λ b. s_shut (c.if-left-eq0.true) (c.refuse_for.ensures) (λ k l. refl))
 
 pub ty_seq-mark-s1-requires : goal.ty_seq-mark-s1-requires
 ty_seq-mark-s1-requires t c =
@@ -1193,8 +1193,8 @@ ty_seq-ty_args-s4-requires t c =
     let ty_arg_ok = ty_arg.ok in
     (omega arith, ty_arg_ok)
 
-pub ty_seq-close-requires : goal.ty_seq-close-requires
-ty_seq-close-requires t c =
+pub ty_seq-close_node-requires : goal.ty_seq-close_node-requires
+ty_seq-close_node-requires t c =
     let pre0 = c.requires in
     let mark = c.mark-s1.ensures in
     let mark_ok = ok_marks mark pre0 in
@@ -1221,9 +1221,9 @@ ty_seq-returns-in-Err t c =
     let L5 = c.ty_args-s4.new.scratch in
     let H5 = c.ty_args-s4.new.finds in
     let S5 = c.ty_args-s4.result in
-    let L6 = c.close.new.scratch in
-    let S6 = c.close.result in
-    by_steps {m = (mem X0 T0 N0 J0 L0 H0 S0)} {m' = (mem X0 T0 N0 J0 L6 H5 S6)} (c.requires) (λ b. s_mark {e = (mem X0 T0 N0 J0 L6 H5 S6)} {x = X0} {t = T0} {n = N0} {j = J0} {l = L0} {h = H0} {s = S0} {s' = S2} (c.if-left-eq0.false) (c.mark-s1.ensures) (s_bump {e = (mem X0 T0 N0 J0 L6 H5 S6)} {x = X0} {t = T0} {n = N0} {j = J0} {l = L0} {h = H0} {s = S2} {s' = S3} {l' = L3} (c.bump-s2.ensures) (s_by {a = (mem X0 T0 N0 J0 L3 H0 S3)} {c = (mem X0 T0 N0 J0 L4 H4 S4)} {e = (mem X0 T0 N0 J0 L6 H5 S6)} _ (runs_in {a = (mem X0 T0 N0 J0 L3 H0 S3)} {c = (mem X0 T0 N0 J0 L4 H4 S4)} (c.in-Err.ensures)) (s_run {a = (mem X0 T0 N0 J0 L4 H4 S4)} {c = (mem X0 T0 N0 J0 L5 H5 S5)} {e = (mem X0 T0 N0 J0 L6 H5 S6)} (c.ty_args-s4.ensures) (s_close {e = (mem X0 T0 N0 J0 L6 H5 S6)} {x = X0} {t = T0} {n = N0} {j = J0} {l = L5} {h = H5} {s = S5} {s' = S6} {l' = L6} (c.close.ensures) s_end)))))
+    let L6 = c.close_node.new.scratch in
+    let S6 = c.close_node.result in
+    by_steps {m = (mem X0 T0 N0 J0 L0 H0 S0)} {m' = (mem X0 T0 N0 J0 L6 H5 S6)} (c.requires) (λ b. s_mark {e = (mem X0 T0 N0 J0 L6 H5 S6)} {x = X0} {t = T0} {n = N0} {j = J0} {l = L0} {h = H0} {s = S0} {s' = S2} (c.if-left-eq0.false) (c.mark-s1.ensures) (s_bump {e = (mem X0 T0 N0 J0 L6 H5 S6)} {x = X0} {t = T0} {n = N0} {j = J0} {l = L0} {h = H0} {s = S2} {s' = S3} {l' = L3} (c.bump-s2.ensures) (s_by {a = (mem X0 T0 N0 J0 L3 H0 S3)} {c = (mem X0 T0 N0 J0 L4 H4 S4)} {e = (mem X0 T0 N0 J0 L6 H5 S6)} _ (runs_in {a = (mem X0 T0 N0 J0 L3 H0 S3)} {c = (mem X0 T0 N0 J0 L4 H4 S4)} (c.in-Err.ensures)) (s_run {a = (mem X0 T0 N0 J0 L4 H4 S4)} {c = (mem X0 T0 N0 J0 L5 H5 S5)} {e = (mem X0 T0 N0 J0 L6 H5 S6)} (c.ty_args-s4.ensures) (s_close {e = (mem X0 T0 N0 J0 L6 H5 S6)} {x = X0} {t = T0} {n = N0} {j = J0} {l = L5} {h = H5} {s = S5} {s' = S6} {l' = L6} (c.close_node.ensures) s_end)))))
 
 pub ty_seq-returns-in-Ok : goal.ty_seq-returns-in-Ok
 unfolding types.ty_seq util.end_sep plan choose chosen
@@ -1391,8 +1391,8 @@ ty_tail-returns-in-Err t c =
     let ty_step = c.in-Err.ensures in
     loop_ends (ty_step_advances _ _ _) inv ty_step
 
-pub ty_tuple-refuse-requires : goal.ty_tuple-refuse-requires
-ty_tuple-refuse-requires t c =
+pub ty_tuple-refuse_for-requires : goal.ty_tuple-refuse_for-requires
+ty_tuple-refuse_for-requires t c =
     tt
 
 pub ty_tuple-returns-then-left-eq0 : goal.ty_tuple-returns-then-left-eq0
@@ -1405,8 +1405,8 @@ ty_tuple-returns-then-left-eq0 t c =
     let L0 = c.args.scratch.now in
     let H0 = c.args.finds.now in
     let S0 = c.args.s in
-    let S2 = c.refuse.result in
-    in_steps {m = (mem X0 T0 N0 J0 L0 H0 S0)} {m' = (mem X0 T0 N0 J0 L0 H0 S2)} (c.requires.0) (s_shut (c.if-left-eq0.true) (c.refuse.ensures) (λ k l. refl))
+    let S2 = c.refuse_for.result in
+    in_steps {m = (mem X0 T0 N0 J0 L0 H0 S0)} {m' = (mem X0 T0 N0 J0 L0 H0 S2)} (c.requires.0) (s_shut (c.if-left-eq0.true) (c.refuse_for.ensures) (λ k l. refl))
 
 pub ty_tuple-mark-requires : goal.ty_tuple-mark-requires
 ty_tuple-mark-requires t c =
@@ -1419,8 +1419,8 @@ ty_tuple-star_tail-s1-requires t c =
     let mark_ok = ok_marks mark pre0 in
     (omega arith, mark_ok)
 
-pub ty_tuple-close-requires : goal.ty_tuple-close-requires
-ty_tuple-close-requires t c =
+pub ty_tuple-close_node-requires : goal.ty_tuple-close_node-requires
+ty_tuple-close_node-requires t c =
     let pre1 = c.requires.1 in
     let star_tail = c.star_tail-s1.ensures in
     let star_tail_ok = star_tail.ok in
@@ -1440,6 +1440,6 @@ ty_tuple-returns t c =
     let L3 = c.star_tail-s1.new.scratch in
     let H3 = c.star_tail-s1.new.finds in
     let S3 = c.star_tail-s1.result in
-    let L4 = c.close.new.scratch in
-    let S4 = c.close.result in
-    in_steps {m = (mem X0 T0 N0 J0 L0 H0 S0)} {m' = (mem X0 T0 N0 J0 L4 H3 S4)} (c.requires.0) (s_mark {e = (mem X0 T0 N0 J0 L4 H3 S4)} {x = X0} {t = T0} {n = N0} {j = J0} {l = L0} {h = H0} {s = S0} {s' = S2} (c.if-left-eq0.false) (c.mark.ensures) (s_run {a = (mem X0 T0 N0 J0 L0 H0 S2)} {c = (mem X0 T0 N0 J0 L3 H3 S3)} {e = (mem X0 T0 N0 J0 L4 H3 S4)} (c.star_tail-s1.ensures) (s_close {e = (mem X0 T0 N0 J0 L4 H3 S4)} {x = X0} {t = T0} {n = N0} {j = J0} {l = L3} {h = H3} {s = S3} {s' = S4} {l' = L4} (c.close.ensures) s_end)))
+    let L4 = c.close_node.new.scratch in
+    let S4 = c.close_node.result in
+    in_steps {m = (mem X0 T0 N0 J0 L0 H0 S0)} {m' = (mem X0 T0 N0 J0 L4 H3 S4)} (c.requires.0) (s_mark {e = (mem X0 T0 N0 J0 L4 H3 S4)} {x = X0} {t = T0} {n = N0} {j = J0} {l = L0} {h = H0} {s = S0} {s' = S2} (c.if-left-eq0.false) (c.mark.ensures) (s_run {a = (mem X0 T0 N0 J0 L0 H0 S2)} {c = (mem X0 T0 N0 J0 L3 H3 S3)} {e = (mem X0 T0 N0 J0 L4 H3 S4)} (c.star_tail-s1.ensures) (s_close {e = (mem X0 T0 N0 J0 L4 H3 S4)} {x = X0} {t = T0} {n = N0} {j = J0} {l = L3} {h = H3} {s = S3} {s' = S4} {l' = L4} (c.close_node.ensures) s_end)))

@@ -21,8 +21,8 @@ pub ascription-requires : goal.ascription-requires
 ascription-requires c =
     tt
 
-pub refuse-requires : goal.refuse-requires
-refuse-requires c =
+pub refuse_for-requires : goal.refuse_for-requires
+refuse_for-requires c =
     tt
 
 pub returns-then-left-eq0 : goal.returns-then-left-eq0
@@ -33,8 +33,8 @@ returns-then-left-eq0 c =
     let ascription = c.ascription.ensures in
     let if1 = c.if-ascription.true in
     let if2 = c.if-left-eq0.true in
-    let refuse = c.refuse.ensures in
-    by_steps pre0 (λ b. s_look peek (s_true _ _ (test_true ascription if1) (s_shut if2 refuse (λ k l. refl))))
+    let refuse_for = c.refuse_for.ensures in
+    by_steps pre0 (λ b. s_look peek (s_true _ _ (test_true ascription if1) (s_shut if2 refuse_for (λ k l. refl))))
 
 pub mark-s1-requires : goal.mark-s1-requires
 mark-s1-requires c =
@@ -56,8 +56,8 @@ ty_must-s3-requires c =
     let bump_ok = ok_bumps bump mark_ok in
     bump_ok
 
-pub close-requires : goal.close-requires
-close-requires c =
+pub close_node-requires : goal.close_node-requires
+close_node-requires c =
     let pre0 = c.requires in
     let mark = c.mark-s1.ensures in
     let mark_ok = ok_marks mark pre0 in
@@ -76,8 +76,8 @@ returns-then-ascription c =
     let mark = c.mark-s1.ensures in
     let bump = c.bump-s2.ensures in
     let ty_must = c.ty_must-s3.ensures in
-    let close = c.close.ensures in
-    by_steps pre0 (λ b. s_look peek (s_true _ _ (test_true ascription if1) (s_mark if2 mark (s_bump bump (s_by _ (runs_in ty_must) (s_close close s_end))))))
+    let close_node = c.close_node.ensures in
+    by_steps pre0 (λ b. s_look peek (s_true _ _ (test_true ascription if1) (s_mark if2 mark (s_bump bump (s_by _ (runs_in ty_must) (s_close close_node s_end))))))
 
 pub returns : goal.returns
 unfolding types.ty_annotation plan choose chosen

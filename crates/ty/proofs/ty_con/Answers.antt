@@ -5,8 +5,8 @@ use Rattle.parser.specs.Plans.{plan, choose, chosen, in_steps, s_close, s_mark, 
 use mathlib.Core.Path.{refl}
 use Rattle.ty.proofs.ty_con.Goals as goal
 
-pub refuse-requires : goal.refuse-requires
-refuse-requires c =
+pub refuse_for-requires : goal.refuse_for-requires
+refuse_for-requires c =
     tt
 
 pub returns-then-left-eq0 : goal.returns-then-left-eq0
@@ -14,8 +14,8 @@ unfolding types.ty_con plan choose chosen hushed
 returns-then-left-eq0 c =
     let pre0 = c.requires.0 in
     let if1 = c.if-left-eq0.true in
-    let refuse = c.refuse.ensures in
-    in_steps pre0 (s_shut if1 refuse (λ k l. refl))
+    let refuse_for = c.refuse_for.ensures in
+    in_steps pre0 (s_shut if1 refuse_for (λ k l. refl))
 
 pub mark-requires : goal.mark-requires
 mark-requires c =
@@ -32,8 +32,8 @@ pub either-s1-requires : goal.either-s1-requires
 either-s1-requires c =
     tt
 
-pub close-requires : goal.close-requires
-close-requires c =
+pub close_node-requires : goal.close_node-requires
+close_node-requires c =
     let pre1 = c.requires.1 in
     let path_must = c.path_must-got.ensures in
     let path_must_ok = path_must.ok in
@@ -49,5 +49,5 @@ returns c =
     let mark = c.mark.ensures in
     let path_must = c.path_must-got.ensures in
     let either = c.either-s1.ensures in
-    let close = c.close.ensures in
-    in_steps pre0 (s_mark if1 mark (s_by _ (settled either (runs_in path_must)) (s_close close s_end)))
+    let close_node = c.close_node.ensures in
+    in_steps pre0 (s_mark if1 mark (s_by _ (settled either (runs_in path_must)) (s_close close_node s_end)))

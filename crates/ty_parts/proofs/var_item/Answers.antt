@@ -6,8 +6,8 @@ use native.Mathlib.Omega.{arith}
 use mathlib.Core.Path.{refl}
 use Rattle.ty_parts.proofs.var_item.Goals as goal
 
-pub refuse-requires : goal.refuse-requires
-refuse-requires c =
+pub refuse_for-requires : goal.refuse_for-requires
+refuse_for-requires c =
     tt
 
 pub returns-then-left-eq0 : goal.returns-then-left-eq0
@@ -15,8 +15,8 @@ unfolding util.end_item plan choose chosen hushed
 returns-then-left-eq0 c =
     let pre0 = c.requires in
     let if1 = c.if-left-eq0.true in
-    let refuse = c.refuse.ensures in
-    by_steps pre0 (λ b. s_shut if1 refuse (λ k l. refl))
+    let refuse_for = c.refuse_for.ensures in
+    by_steps pre0 (λ b. s_shut if1 refuse_for (λ k l. refl))
 
 pub mark-s1-requires : goal.mark-s1-requires
 mark-s1-requires c =
@@ -55,8 +55,8 @@ bump-s3-requires c =
     let either_ok = ok_state either eat_ok in
     (either_ok.reads, either_ok.logs)
 
-pub close-requires : goal.close-requires
-close-requires c =
+pub close_node-requires : goal.close_node-requires
+close_node-requires c =
     let pre0 = c.requires in
     let mark = c.mark-s1.ensures in
     let mark_ok = ok_marks mark pre0 in
@@ -68,8 +68,8 @@ close-requires c =
     let bump_ok = ok_bumps bump either_ok in
     (bump_ok.logs, small_len mark_ok)
 
-pub close-requires-else-at : goal.close-requires-else-at
-close-requires-else-at c =
+pub close_node-requires-else-at : goal.close_node-requires-else-at
+close_node-requires-else-at c =
     let pre0 = c.requires in
     let mark = c.mark-s1.ensures in
     let mark_ok = ok_marks mark pre0 in
@@ -90,8 +90,8 @@ returns-then-at c =
     let at = c.at.ensures in
     let if2 = c.if-at.true in
     let bump = c.bump-s3.ensures in
-    let close = c.close.ensures in
-    by_steps pre0 (λ b. s_mark if1 mark (s_eats _ _ _ (eats_settled either eat) (s_kind (s_true _ _ (kind_at _ _ _ _ at if2) (s_bump bump (s_close close s_end))))))
+    let close_node = c.close_node.ensures in
+    by_steps pre0 (λ b. s_mark if1 mark (s_eats _ _ _ (eats_settled either eat) (s_kind (s_true _ _ (kind_at _ _ _ _ at if2) (s_bump bump (s_close close_node s_end))))))
 
 pub returns-else-at : goal.returns-else-at
 unfolding util.end_item plan choose chosen
@@ -103,5 +103,5 @@ returns-else-at c =
     let either = c.either-s2.ensures in
     let at = c.at.ensures in
     let if2 = c.if-at.false in
-    let close2 = c.close-else-at.ensures in
-    by_steps pre0 (λ b. s_mark if1 mark (s_eats _ _ _ (eats_settled either eat) (s_kind (s_false _ _ (kind_off _ _ _ _ at if2) (s_close close2 s_end)))))
+    let close_node2 = c.close_node-else-at.ensures in
+    by_steps pre0 (λ b. s_mark if1 mark (s_eats _ _ _ (eats_settled either eat) (s_kind (s_false _ _ (kind_off _ _ _ _ at if2) (s_close close_node2 s_end)))))

@@ -23,8 +23,8 @@ var_args-s2-requires c =
     let bump_ok = ok_bumps bump pre0 in
     (bump_ok, pre1)
 
-pub close-requires : goal.close-requires
-close-requires c =
+pub close_node-requires : goal.close_node-requires
+close_node-requires c =
     let pre1 = c.requires.1 in
     let var_args = c.var_args-s2.ensures in
     let var_args_ok = var_args.ok in
@@ -38,8 +38,8 @@ returns-then-at_n c =
     let if1 = c.if-at_n.true in
     let bump = c.bump-s1.ensures in
     let var_args = c.var_args-s2.ensures in
-    let close = c.close.ensures in
-    in_steps pre0 (s_kind (s_true _ _ (kind_at _ _ _ _ at_n if1) (s_bump bump (s_run var_args (s_close close s_end)))))
+    let close_node = c.close_node.ensures in
+    in_steps pre0 (s_kind (s_true _ _ (kind_at _ _ _ _ at_n if1) (s_bump bump (s_run var_args (s_close close_node s_end)))))
 
 pub returns : goal.returns
 unfolding types.ty_var_many util.end_sep plan choose chosen

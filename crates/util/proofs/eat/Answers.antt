@@ -7,8 +7,8 @@ use Rattle.parser.specs.Runs.{kind_at, kind_off}
 use Rattle.parser.specs.Plans.{plan, choose, chosen, s_kind, s_true, s_false, s_bump, s_report, s_end, eats}
 use Rattle.util.proofs.eat.Goals as goal
 
-pub report-requires : goal.report-requires
-report-requires c =
+pub report_error-requires : goal.report_error-requires
+report_error-requires c =
     let few = c.requires.0.few in
     let inside = c.requires.0.inside in
     (c.requires.2, omega arith, omega arith)
@@ -21,4 +21,4 @@ pub returns-else-at : goal.returns-else-at
 unfolding util.eat plan choose chosen
 returns-else-at c =
     let low : c.args.want % 128 ≡ c.args.want = omega (arith, c.requires.3) in
-    eats (λ x e j n b. s_kind (s_false _ _ (kind_off _ _ _ _ c.at.ensures c.if-at.false) (s_report (rw low at c.report.ensures) s_end)))
+    eats (λ x e j n b. s_kind (s_false _ _ (kind_off _ _ _ _ c.at.ensures c.if-at.false) (s_report (rw low at c.report_error.ensures) s_end)))

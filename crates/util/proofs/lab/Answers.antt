@@ -10,8 +10,8 @@ peek-requires c =
     let pre0 = c.requires.0 in
     pre0
 
-pub report-requires : goal.report-requires
-report-requires c =
+pub report_error-requires : goal.report_error-requires
+report_error-requires c =
     let pre0 = c.requires.0 in
     let pre2 = c.requires.2 in
     (pre2, (let few = pre0.few in let inside = pre0.inside in omega arith), omega arith)
@@ -20,8 +20,8 @@ pub returns-in_default : goal.returns-in_default
 unfolding util.lab plan choose chosen
 returns-in_default c =
     let peek = c.in_default.ensures in
-    let report = c.report.ensures in
-    eats (λ x e j n b. s_look peek (s_report report s_end))
+    let report_error = c.report_error.ensures in
+    eats (λ x e j n b. s_look peek (s_report report_error s_end))
 
 pub label-requires : goal.label-requires
 label-requires c =
@@ -33,8 +33,8 @@ bump-requires c =
     let pre1 = c.requires.1 in
     (pre0, pre1)
 
-pub report-requires-else-label : goal.report-requires-else-label
-report-requires-else-label c =
+pub report_error-requires-else-label : goal.report_error-requires-else-label
+report_error-requires-else-label c =
     let pre0 = c.requires.0 in
     let pre2 = c.requires.2 in
     (pre2, (let few = pre0.few in let inside = pre0.inside in omega arith), omega arith)
@@ -54,5 +54,5 @@ returns-else-label c =
     let peek = c.in-Some.ensures in
     let label = c.label.ensures in
     let if1 = c.if-label.false in
-    let report2 = c.report-else-label.ensures in
-    eats (λ x e j n b. s_look peek (s_false _ _ (test_false label if1) (s_report report2 s_end)))
+    let report_error2 = c.report_error-else-label.ensures in
+    eats (λ x e j n b. s_look peek (s_false _ _ (test_false label if1) (s_report report_error2 s_end)))

@@ -14,16 +14,16 @@ bump-s1-requires c =
     let pre0 = c.requires.0 in
     (pre0.reads, pre0.logs)
 
-pub close-requires : goal.close-requires
-close-requires c =
+pub close_node-requires : goal.close_node-requires
+close_node-requires c =
     let pre0 = c.requires.0 in
     let pre1 = c.requires.1 in
     let bump = c.bump-s1.ensures in
     let bump_ok = ok_bumps bump pre0 in
     (bump_ok.logs, pre1)
 
-pub close-requires-else-at : goal.close-requires-else-at
-close-requires-else-at c =
+pub close_node-requires-else-at : goal.close_node-requires-else-at
+close_node-requires-else-at c =
     let pre0 = c.requires.0 in
     let pre1 = c.requires.1 in
     (pre0.logs, pre1)
@@ -35,8 +35,8 @@ returns-then-at c =
     let at = c.at.ensures in
     let if1 = c.if-at.true in
     let bump = c.bump-s1.ensures in
-    let close = c.close.ensures in
-    in_steps pre0 (s_kind (s_true _ _ (kind_at _ _ _ _ at if1) (s_bump bump (s_close close s_end))))
+    let close_node = c.close_node.ensures in
+    in_steps pre0 (s_kind (s_true _ _ (kind_at _ _ _ _ at if1) (s_bump bump (s_close close_node s_end))))
 
 pub returns-else-at : goal.returns-else-at
 unfolding util.part_end plan choose chosen
@@ -44,5 +44,5 @@ returns-else-at c =
     let pre0 = c.requires.0 in
     let at = c.at.ensures in
     let if1 = c.if-at.false in
-    let close2 = c.close-else-at.ensures in
-    in_steps pre0 (s_kind (s_false _ _ (kind_off _ _ _ _ at if1) (s_close close2 s_end)))
+    let close_node2 = c.close_node-else-at.ensures in
+    in_steps pre0 (s_kind (s_false _ _ (kind_off _ _ _ _ at if1) (s_close close_node2 s_end)))

@@ -5,8 +5,8 @@ use Rattle.parser.specs.Plans.{plan, choose, chosen, by_steps, s_close, s_mark, 
 use mathlib.Core.Path.{refl}
 use Rattle.util.proofs.path_here.Goals as goal
 
-pub refuse-requires : goal.refuse-requires
-refuse-requires c =
+pub refuse_for-requires : goal.refuse_for-requires
+refuse_for-requires c =
     tt
 
 pub returns-then-left-eq0 : goal.returns-then-left-eq0
@@ -14,8 +14,8 @@ unfolding util.path_here plan choose chosen hushed
 returns-then-left-eq0 c =
     let pre0 = c.requires in
     let if1 = c.if-left-eq0.true in
-    let refuse = c.refuse.ensures in
-    by_steps pre0 (λ b. s_shut if1 refuse (λ k l. refl))
+    let refuse_for = c.refuse_for.ensures in
+    by_steps pre0 (λ b. s_shut if1 refuse_for (λ k l. refl))
 
 pub mark-s1-requires : goal.mark-s1-requires
 mark-s1-requires c =
@@ -34,8 +34,8 @@ path_parts-s3-requires c =
     let path_start_ok = path_start.ok in
     path_start_ok
 
-pub close-requires : goal.close-requires
-close-requires c =
+pub close_node-requires : goal.close_node-requires
+close_node-requires c =
     let pre0 = c.requires in
     let mark = c.mark-s1.ensures in
     let mark_ok = ok_marks mark pre0 in
@@ -43,8 +43,8 @@ close-requires c =
     let path_parts_ok = path_parts.ok in
     (path_parts_ok.logs, small_len mark_ok)
 
-pub close-requires-in-Err : goal.close-requires-in-Err
-close-requires-in-Err c =
+pub close_node-requires-in-Err : goal.close_node-requires-in-Err
+close_node-requires-in-Err c =
     let pre0 = c.requires in
     let mark = c.mark-s1.ensures in
     let mark_ok = ok_marks mark pre0 in
@@ -60,8 +60,8 @@ returns-in-Ok c =
     let mark = c.mark-s1.ensures in
     let path_start = c.in-Ok.ensures in
     let path_parts = c.path_parts-s3.ensures in
-    let close = c.close.ensures in
-    by_steps pre0 (λ b. s_mark if1 mark (s_by _ (runs_in path_start) (s_run path_parts (s_close close s_end))))
+    let close_node = c.close_node.ensures in
+    by_steps pre0 (λ b. s_mark if1 mark (s_by _ (runs_in path_start) (s_run path_parts (s_close close_node s_end))))
 
 pub returns-in-Err : goal.returns-in-Err
 unfolding util.path_here plan choose chosen
@@ -70,5 +70,5 @@ returns-in-Err c =
     let if1 = c.if-left-eq0.false in
     let mark = c.mark-s1.ensures in
     let path_start = c.in-Err.ensures in
-    let close2 = c.close-in-Err.ensures in
-    by_steps pre0 (λ b. s_mark if1 mark (s_by _ (runs_in path_start) (s_close close2 s_end)))
+    let close_node2 = c.close_node-in-Err.ensures in
+    by_steps pre0 (λ b. s_mark if1 mark (s_by _ (runs_in path_start) (s_close close_node2 s_end)))

@@ -10,8 +10,8 @@ path-got-requires c =
     let pre0 = c.requires in
     pre0
 
-pub report-requires : goal.report-requires
-report-requires c =
+pub report_error-requires : goal.report_error-requires
+report_error-requires c =
     let path = c.in-Err.ensures in
     let path_ok = path.ok in
     (path_ok.holds, (let few = path_ok.reads.few in let inside = path_ok.reads.inside in omega arith), omega arith)
@@ -28,5 +28,5 @@ unfolding util.path_must plan choose chosen
 returns-in-Err c =
     let pre0 = c.requires in
     let path = c.in-Err.ensures in
-    let report = c.report.ensures in
-    by_steps pre0 (λ b. s_by _ (runs_in path) (s_report report s_end))
+    let report_error = c.report_error.ensures in
+    by_steps pre0 (λ b. s_by _ (runs_in path) (s_report report_error s_end))

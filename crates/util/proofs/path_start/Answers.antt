@@ -5,8 +5,8 @@ use Rattle.parser.specs.Plans.{plan, choose, chosen, by_steps, s_bump, s_mark, s
 use mathlib.Core.Path.{refl}
 use Rattle.util.proofs.path_start.Goals as goal
 
-pub refuse-requires : goal.refuse-requires
-refuse-requires c =
+pub refuse_for-requires : goal.refuse_for-requires
+refuse_for-requires c =
     tt
 
 pub returns-then-left-eq0 : goal.returns-then-left-eq0
@@ -14,8 +14,8 @@ unfolding util.path_start plan choose chosen hushed
 returns-then-left-eq0 c =
     let pre0 = c.requires in
     let if1 = c.if-left-eq0.true in
-    let refuse = c.refuse.ensures in
-    by_steps pre0 (λ b. s_shut if1 refuse (λ k l. refl))
+    let refuse_for = c.refuse_for.ensures in
+    by_steps pre0 (λ b. s_shut if1 refuse_for (λ k l. refl))
 
 pub mark-s1-requires : goal.mark-s1-requires
 mark-s1-requires c =

@@ -41,8 +41,8 @@ fixity_at-requires c =
     let pre0 = c.requires in
     (pre0.reads, pre0.names, pre0.stands)
 
-pub report-requires : goal.report-requires
-report-requires c =
+pub report_error-requires : goal.report_error-requires
+report_error-requires c =
     let pre0 = c.requires in
     (pre0.holds, (let few = pre0.reads.few in let inside = pre0.reads.inside in omega arith), omega arith)
 
@@ -56,8 +56,8 @@ returns-in-None c =
     let name_star_eq = c.name_star_eq.ensures in
     let if2 = c.if-name_star_eq.true in
     let fixity_at = c.in-None.ensures in
-    let report = c.report.ensures in
-    always pre0 (λ n b. s_kind (s_false _ _ (kind_off _ _ _ _ at_n if1) (s_look peek_n (s_true _ _ (test_true name_star_eq if2) (s_fixed fixity_at (s_report report s_end))))))
+    let report_error = c.report_error.ensures in
+    always pre0 (λ n b. s_kind (s_false _ _ (kind_off _ _ _ _ at_n if1) (s_look peek_n (s_true _ _ (test_true name_star_eq if2) (s_fixed fixity_at (s_report report_error s_end))))))
 
 pub returns-in-Some-fixity_at : goal.returns-in-Some-fixity_at
 unfolding util.unnecessary_op plan choose chosen

@@ -45,8 +45,8 @@ pub index-requires : goal.index-requires
 index-requires c =
     tt
 
-pub report-requires : goal.report-requires
-report-requires c =
+pub report_error-requires : goal.report_error-requires
+report_error-requires c =
     let pre0 = c.requires in
     let index = c.index.ensures in
     let index_small = small_index index pre0 in
@@ -75,8 +75,8 @@ returns-in-Some-fixity_at c =
     let if2 = c.if-name_star_eq.true in
     let fixity_at = c.in-Some-fixity_at.ensures in
     let index = c.index.ensures in
-    let report = c.report.ensures in
-    always pre0 (λ n b. s_kind (s_false _ _ (kind_off _ _ _ _ at_n if1) (s_look peek (s_true _ _ (test_true name_star_eq if2) (s_fixed fixity_at (s_index index (s_report report s_end)))))))
+    let report_error = c.report_error.ensures in
+    always pre0 (λ n b. s_kind (s_false _ _ (kind_off _ _ _ _ at_n if1) (s_look peek (s_true _ _ (test_true name_star_eq if2) (s_fixed fixity_at (s_index index (s_report report_error s_end)))))))
 
 pub returns-else-name_star_eq : goal.returns-else-name_star_eq
 unfolding util.without_op plan choose chosen

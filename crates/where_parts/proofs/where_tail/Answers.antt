@@ -56,8 +56,8 @@ ty_must-s5-requires c =
     let want_ok = ok_eats want either2_ok in
     want_ok
 
-pub close-requires : goal.close-requires
-close-requires c =
+pub close_node-requires : goal.close_node-requires
+close_node-requires c =
     let pre1 = c.requires.1 in
     let ty_must = c.ty_must-s5.ensures in
     let ty_must_ok = ty_must.ok in
@@ -76,8 +76,8 @@ returns-then-at c =
     let either2 = c.either-s3.ensures in
     let want = c.want-s4.ensures in
     let ty_must = c.ty_must-s5.ensures in
-    let close = c.close.ensures in
-    in_steps pre0 (s_kind (s_true _ _ (kind_at _ _ _ _ at if1) (s_bump bump (s_by _ (settled either (runs_in ty_var_seq)) (s_by _ (settled either2 (runs_in path_must)) (s_eats _ _ _ want (s_by _ (runs_in ty_must) (s_close close s_end))))))))
+    let close_node = c.close_node.ensures in
+    in_steps pre0 (s_kind (s_true _ _ (kind_at _ _ _ _ at if1) (s_bump bump (s_by _ (settled either (runs_in ty_var_seq)) (s_by _ (settled either2 (runs_in path_must)) (s_eats _ _ _ want (s_by _ (runs_in ty_must) (s_close close_node s_end))))))))
 
 pub path_must-name-requires-2 : goal.path_must-name-requires-2
 path_must-name-requires-2 c =
@@ -110,8 +110,8 @@ pub either-s3-requires-2 : goal.either-s3-requires-2
 either-s3-requires-2 c =
     tt
 
-pub close-requires-2 : goal.close-requires-2
-close-requires-2 c =
+pub close_node-requires-2 : goal.close_node-requires-2
+close_node-requires-2 c =
     let pre1 = c.requires.1 in
     let path_must3 = c.path_must-same.ensures in
     let path_must3_ok = path_must3.ok in
@@ -130,5 +130,5 @@ returns c =
     let want2 = c.want-s2.ensures in
     let path_must3 = c.path_must-same.ensures in
     let either4 = c.either-s3-2.ensures in
-    let close2 = c.close-2.ensures in
-    in_steps pre0 (s_kind (s_false _ _ (kind_off _ _ _ _ at if1) (s_by _ (settled either3 (runs_in path_must2)) (s_eats _ _ _ want2 (s_by _ (settled either4 (runs_in path_must3)) (s_close close2 s_end))))))
+    let close_node2 = c.close_node-2.ensures in
+    in_steps pre0 (s_kind (s_false _ _ (kind_off _ _ _ _ at if1) (s_by _ (settled either3 (runs_in path_must2)) (s_eats _ _ _ want2 (s_by _ (settled either4 (runs_in path_must3)) (s_close close_node2 s_end))))))

@@ -28,8 +28,8 @@ pub where_and-requires : goal.where_and-requires
 where_and-requires c =
     tt
 
-pub refuse-s1-requires : goal.refuse-s1-requires
-refuse-s1-requires c =
+pub refuse_for-s1-requires : goal.refuse_for-s1-requires
+refuse_for-s1-requires c =
     tt
 
 pub loop-k-smaller-then-left-eq0 : goal.loop-k-smaller-then-left-eq0
@@ -40,8 +40,8 @@ loop-k-smaller-then-left-eq0 c =
     let where_and = c.where_and.ensures in
     let if1 = c.if-where_and.true in
     let if2 = c.if-left-eq0.true in
-    let refuse = c.refuse-s1.ensures in
-    loop_falls (sig_step_advances _ _) (in_steps inv.ok {n = c.args.left} {b = c.args.b} (s_look peek (s_true _ _ (test_true where_and if1) (s_shut if2 refuse (λ k l. refl)))))
+    let refuse_for = c.refuse_for-s1.ensures in
+    loop_falls (sig_step_advances _ _) (in_steps inv.ok {n = c.args.left} {b = c.args.b} (s_look peek (s_true _ _ (test_true where_and if1) (s_shut if2 refuse_for (λ k l. refl)))))
 
 pub loop-k-preserved-then-left-eq0 : goal.loop-k-preserved-then-left-eq0
 unfolding decl.sig_step plan choose chosen hushed
@@ -51,8 +51,8 @@ loop-k-preserved-then-left-eq0 c =
     let where_and = c.where_and.ensures in
     let if1 = c.if-where_and.true in
     let if2 = c.if-left-eq0.true in
-    let refuse = c.refuse-s1.ensures in
-    loop_goes (sig_step_advances _ _) inv (in_steps inv.ok {n = c.args.left} {b = c.args.b} (s_look peek (s_true _ _ (test_true where_and if1) (s_shut if2 refuse (λ k l. refl)))))
+    let refuse_for = c.refuse_for-s1.ensures in
+    loop_goes (sig_step_advances _ _) inv (in_steps inv.ok {n = c.args.left} {b = c.args.b} (s_look peek (s_true _ _ (test_true where_and if1) (s_shut if2 refuse_for (λ k l. refl)))))
 
 pub mark-s2-requires : goal.mark-s2-requires
 mark-s2-requires c =

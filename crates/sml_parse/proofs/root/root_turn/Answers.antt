@@ -26,8 +26,8 @@ pub is_closer-requires : goal.is_closer-requires
 is_closer-requires c =
     tt
 
-pub report-s2-requires : goal.report-s2-requires
-report-s2-requires c =
+pub report_error-s2-requires : goal.report_error-s2-requires
+report_error-s2-requires c =
     let dec = c.in-Err.ensures in
     let dec_ok = dec.ok in
     (dec_ok.holds, (let few = dec_ok.reads.few in let inside = dec_ok.reads.inside in omega arith), omega arith)
@@ -36,9 +36,9 @@ pub bump-requires : goal.bump-requires
 bump-requires c =
     let dec = c.in-Err.ensures in
     let dec_ok = dec.ok in
-    let report = c.report-s2.ensures in
-    let report_ok = ok_tells report dec_ok in
-    (report_ok.reads, report_ok.logs)
+    let report_error = c.report_error-s2.ensures in
+    let report_error_ok = ok_tells report_error dec_ok in
+    (report_error_ok.reads, report_error_ok.logs)
 
 pub returns-then-is_closer : goal.returns-then-is_closer
 unfolding root_def.root_turn plan choose chosen
@@ -48,12 +48,12 @@ returns-then-is_closer c =
     let dec = c.in-Err.ensures in
     let is_closer = c.is_closer.ensures in
     let if1 = c.if-is_closer.true in
-    let report = c.report-s2.ensures in
+    let report_error = c.report_error-s2.ensures in
     let bump = c.bump.ensures in
-    by_steps pre0 (λ b. s_look peek (s_run (runs_in dec) (s_true _ _ (test_true is_closer if1) (s_report report (s_bump bump s_end)))))
+    by_steps pre0 (λ b. s_look peek (s_run (runs_in dec) (s_true _ _ (test_true is_closer if1) (s_report report_error (s_bump bump s_end)))))
 
-pub report-s2-requires-in-Err : goal.report-s2-requires-in-Err
-report-s2-requires-in-Err c =
+pub report_error-s2-requires-in-Err : goal.report_error-s2-requires-in-Err
+report_error-s2-requires-in-Err c =
     let dec = c.in-Err.ensures in
     let dec_ok = dec.ok in
     (dec_ok.holds, (let few = dec_ok.reads.few in let inside = dec_ok.reads.inside in omega arith), omega arith)
@@ -62,9 +62,9 @@ pub bump-requires-in-Err : goal.bump-requires-in-Err
 bump-requires-in-Err c =
     let dec = c.in-Err.ensures in
     let dec_ok = dec.ok in
-    let report2 = c.report-s2-in-Err.ensures in
-    let report2_ok = ok_tells report2 dec_ok in
-    (report2_ok.reads, report2_ok.logs)
+    let report_error2 = c.report_error-s2-in-Err.ensures in
+    let report_error2_ok = ok_tells report_error2 dec_ok in
+    (report_error2_ok.reads, report_error2_ok.logs)
 
 pub returns-in-Ok : goal.returns-in-Ok
 unfolding root_def.root_turn plan choose chosen
@@ -82,6 +82,6 @@ returns-else-is_closer c =
     let dec = c.in-Err.ensures in
     let is_closer = c.is_closer.ensures in
     let if1 = c.if-is_closer.false in
-    let report2 = c.report-s2-in-Err.ensures in
+    let report_error2 = c.report_error-s2-in-Err.ensures in
     let bump2 = c.bump-in-Err.ensures in
-    by_steps pre0 (λ b. s_look peek (s_run (runs_in dec) (s_false _ _ (test_false is_closer if1) (s_report report2 (s_bump bump2 s_end)))))
+    by_steps pre0 (λ b. s_look peek (s_run (runs_in dec) (s_false _ _ (test_false is_closer if1) (s_report report_error2 (s_bump bump2 s_end)))))
