@@ -21,6 +21,7 @@ use util::{ascription, bump_ascription, eat, lab, path_must};
 
 // `ty_prec`, or the finding that there is no type.
 // measure: 32 * left + 4
+// restates: place ty_prec
 #[cycle(ty)]
 pub fn ty_must(
     lent: Lent,
@@ -34,7 +35,7 @@ pub fn ty_must(
     requires { Sound (mem_of lent table.now scratch.old finds.old s) }
     ensures { Runs left (types.ty_must (place_of min)) (mem_of lent.entry table.now scratch.old finds.old s) (mem_of lent.entry table.now scratch.new finds.new result) 0 }
 {
-    let got = ty_prec(lent, table, scratch, finds, left, min, s);
+    let got = ty_prec(lent, table, scratch, finds, left, min.place(), s);
     match got {
         Ok(s1) => s1,
         Err(s1) => report_error(finds, ErrorKind::Expected(Expected::Ty), s1),
@@ -51,11 +52,11 @@ pub fn ty_prec(
     scratch: &mut [u8],
     finds: &mut [u8],
     left: usize,
-    min: TyPrec,
+    min: u8,
     s: State,
 ) -> Found
     requires { Sound (mem_of lent table.now scratch.old finds.old s) }
-    ensures { Runs left (Prog.call (Rule.ty_prec (place_of min))) (mem_of lent.entry table.now scratch.old finds.old s) (mem_of lent.entry table.now scratch.new finds.new (out_state result)) (out_val result) }
+    ensures { Runs left (Prog.call (Rule.ty_prec min)) (mem_of lent.entry table.now scratch.old finds.old s) (mem_of lent.entry table.now scratch.new finds.new (out_state result)) (out_val result) }
 {
     let Some(k) = peek(lent.toks, s) else {
         return Err(s);
@@ -233,12 +234,12 @@ fn ty_tail(
     scratch: &mut [u8],
     finds: &mut [u8],
     left: usize,
-    min: TyPrec,
+    min: u8,
     b: usize,
     s: State,
 ) -> State
     requires { Sound (mem_of lent table.now scratch.old finds.old s) × (b < 4294967296) }
-    ensures { RunsIn left b (Prog.loop (types.ty_step (place_of min))) (mem_of lent.entry table.now scratch.old finds.old s) (mem_of lent.entry table.now scratch.new finds.new result) 0 }
+    ensures { RunsIn left b (Prog.loop (types.ty_step min)) (mem_of lent.entry table.now scratch.old finds.old s) (mem_of lent.entry table.now scratch.new finds.new result) 0 }
 {
     let mut s1 = s;
     loop {
@@ -259,12 +260,12 @@ fn ty_step(
     scratch: &mut [u8],
     finds: &mut [u8],
     left: usize,
-    min: TyPrec,
+    min: u8,
     b: usize,
     s: State,
 ) -> Found
     requires { Sound (mem_of lent table.now scratch.old finds.old s) × (b < 4294967296) }
-    ensures { RunsIn left b (types.ty_step (place_of min)) (mem_of lent.entry table.now scratch.old finds.old s) (mem_of lent.entry table.now scratch.new finds.new (out_state result)) (out_val result) }
+    ensures { RunsIn left b (types.ty_step min) (mem_of lent.entry table.now scratch.old finds.old s) (mem_of lent.entry table.now scratch.new finds.new (out_state result)) (out_val result) }
 {
     let Some(k) = peek(lent.toks, s) else {
         return Err(s);

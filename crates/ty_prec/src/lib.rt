@@ -12,9 +12,18 @@ pub enum TyPrec {
     App,
 }
 
-// Whether an arrow or a star, `what`, ends a type that is read from the precedence `min` on.
-pub fn ends(what: TyPrec, min: TyPrec) -> bool
-    ensures { result ≡ ltb (place_of what) (place_of min) }
+impl TyPrec {
+    // Its place in that order, by which a type is read.
+    pub fn place(self) -> u8
+        ensures { result ≡ place_of self }
+    {
+        self as u8
+    }
+}
+
+// Whether an arrow or a star, `what`, ends a type that is read from the precedence of the place `min` on.
+pub fn ends(what: TyPrec, min: u8) -> bool
+    ensures { result ≡ ltb (place_of what) min }
 {
-    what < min
+    what.place() < min
 }

@@ -878,6 +878,10 @@ ty_inner-returns t c =
     let if3 = c.if-k-eq-NAME.false in
     in_steps pre0 (s_false _ _ (kind_not if1) (s_false _ _ (kind_not if2) (s_false _ _ (kind_not if3) s_end)))
 
+pub ty_must-place-requires : goal.ty_must-place-requires
+ty_must-place-requires t c =
+    tt
+
 pub ty_must-ty_prec-got-requires : goal.ty_must-ty_prec-got-requires
 ty_must-ty_prec-got-requires t c =
     let pre0 = c.requires in
@@ -892,34 +896,19 @@ ty_must-report_error-requires t c =
 pub ty_must-returns-in-Ok : goal.ty_must-returns-in-Ok
 unfolding types.ty_must plan choose chosen
 ty_must-returns-in-Ok t c =
-    let X0 = c.args.lent.text.now in
-    let T0 = c.args.lent.toks.now in
-    let N0 = c.args.lent.env.now in
-    let J0 = c.args.table.now in
-    let L0 = c.args.scratch.now in
-    let H0 = c.args.finds.now in
-    let S0 = c.args.s in
-    let L1 = c.ty_prec-got.new.scratch in
-    let H1 = c.ty_prec-got.new.finds in
-    let S1 = c.in-Ok.s1 in
-    by_steps {m = (mem X0 T0 N0 J0 L0 H0 S0)} {m' = (mem X0 T0 N0 J0 L1 H1 S1)} (c.requires) (λ b. s_run {a = (mem X0 T0 N0 J0 L0 H0 S0)} {c = (mem X0 T0 N0 J0 L1 H1 S1)} {e = (mem X0 T0 N0 J0 L1 H1 S1)} (runs_in {a = (mem X0 T0 N0 J0 L0 H0 S0)} {c = (mem X0 T0 N0 J0 L1 H1 S1)} (c.in-Ok.ensures)) s_end)
+    let pre0 = c.requires in
+    let place = c.place.ensures in
+    let ty_prec = rw place at c.in-Ok.ensures in
+    by_steps pre0 (λ b. s_run (runs_in ty_prec) s_end)
 
 pub ty_must-returns-in-Err : goal.ty_must-returns-in-Err
 unfolding types.ty_must plan choose chosen
 ty_must-returns-in-Err t c =
-    let X0 = c.args.lent.text.now in
-    let T0 = c.args.lent.toks.now in
-    let N0 = c.args.lent.env.now in
-    let J0 = c.args.table.now in
-    let L0 = c.args.scratch.now in
-    let H0 = c.args.finds.now in
-    let S0 = c.args.s in
-    let L1 = c.ty_prec-got.new.scratch in
-    let H1 = c.ty_prec-got.new.finds in
-    let S1 = c.in-Err.s1 in
-    let H2 = c.report_error.new.finds in
-    let S2 = c.report_error.result in
-    by_steps {m = (mem X0 T0 N0 J0 L0 H0 S0)} {m' = (mem X0 T0 N0 J0 L1 H2 S2)} (c.requires) (λ b. s_run {a = (mem X0 T0 N0 J0 L0 H0 S0)} {c = (mem X0 T0 N0 J0 L1 H1 S1)} {e = (mem X0 T0 N0 J0 L1 H2 S2)} (runs_in {a = (mem X0 T0 N0 J0 L0 H0 S0)} {c = (mem X0 T0 N0 J0 L1 H1 S1)} (c.in-Err.ensures)) (s_report {e = (mem X0 T0 N0 J0 L1 H2 S2)} {x = X0} {t = T0} {n = N0} {j = J0} {l = L1} {h = H1} {s = S1} {s' = S2} {h' = H2} (c.report_error.ensures) s_end))
+    let pre0 = c.requires in
+    let place = c.place.ensures in
+    let ty_prec = rw place at c.in-Err.ensures in
+    let report_error = c.report_error.ensures in
+    by_steps pre0 (λ b. s_run (runs_in ty_prec) (s_report report_error s_end))
 
 pub ty_prec-peek-requires : goal.ty_prec-peek-requires
 ty_prec-peek-requires t c =

@@ -2,7 +2,6 @@
 use Rattle.grammar.specs.Util as util
 use Rattle.grammar.specs.Ty as types
 use Rattle.grammar.specs.SyntaxKind as SK
-use Rattle.ty_prec.specs.Prec.{place_of}
 use Rattle.parser.specs.View.{mem_of}
 use Rattle.parser.specs.Runs.{Loops, turns}
 use Prim.Native.Nat.{◌*◌}
@@ -89,7 +88,7 @@ abbrev pub decreases-ty_tail : goal.decreases-ty_tail
 decreases-ty_tail l = 32 * l.left + 2
 
 abbrev pub invariant-ty_tail-loop-s2 : goal.invariant-ty_tail-loop-s2
-invariant-ty_tail-loop-s2 l = Loops l.left l.b (types.ty_step (place_of l.min)) (mem_of l.initial.lent l.initial.table l.initial.scratch l.initial.finds l.initial.s1) (mem_of l.lent l.table l.scratch l.finds l.s1)
+invariant-ty_tail-loop-s2 l = Loops l.left l.b (types.ty_step l.min) (mem_of l.initial.lent l.initial.table l.initial.scratch l.initial.finds l.initial.s1) (mem_of l.lent l.table l.scratch l.finds l.s1)
 
 abbrev pub decreases-ty_tail-loop-s2 : goal.decreases-ty_tail-loop-s2
 decreases-ty_tail-loop-s2 l = turns (mem_of l.lent l.table l.scratch l.finds l.s1)
