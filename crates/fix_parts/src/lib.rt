@@ -12,7 +12,7 @@ ghost use Rattle.parser.specs.Runs.{Always, RunsIn};
 use parser::finding::{ErrorKind, Expected};
 use parser::node::Node;
 use parser::{Found, Lent, State, bump, close_node, kind, mode, peek, report_error};
-use sml_fixity::Infix;
+use sml_fixity::{Assoc, Infix};
 use texts::{NumberErr, number_at, take_as};
 use util::name_star_eq;
 
@@ -133,7 +133,6 @@ fn names(
 }
 
 // `infix`, its number and its names. It and `infixr` are a program each in grammar; what they share is `fixity` and `names`.
-// restates: left names
 pub fn infix_dec(
     lent: Lent,
     table: &mut [u8; 8192],
@@ -149,13 +148,15 @@ pub fn infix_dec(
     let s1 = bump(lent.toks, scratch, s);
     let got = fixity(lent, table, scratch, finds, s1);
     let s2 = got.state;
-    let f = Some(Infix::left(got.num));
+    let f = Some(Infix {
+        prec: got.num,
+        assoc: Assoc::Left,
+    });
     let s3 = names(lent, table, scratch, finds, left, f, b, s2);
     Ok(close_node(scratch, Node::InfixDec, b, s3))
 }
 
 // `infixr`, its number and its names.
-// restates: right names
 pub fn infixr_dec(
     lent: Lent,
     table: &mut [u8; 8192],
@@ -171,7 +172,10 @@ pub fn infixr_dec(
     let s1 = bump(lent.toks, scratch, s);
     let got = fixity(lent, table, scratch, finds, s1);
     let s2 = got.state;
-    let f = Some(Infix::right(got.num));
+    let f = Some(Infix {
+        prec: got.num,
+        assoc: Assoc::Right,
+    });
     let s3 = names(lent, table, scratch, finds, left, f, b, s2);
     Ok(close_node(scratch, Node::InfixrDec, b, s3))
 }

@@ -16,10 +16,6 @@ fixity-got-requires c =
     let bump_ok = ok_bumps bump pre0 in
     bump_ok
 
-pub left-requires : goal.left-requires
-left-requires c =
-    tt
-
 pub names-s3-requires : goal.names-s3-requires
 names-s3-requires c =
     let fixity = c.fixity-got.ensures in
@@ -39,7 +35,6 @@ returns c =
     let pre0 = c.requires.0 in
     let bump = c.bump-s1.ensures in
     let fixity = c.fixity-got.ensures in
-    let left = c.left.ensures in
-    let names = rw left at c.names-s3.ensures in
+    let names = c.names-s3.ensures in
     let close_node = c.close_node.ensures in
     in_steps pre0 (s_bump bump (s_by _ (runs_always fixity) (s_run names (s_close close_node s_end))))
