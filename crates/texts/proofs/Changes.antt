@@ -5,7 +5,6 @@ use mathlib.Core.Path.{◌≡◌, refl, sym, ◌∙◌}
 use mathlib.Core.List.{List}
 use mathlib.Core.Option.{Option}
 use mathlib.Core.Bool.{true, false}
-use borrow.Author.Tests.{eq-eqb, ne_eqb}
 use Rattle.grammar.specs.Tokens.{live, text_at}
 use Rattle.grammar.specs.Env.{Infix}
 use Rattle.grammar.specs.World.{take1, take_change, take_change_in, change, change_in, refuse, no_fixity}

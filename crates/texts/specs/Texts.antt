@@ -1,11 +1,10 @@
 -- What is said of a token's text: which token stands ahead, what its text is, and the numbers that answer a look.
-use Rattle.std.specs.Prelude.{ℕ, ◌+◌, ◌-◌, ◌<◌, ◌≡◌, List, Bool, true, false, Some, None, Result, Ok, Err}
-use Rattle.std.specs.Prelude as std
-use Rattle.std.proofs.Math.Option.{none, some}
-use Rattle.grammar.specs.Tokens.{Token, live}
-use Rattle.grammar.specs.World.{token_in, token_ahead, negative, invalid, valid}
+use Rattle.std.specs.Prelude.{ℕ, ◌+◌, ◌≡◌, List, Bool, true, false, leb, Result, Ok, Err}
+use Rattle.std.proofs.Math.Option.{Option, none, some}
+use Rattle.grammar.specs.Tokens.{Token}
+use Rattle.grammar.specs.World.{token_ahead, negative, invalid, valid, max_u16}
 use Rattle.grammar.specs.World.World.{on}
-use Rattle.parser.specs.View.{token_at, mem, seen_in, now_of}
+use Rattle.parser.specs.View.{mem, seen_in, now_of}
 use Rattle.parser.specs.declared.State.{State}
 use Rattle.texts.specs.declared.NumberErr.{NumberErr}
 use Rattle.texts.specs.declared.NumberErr.TheVariants.{Negative, Invalid}
@@ -30,3 +29,7 @@ abbrev pub number_val : Result ℕ NumberErr → ℕ
 number_val (Ok n) = n + valid
 number_val (Err Negative) = negative
 number_val (Err Invalid) = invalid
+
+-- the answer of digits, or of none: grammar's `number_of` and `parse_u16` in one
+abbrev pub value_of : Option ℕ → ℕ
+value_of o = elim o [ none ↦ invalid | some n ↦ elim (leb n max_u16) [ true ↦ n + valid | false ↦ invalid ] ]

@@ -3,12 +3,12 @@
 
 ghost use Rattle.std.specs.Prelude.{◌≡◌, ◌+◌, ◌*◌, ◌≤◌, ◌<◌, length, MatchOption};
 ghost use Rattle.grammar.specs.Tokens.{start_at, length_at};
-ghost use Rattle.grammar.specs.World.{number_of};
+ghost use Rattle.grammar.specs.World.{number_of, some_digits};
 ghost use Rattle.grammar.specs.Prog.{Look as Ask, Act, does};
 ghost use Rattle.sml_fixity.specs.Fix.{fixity_of};
-ghost use Rattle.sml_fixity.specs.Table.{Stands};
+ghost use Rattle.sml_fixity.specs.Table.{Stands, part};
 ghost use Rattle.parser.specs.View.{mem_of, Reads, Names, Sound, Did, Says, Fixed, table_in};
-ghost use Rattle.texts.specs.Texts.{Absent, Present, bit, number_val};
+ghost use Rattle.texts.specs.Texts.{Absent, Present, bit, number_val, value_of};
 
 use parser::refusal::Refusal;
 use parser::{Lent, State, bump, live_at};
@@ -73,17 +73,42 @@ pub fn says(text: &[u8], toks: &[u8], word: &[u8], s: State) -> bool
     }
 }
 
-// The fixity number in a text: `parse::<u16>`, but for a leading `~`.
+// The number of so many digits, at least one. Once it is too large it stays so, whatever follows.
+// A loop, and not `parse`: it ends at the first byte that is no digit, or once the number is too large.
+#[tactic(auto, using(crate::proofs::Texts::digits_large))]
+fn digits_in(text: &[u8], start: usize, len: usize) -> Result<u16, NumberErr>
+    requires { start + len ≤ length text.now }
+    ensures { number_val result ≡ value_of (some_digits (part text.now start len)) }
+{
+    if len == 0 {
+        return Err(NumberErr::Invalid);
+    }
+    let mut v: usize = 0;
+    for k in 0..len {
+        let d = text[start + k];
+        if d < b'0' || b'9' < d {
+            return Err(NumberErr::Invalid);
+        }
+        v = 10 * v + (d - b'0') as usize;
+        if 65535 < v {
+            return Err(NumberErr::Invalid);
+        }
+    }
+    Ok(v as u16)
+}
+
+// The fixity number in a text: as of `parse::<u16>`, but for a leading `~`.
 fn number_in(text: &[u8]) -> Result<u16, NumberErr>
     ensures { number_val result ≡ number_of text.now }
 {
-    if text.starts_with(b"~") {
-        return Err(NumberErr::Negative);
-    }
-    let Ok(digits) = str::from_utf8(text) else {
+    let [first, ..] = text else {
         return Err(NumberErr::Invalid);
     };
-    digits.parse::<u16>().ok().ok_or(NumberErr::Invalid)
+    match first {
+        b'~' => Err(NumberErr::Negative),
+        b'+' => digits_in(text, 1, text.len() - 1),
+        _ => digits_in(text, 0, text.len()),
+    }
 }
 
 // The fixity number that is the next token.

@@ -1,18 +1,35 @@
--- by hand: what std's parse says, in grammar's words.
--- `number_in` meets its contract.
-use mathlib.Core.Path.{sym, ◌∙◌}
-use Rattle.texts.proofs.Numbers.{number_tilde, no_tilde, number_parsed, number_no_text, val_of}
+-- by hand: tests of one byte: the cases of `number_of`.
+-- `number_in` meets its contract: by the first byte.
+use Prim.Native.Nat.{ℕ, ◌<◌}
+use mathlib.Core.Path.{◌≡◌, refl, ap, sym, ◌∙◌}
+use mathlib.Core.List.{List, [], ◌∷◌}
+use native.Mathlib.Omega.{arith}
+use lib.ListN.{length}
+use Rattle.grammar.specs.World.{number_of, invalid}
+use Rattle.texts.proofs.Texts.{number_tilde, number_plus, number_plain, whole}
 use Rattle.texts.proofs.number_in.Goals as goal
 
-pub returns-then-starts_with : goal.returns-then-starts_with
-returns-then-starts_with c = sym (number_tilde c.args.text.now (sym c.if-starts_with.ensures.value))
+-- an empty text
+no_byte : (x : List ℕ) → length x < 1 → invalid ≡ number_of x
+unfolding number_of
+no_byte [] h = refl
+no_byte (c ∷ cs) h = absurd (omega arith)
 
 pub returns-in_default : goal.returns-in_default
-returns-in_default c =
-    sym (number_no_text c.args.text.now (no_tilde c.args.text.now (sym c.if-starts_with.ensures.value)) c.in_default.ensures.cases.0)
+returns-in_default c = no_byte c.args.text.now c.in_default.len_below
 
-pub returns : goal.returns
-returns c =
-    let parses = rw c.in-Ok.ensures.cases.0 at c.parse.ensures.value.0 in
-    rw (c.ok_or.ensures.value, c.ok.ensures.value)
-    (val_of c.parse.result ∙ number_parsed c.args.text.now c.parse.result (no_tilde c.args.text.now (sym c.if-starts_with.ensures.value)) parses)
+pub returns-in-126 : goal.returns-in-126
+returns-in-126 c =
+    let x = c.args.text.now in
+    sym (number_tilde x 0 (length x) c.in-len1-up.len_at_least (omega arith) c.in-126.is) ∙ ap number_of (whole x)
+
+pub returns-in-43 : goal.returns-in-43
+returns-in-43 c =
+    let x = c.args.text.now in
+    c.digits_in.ensures ∙ sym (number_plus x 0 (length x) c.in-len1-up.len_at_least (omega arith) c.in-43.is) ∙ ap number_of (whole x)
+
+pub returns-in_default-first : goal.returns-in_default-first
+returns-in_default-first c =
+    let x = c.args.text.now in
+    c.digits_in-in_default-first.ensures
+    ∙ sym (number_plain x 0 (length x) c.in-len1-up.len_at_least (omega arith) (λ e. omega arith) (λ e. omega arith)) ∙ ap number_of (whole x)
