@@ -2,8 +2,7 @@
 ghost use Rattle.std.specs.Prelude.{◌≡◌};
 ghost use Rattle.parser.specs.Findings.{code_of, detail_of, name_of, wanted_of};
 
-// The name of a finding that carries none.
-const NO_NAME: usize = 65535;
+use crate::NO_NAME;
 
 // What was expected: a phrase, or a token of a kind below 128.
 #[derive(Clone, Copy)]

@@ -19,6 +19,9 @@ pub mod kind;
 pub mod node;
 pub mod refusal;
 
+// The name of a finding that carries none.
+pub const NO_NAME: usize = 65535;
+
 // The tags of the log's records: a token that was read, a node that ended. They are numbers, since the log is read back as bytes.
 pub const TOOK: u8 = 1;
 
@@ -36,7 +39,7 @@ pub struct Lent<'a> {
 // Where a reading stands: the next token that is no trivia and the count of records, the log's records, the scratch records used of the
 // room, the findings held of those that fit, the fixities in force, the mode, and the number by which it was refused, or 0. A value beside the
 // lent buffers (document 01), so what holds of both, `Sound`, stands in each contract. All fields are of one width: with an `Option<Refusal>` here the whole
-// parser takes a third more instructions, since a copy of the state is no more made of whole words.
+// parser takes a fifth more instructions, since a copy of the state is no more made of whole words.
 #[derive(Clone, Copy)]
 pub struct State {
     pub at: usize,
