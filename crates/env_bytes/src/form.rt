@@ -6,7 +6,7 @@ ghost use Rattle.env_bytes.specs.Form.{count_of, form_of, Splits};
 
 // Whether a name comes before another, by bytes; a prefix comes first.
 // It is no `a < b`, with which a copy of a full table took 1.3 to 1.6 times the instructions.
-pub(crate) fn before(a: &[u8], b: &[u8]) -> bool
+pub fn before(a: &[u8], b: &[u8]) -> bool
     ensures { result ≡ before a.now b.now }
 {
     for i in 0..a.len().min(b.len()) {
