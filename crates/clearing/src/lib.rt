@@ -8,6 +8,8 @@ ghost use Rattle.grammar.specs.Read.{zeroes};
 pub fn clear(b: &mut [u8], kept: usize)
     ensures { b.new ≡ take kept b.old ++ zeroes (length (drop kept b.old)) }
 {
-    let kept = kept.min(b.len());
-    b[kept..].fill(0);
+    // A loop and no `fill`: so a body that keeps every other byte is refused for what it writes, not for its form.
+    for at in kept..b.len() {
+        b[at] = 0;
+    }
 }
