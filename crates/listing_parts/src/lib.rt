@@ -8,8 +8,8 @@ use answers::Answer;
 use lines::{list_env, list_finds, list_nodes};
 use std::io;
 
-mod lines;
-mod names;
+pub mod lines;
+pub mod names;
 
 // Lists an answer, and what was handed out with it.
 pub fn list_answer(
