@@ -13,7 +13,7 @@ const MOST: usize = 131072;
 pub const FIRST: usize = 2;
 
 // The bytes of a case's head.
-const HEAD: usize = 37;
+pub const HEAD: usize = 37;
 
 // `N` bytes from `at` on.
 fn bytes_at<const N: usize>(list: &[u8], at: usize) -> [u8; N]

@@ -9,7 +9,7 @@ ghost use Rattle.token_file.specs.Files.{Holds};
 const MOST: usize = 65536;
 
 // The bytes behind text and records, and the last of them.
-const TRAILER: usize = 8;
+pub const TRAILER: usize = 8;
 
 const MARK: u8 = 77;
 
