@@ -18,8 +18,8 @@ fn is_zero(bytes: &[u8]) -> bool
 fn is_padded(buffer: &[u8], said: &[u8]) -> bool
     ensures { result ≡ padded buffer.now said.now }
 {
-    match buffer.strip_prefix(said) {
-        Some(rest) => is_zero(rest),
+    match buffer.split_at_checked(said.len()) {
+        Some((front, rest)) => front == said && is_zero(rest),
         None => false,
     }
 }
