@@ -30,15 +30,12 @@ fn count_differing(list: &[u8]) -> usize
     n
 }
 
-// Replays a list, and writes what came of it as a line.
+// Replays a list, and writes what came of it as a line: the number of cases before any of them is run.
 fn replay(rt: &impl Print, list: &[u8]) -> io::Result<()>
     requires { is_list list.now ≡ true }
 {
-    println!(rt;
-        "{} answers, {} differ",
-        number(list, 0),
-        count_differing(list)
-    )
+    print!(rt; "{} answers, ", number(list, 0))?;
+    println!(rt; "{} differ", count_differing(list))
 }
 
 // One byte more than a list may have is asked for, so that a longer input is seen.
