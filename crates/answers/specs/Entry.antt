@@ -44,18 +44,22 @@ abbrev pub used_of : Answer → Used
 used_of (Ok u) = u
 used_of (Err why) = record { nodes = 0; finds = 0; last = 0 }
 
--- the result: what comes back, and what was lent, after the call
-abbrev pub result_of : Answer → (scratch nodes finds last : List ℕ) → Result
-result_of a scratch nodes finds last = record {
-  answer = answer_number a;
-  nodes_used = (used_of a).nodes;
-  finds_used = (used_of a).finds;
-  final_used = (used_of a).last;
+-- the result: a number, the used lengths, and what was lent, after the call
+abbrev pub result_in : ℕ → Used → (scratch nodes finds last : List ℕ) → Result
+result_in k u scratch nodes finds last = record {
+  answer = k;
+  nodes_used = u.nodes;
+  finds_used = u.finds;
+  final_used = u.last;
   scratch = scratch;
   nodes = nodes;
   finds = finds;
   final = last;
 }
+
+-- the same of what comes back
+abbrev pub result_of : Answer → (scratch nodes finds last : List ℕ) → Result
+result_of a scratch nodes finds last = result_in (answer_number a) (used_of a) scratch nodes finds last
 
 -- the same where the number comes back by itself, and the three lengths in a list
 abbrev pub result_from : ℕ → (used scratch nodes finds last : List ℕ) → Result

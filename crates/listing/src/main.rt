@@ -1,6 +1,7 @@
 // The listing program: one token file on standard input, its reading as lines on standard output (document 01).
 #![tactic(auto)]
 
+use answers::numbers;
 use env_bytes::basis;
 use input::read_full;
 use listing_parts::list_answer;
@@ -26,7 +27,8 @@ fn list(rt: &impl Print, file: TokenFile) -> io::Result<()> {
         &mut finds,
         &mut last,
     );
-    list_answer(rt, answer, &nodes, &finds, &last)
+    let (number, used) = numbers(answer);
+    list_answer(rt, number, used, &nodes, &finds, &last)
 }
 
 // One byte more than a token file may have is asked for, so that a longer input is seen.

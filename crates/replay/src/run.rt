@@ -3,6 +3,7 @@ ghost use Rattle.std.specs.Prelude.{◌≡◌, ◌≤◌, length};
 ghost use Rattle.answers.specs.Entry.{call_of, served};
 ghost use Rattle.replay_parts.specs.Case.{call_in, says};
 
+use answers::numbers;
 use replay_parts::Case;
 
 // What stands in the buffers before a call, so that a byte left as it was is no zero.
@@ -21,7 +22,8 @@ fn call_agrees(
     let answer = sml_parse::read(
         case.text, case.toks, case.env, case.depth, case.mode, scratch, nodes, finds, last,
     );
-    case.says(answer, scratch, nodes, finds, last)
+    let (number, used) = numbers(answer);
+    case.says(number, used, scratch, nodes, finds, last)
 }
 
 // Whether a case is answered as it says.

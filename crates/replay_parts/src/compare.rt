@@ -1,11 +1,11 @@
 // What a call left, held to what a case says: the numbers, and every lent byte.
 ghost use Rattle.std.specs.Prelude.{◌≡◌};
-ghost use Rattle.answers.specs.Entry.{result_of, answer_number, used_of};
+ghost use Rattle.answers.specs.Entry.{result_in};
 ghost use Rattle.replay_parts.specs.Agree.{is_zero};
 ghost use Rattle.replay_parts.specs.Case.{padded, numbers_said, bytes_said, says};
 
 use crate::Case;
-use answers::{Answer, numbers};
+use answers::Used;
 
 // Whether every byte is 0.
 fn is_zero(bytes: &[u8]) -> bool
@@ -26,10 +26,9 @@ fn is_padded(buffer: &[u8], said: &[u8]) -> bool
 
 impl Case<'_> {
     // Whether the answer and the three used lengths are those of the case.
-    fn says_numbers(&self, answer: Answer) -> bool
-        ensures { result ≡ numbers_said self.now (answer_number answer) (used_of answer).nodes (used_of answer).finds (used_of answer).last }
+    fn says_numbers(&self, number: usize, used: Used) -> bool
+        ensures { result ≡ numbers_said self.now number used.nodes used.finds used.last }
     {
-        let (number, used) = numbers(answer);
         number == usize::from(self.answer)
             && used.nodes == self.nodes.len()
             && used.finds == self.finds.len()
@@ -46,17 +45,18 @@ impl Case<'_> {
             && is_padded(last, self.last)
     }
 
-    // Whether an answer, with what was lent as the call left it, is the one of the case.
+    // Whether an answer by its number and the used lengths, with what was lent as the call left it, is the one of the case.
     pub fn says(
         &self,
-        answer: Answer,
+        number: usize,
+        used: Used,
         scratch: &[u8],
         nodes: &[u8],
         finds: &[u8],
         last: &[u8],
     ) -> bool
-        ensures { result ≡ says self.now (result_of answer scratch.now nodes.now finds.now last.now) }
+        ensures { result ≡ says self.now (result_in number used scratch.now nodes.now finds.now last.now) }
     {
-        self.says_numbers(answer) && self.says_bytes(scratch, nodes, finds, last)
+        self.says_numbers(number, used) && self.says_bytes(scratch, nodes, finds, last)
     }
 }
