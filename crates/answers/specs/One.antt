@@ -6,7 +6,7 @@ use Rattle.parser.specs.Refusals.{refusal_number}
 use Rattle.parser.specs.declared.refusal.Refusal.{Refusal}
 use Rattle.parser.specs.declared.refusal.Refusal.TheVariants.{BadSettings, BadRecords, BadEnv, TooDeep, NoScratch, NoNodes, NoFindings, NoFixity, NoFinal, Impossible}
 use Rattle.answers.specs.declared.Used.{Used}
-use Rattle.answers.specs.Entry.{Answer, answer_number, used_of, result_of, result_from}
+use Rattle.answers.specs.Entry.{Answer, answer_number, used_of, result_in, result_of, result_from}
 
 -- the refusal of a number, or none
 abbrev refusal_at : ℕ → Option Refusal
@@ -31,23 +31,31 @@ made n f l = record { nodes = n; finds = f; last = l }
 same_fields : {n f l n' f' l' : ℕ} → n ≡ n' → f ≡ f' → l ≡ l' → made n f l ≡ made n' f' l'
 same_fields q r t = rw (q, r, t) refl
 
-same_answers : (a a' : Answer) → answer_number a ≡ answer_number a' → (used_of a).nodes ≡ (used_of a').nodes → (used_of a).finds ≡ (used_of a').finds → (used_of a).last ≡ (used_of a').last → a ≡ a'
-same_answers (Ok u) (Ok u') p q r t = ap Ok (same_fields q r t)
-same_answers (Ok u) (Err why) p q r t = absurd (let e : None ≡ Some why = ap refusal_at p ∙ at_number why in cc)
-same_answers (Err why) (Ok u) p q r t = absurd (let e : None ≡ Some why = ap refusal_at (sym p) ∙ at_number why in cc)
-same_answers (Err why) (Err why') p q r t = let e : Some why ≡ Some why' = sym (at_number why) ∙ ap refusal_at p ∙ at_number why' in cc
+same_answers : (a a' : Answer) → answer_number a ≡ answer_number a' → used_of a ≡ used_of a' → a ≡ a'
+same_answers (Ok u) (Ok u') p q = ap Ok q
+same_answers (Ok u) (Err why) p q = absurd (let e : None ≡ Some why = ap refusal_at p ∙ at_number why in cc)
+same_answers (Err why) (Ok u) p q = absurd (let e : None ≡ Some why = ap refusal_at (sym p) ∙ at_number why in cc)
+same_answers (Err why) (Err why') p q = let e : Some why ≡ Some why' = sym (at_number why) ∙ ap refusal_at p ∙ at_number why' in cc
 
 -- the buffers are the result's
 module _ (r : Result) (s n f l s' n' f' l' : List ℕ) where
-  pub one_read : (a a' : Answer) → result_of a s n f l ≡ r → result_of a' s' n' f' l' ≡ r → (a ≡ a') × (s ≡ s') × (n ≡ n') × (f ≡ f') × (l ≡ l')
-  one_read a a' p q =
+  pub one_numbered : (k k' : ℕ) (u u' : Used) → result_in k u s n f l ≡ r → result_in k' u' s' n' f' l' ≡ r
+      → (k ≡ k') × (u ≡ u') × (s ≡ s') × (n ≡ n') × (f ≡ f') × (l ≡ l')
+  one_numbered k k' u u' p q =
       let e = p ∙ sym q in (
-        same_answers a a' (ap (λ (r : Result). r.answer) e) (ap (λ (r : Result). r.nodes_used) e) (ap (λ (r : Result). r.finds_used) e) (ap (λ (r : Result). r.final_used) e),
+        ap (λ (r : Result). r.answer) e,
+        same_fields (ap (λ (r : Result). r.nodes_used) e) (ap (λ (r : Result). r.finds_used) e) (ap (λ (r : Result). r.final_used) e),
         ap (λ (r : Result). r.scratch) e,
         ap (λ (r : Result). r.nodes) e,
         ap (λ (r : Result). r.finds) e,
         ap (λ (r : Result). r.final) e,
       )
+
+  -- of what comes back
+  pub one_read : (a a' : Answer) → result_of a s n f l ≡ r → result_of a' s' n' f' l' ≡ r → (a ≡ a') × (s ≡ s') × (n ≡ n') × (f ≡ f') × (l ≡ l')
+  one_read a a' p q =
+      let e = one_numbered (answer_number a) (answer_number a') (used_of a) (used_of a') p q in
+      (same_answers a a' e.0 e.1, e.2, e.3, e.4, e.5)
 
 -- a list of three numbers is those
 three_are : (u : List ℕ) → length u ≡ 3 → u ≡ get_or u 0 0 ∷ get_or u 1 0 ∷ get_or u 2 0 ∷ []
