@@ -40,15 +40,24 @@ fn rank(number: u16, side: Assoc) -> Infix
     }
 }
 
+// Copies a name to `at`. It is no `copy_from_slice`: of a length that isn't known, that would call `memmove`, which the archive for C is to do without.
+fn copy(out: &mut [u8], at: usize, name: &[u8])
+    requires { at + length name.now ≤ length out.old }
+    ensures { out.new ≡ sets out.old at name.now }
+{
+    for i in 0..name.len() {
+        out[at + i] = name[i];
+    }
+}
+
 // Writes the byte form of an entry.
 pub fn put_entry(out: &mut [u8], at: usize, name: &[u8], i: Infix)
     requires { (length name.now < 256) × (at + length name.now + 4 ≤ length out.old) }
     ensures { out.new ≡ sets out.old at (entry_bytes name.now (infix_of i)) }
 {
-    let start = at + 1;
-    let end = start + name.len();
+    let end = at + 1 + name.len();
     out[at] = name.len() as u8;
-    out[start..end].copy_from_slice(name);
+    copy(out, at + 1, name);
     out[end..end + 2].copy_from_slice(&i.prec.to_le_bytes());
     out[end + 2] = i.assoc as u8;
 }

@@ -28,6 +28,9 @@ side : (s : Assoc) → tag_of the_type s ≡ assoc_of s
 side Left = refl
 side Right = refl
 
+pub copy-requires : goal.copy-requires
+copy-requires c = simp length-set (omega arith)
+
 pub returns : goal.returns
 unfolding env_bytes
 returns c =
@@ -36,8 +39,7 @@ returns c =
     let lo = a.i.prec % 256 in
     let hi = a.i.prec / 256 % 256 in
     let first = set a.out.now a.at n in
-    let x = c.copy_from_slice.ensures.after in
-    let y = c.copy_from_slice-2.ensures.after ∙ c.to_le_bytes.ensures in
-    let p = part_stored (a.at + 1) (a.at + 1 + n - (a.at + 1)) first a.name.now (omega arith) (simp length-set (omega arith)) in
+    let x = c.copy.ensures in
+    let y = c.copy_from_slice.ensures.after ∙ c.to_le_bytes.ensures in
     let q = part_stored (a.at + 1 + n) (a.at + 1 + n + 2 - (a.at + 1 + n)) (sets first (a.at + 1) a.name.now) (lo ∷ hi ∷ []) (omega arith) (simp (length-sets, length-set) (omega arith)) in
-    rw (x, y, p, q, side a.i.assoc) (stored a.out.now a.name.now a.at n lo hi (assoc_of a.i.assoc))
+    rw (x, y, q, side a.i.assoc) (stored a.out.now a.name.now a.at n lo hi (assoc_of a.i.assoc))
