@@ -2,3 +2,5 @@
 pub mod Listed
 pub mod Picked
 pub mod Among
+pub mod Ordered
+pub mod Reduced

@@ -1,7 +1,9 @@
 // The names of an environment's entries and of a journal's changes: which of them comes next after another.
 ghost use Rattle.std.specs.Prelude.{◌≡◌, ◌+◌, ◌*◌, ◌≤◌, ◌++◌, length};
 ghost use Rattle.std.specs.Iterator.{YieldsFirstRef, item_count};
-ghost use Rattle.sml_fixity.specs.Table.{Journal, start_at, length_at, name_at};
+ghost use Rattle.std.proofs.Math.Option.{some};
+ghost use Rattle.grammar.specs.Env.{env_of};
+ghost use Rattle.sml_fixity.specs.Table.{Journal, start_at, length_at, name_at, entries_in};
 ghost use Rattle.env_bytes.specs.Names.{names_in, changed_names, NextName};
 
 use crate::form::{before, split_entry};
@@ -39,6 +41,8 @@ fn changed_name<'a>(text: &'a [u8], journal: &[u8], i: usize) -> &'a [u8]
 }
 
 // The name that comes next after `last`, of the entries and the first `n` changes.
+// The entries' names are in order, so the first of them that comes after it is the least that does.
+// The least is picked by `before` and not by `min()`, which goes by the library's order of slices and takes longer.
 pub(crate) fn next_name<'a>(
     text: &'a [u8],
     env: &'a [u8],
@@ -46,10 +50,15 @@ pub(crate) fn next_name<'a>(
     n: usize,
     last: &[u8],
 ) -> Option<&'a [u8]>
-    requires { Journal text.now journal.now n }
+    requires form { env_of env.now ≡ some (entries_in env.now) }
+    requires records { Journal text.now journal.now n }
     ensures { NextName (names_in env.now ++ changed_names text.now journal.now n) last.now result }
 {
+    let entry = Names { left: env }.find(|x| before(last, x));
     let changes = (0..n).map(|i| changed_name(text, journal, i));
-    let names = Names { left: env }.chain(changes);
-    names.filter(|x| before(last, x)).min()
+    let later = changes.filter(|x| before(last, x));
+    entry
+        .into_iter()
+        .chain(later)
+        .reduce(|b, x| if before(x, b) { x } else { b })
 }

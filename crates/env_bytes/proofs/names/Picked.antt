@@ -1,6 +1,5 @@
 -- The first, in the order of names, of those of a list that come after a name.
 use Prim.Native.Nat.{ℕ}
-use native.Mathlib.Omega.{arith}
 use mathlib.Core.Path.{◌≡◌, refl, sym, ◌∙◌}
 use mathlib.Core.List.{List, [], ◌∷◌}
 use mathlib.Core.Bool.{Bool, true, false, cond}
@@ -8,14 +7,8 @@ use lib.ListN.{get_or}
 use Rattle.std.specs.Prelude.{Option, Some, None}
 use Rattle.std.specs.Borrow.{Bor}
 use Rattle.std.specs.Cmp.{IsStrictWeakOrder}
-use Rattle.std.specs.Cmp.Lexicographic.{slice_cmp}
 use Rattle.std.specs.List.{All, Contains, filter, reduce, best_of}
 use Rattle.std.specs.Option.{option_map}
-use Rattle.std.specs.Ordering.{nat_cmp, is_gt, min_by_ordering}
-use Rattle.std.specs.declared.cmp.Ordering.{Ordering}
-use Rattle.std.specs.declared.cmp.Ordering.TheVariants.{Less, Equal, Greater}
-use Rattle.std.proofs.lemmas.Bool.Decides.{nat_tests}
-use Rattle.std.proofs.lemmas.Cmp.{same_from_slice_cmp}
 use Rattle.std.proofs.lemmas.List.Elements.{All-nil, All-cons, All-head, All-tail, All-weaker, All-contains, All-contains_itself, All-filter, All-from_get_or, Contains-get_or, filter_passes}
 use Rattle.std.proofs.lemmas.List.MinMax.{IsFirstBest-from_best_of}
 use Rattle.grammar.specs.Bytes.{same, before}
@@ -30,19 +23,6 @@ before_chain x y z p q =
 
 before_order : IsStrictWeakOrder before
 before_order = record { one_way = before_asym; chain = before_chain }
-
-after : (x y : List ℕ) (o : Ordering) → o ≡ slice_cmp nat_cmp x y → is_gt o ≡ before y x
-unfolding before
-after = same_from_slice_cmp nat_cmp is_gt (λ x y. before y x) refl (λ _ _. refl) (λ _ _. refl) (λ x y xs ys o h. grind (arith, nat_tests))
-
--- the one of two that `min` keeps
-pub kept : (p z : Bor (List ℕ)) → (min_by_ordering (slice_cmp nat_cmp p.now z.now) p z).now ≡ cond (before z.now p.now) z.now p.now
-kept p z = by_order (slice_cmp nat_cmp p.now z.now) (after p.now z.now (slice_cmp nat_cmp p.now z.now) refl)
-  where
-    by_order : (o : Ordering) → is_gt o ≡ before z.now p.now → (min_by_ordering o p z).now ≡ cond (before z.now p.now) z.now p.now
-    by_order Less e = rw (← e)
-    by_order Equal e = rw (← e)
-    by_order Greater e = rw (← e)
 
 all_passing : {X : Type 0} (p : X → Bool) (P : X → Type 0) (xs : List X) → All P (filter p xs) → All (λ x. p x ≡ true → P x) xs
 all_passing p P [] h = All-nil _
