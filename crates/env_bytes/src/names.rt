@@ -42,7 +42,7 @@ fn changed_name<'a>(text: &'a [u8], journal: &[u8], i: usize) -> &'a [u8]
 
 // The name that comes next after `last`, of the entries and the first `n` changes.
 // The entries' names are in order, so the first of them that comes after it is the least that does.
-// The least is picked by `before` and not by `min()`, which goes by the library's order of slices and takes longer.
+// The least is picked by `before` and not by `min()`, whose order of slices takes longer at short names.
 pub(crate) fn next_name<'a>(
     text: &'a [u8],
     env: &'a [u8],
