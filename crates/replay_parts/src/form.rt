@@ -32,7 +32,7 @@ pub fn number(list: &[u8], at: usize) -> u16
 }
 
 // The number in eight bytes.
-fn long(list: &[u8], at: usize) -> u64
+pub fn long(list: &[u8], at: usize) -> u64
     requires { at + 8 ≤ length list.now }
     ensures { result ≡ long_at list.now at }
 {
