@@ -5,6 +5,7 @@ ghost use Rattle.replay_parts.specs.Agree.{is_zero};
 ghost use Rattle.replay_parts.specs.Case.{padded, numbers_said, bytes_said, says};
 
 use crate::Case;
+use crate::form::wide;
 use answers::Used;
 
 // Whether every byte is 0.
@@ -29,7 +30,7 @@ impl Case<'_> {
     fn says_numbers(&self, number: usize, used: Used) -> bool
         ensures { result ≡ numbers_said self.now number used.nodes used.finds used.last }
     {
-        number == usize::from(self.answer)
+        number == wide(self.answer)
             && used.nodes == self.nodes.len()
             && used.finds == self.finds.len()
             && used.last == self.last.len()

@@ -43,6 +43,13 @@ pub const MODE: usize = 28;
 
 pub const ANSWER: usize = 36;
 
+// A byte as a number.
+pub fn wide(x: u8) -> usize
+    ensures { result ≡ x }
+{
+    usize::from(x)
+}
+
 // `N` bytes from `at` on.
 fn bytes_at<const N: usize>(list: &[u8], at: usize) -> [u8; N]
     requires { at + N ≤ length list.now }
